@@ -1,0 +1,143 @@
+-- Document 01, "One tetrahedron, and near misses": cases (a) to (m) as one list with one claim, by computation.
+use Prim.Native.Nat.{ℕ}
+use Prim.Native.String.{String}
+use mathlib.Core.Path.{_≡_, refl}
+use mathlib.Core.List.{List, [], _∷_, _++_}
+use lib.ListN.{length, take, replicate}
+use Rattle.model.specs.Bytes.{text, numbers}
+use Rattle.model.specs.Rules.{Answer, rejected, answer, rejection, repetition}
+use Rattle.model.specs.Validation.{Counts, validation}
+use Rattle.model.specs.DataSize.{dataSizeAnswer}
+use Rattle.model.specs.FaceUsage.{usageAnswer, usageMemory}
+use Rattle.model.specs.Build.{allBytes, minus, Plan, plan, image}
+use Rattle.model.specs.Computed.{computed}
+
+infix 10 _refuses_at_ _accepts_ _starts_ _sizes_is_ _uses_leaving_ _repeats_
+-- the root that real files have
+abbrev rootPlan : Plan
+rootPlan = plan "HDF5 MotherNode" "Root Node of HDF5 File" "MT" [] 4294967295 []
+
+abbrev integers : String → String → List ℕ → ℕ → Plan
+integers name label xs up = plan name label "I4" (length xs ∷ []) up (allBytes 4 xs)
+
+-- an R8 array of four: no rule looks at a coordinate's values
+abbrev axis : String → Plan
+axis name = plan name "DataArray_t" "R8" (4 ∷ []) 5 (replicate 32 0)
+
+-- the tetrahedron, over the faces' range, start offsets and nodes, and the cell's faces
+abbrev tetrahedron : List ℕ → List ℕ → List ℕ → List ℕ → List ℕ
+tetrahedron range offsets nodes faces =
+    image
+    (rootPlan
+    ∷ plan "CGNSLibraryVersion" "CGNSLibraryVersion_t" "R4" (1 ∷ []) 0 (102 ∷ 102 ∷ 134 ∷ 64 ∷ [])
+    ∷ integers "Base" "CGNSBase_t" (3 ∷ 3 ∷ []) 0
+    ∷ plan "Zone1" "Zone_t" "I4" (1 ∷ 3 ∷ []) 2 (allBytes 4 (4 ∷ 1 ∷ 0 ∷ []))
+    ∷ plan "ZoneType" "ZoneType_t" "C1" (12 ∷ []) 3 (text "Unstructured")
+    ∷ plan "GridCoordinates" "GridCoordinates_t" "MT" [] 3 []
+    ∷ axis "CoordinateX"
+    ∷ axis "CoordinateY"
+    ∷ axis "CoordinateZ"
+    ∷ integers "Faces" "Elements_t" (22 ∷ 0 ∷ []) 3
+    ∷ integers "ElementRange" "IndexRange_t" range 9
+    ∷ integers "ElementStartOffset" "DataArray_t" offsets 9
+    ∷ integers "ElementConnectivity" "DataArray_t" nodes 9
+    ∷ integers "Cells" "Elements_t" (23 ∷ 0 ∷ []) 3
+    ∷ integers "ElementRange" "IndexRange_t" (5 ∷ 5 ∷ []) 13
+    ∷ integers "ElementStartOffset" "DataArray_t" (0 ∷ 4 ∷ []) 13
+    ∷ integers "ElementConnectivity" "DataArray_t" faces 13
+    ∷ [])
+
+-- 001's faces of a tetrahedron
+abbrev fourFaces : List ℕ
+fourFaces = 1 ∷ 3 ∷ 2 ∷ 1 ∷ 2 ∷ 4 ∷ 2 ∷ 3 ∷ 4 ∷ 3 ∷ 1 ∷ 4 ∷ []
+
+abbrev withOffsets : List ℕ → List ℕ
+withOffsets o = tetrahedron (1 ∷ 4 ∷ []) o fourFaces (1 ∷ 2 ∷ 3 ∷ 4 ∷ [])
+
+abbrev withFaces : List ℕ → List ℕ
+withFaces f = tetrahedron (1 ∷ 4 ∷ []) (0 ∷ 3 ∷ 6 ∷ 9 ∷ 12 ∷ []) fourFaces f
+
+abbrev tetra : List ℕ
+tetra = withFaces (1 ∷ 2 ∷ 3 ∷ 4 ∷ [])
+
+-- 17 × 33 × 9 with rind 0 0 0 0 1 1
+abbrev layered : List ℕ
+layered =
+    image
+    (rootPlan
+    ∷ integers "Base" "CGNSBase_t" (3 ∷ 3 ∷ []) 0
+    ∷ plan "Zone" "Zone_t" "I4" (3 ∷ 3 ∷ []) 1 (allBytes 4 (17 ∷ 33 ∷ 9 ∷ 16 ∷ 32 ∷ 8 ∷ 0 ∷ 0 ∷ 0 ∷ []))
+    ∷ plan "ZoneType" "ZoneType_t" "C1" (10 ∷ []) 2 (text "Structured")
+    ∷ plan "GridCoordinates" "GridCoordinates_t" "MT" [] 2 []
+    ∷ integers "Rind" "Rind_t" (0 ∷ 0 ∷ 0 ∷ 0 ∷ 1 ∷ 1 ∷ []) 4
+    ∷ plan "CoordinateX" "DataArray_t" "R4" (17 ∷ 33 ∷ 11 ∷ []) 4 (replicate 24684 0)
+    ∷ [])
+
+-- what a case says of an image
+pub data Case : Type 0 where
+  -- the header's words
+  _starts_ : List ℕ → List ℕ → Case
+  -- nodes validated, nodes skipped, zones, sections
+  _accepts_ : List ℕ → Counts → Case
+  -- a rule and a node
+  _refuses_at_ : List ℕ → ℕ → ℕ → Case
+  -- the face usage of zone 3, in a buffer of six bytes
+  _uses_leaving_ : List ℕ → ℕ → List ℕ → Case
+  -- the section and the element of 45, the buffer's first four bytes then 0
+  _repeats_ : List ℕ → Answer ℕ → Case
+  -- the DataSize of a node
+  _sizes_is_ : List ℕ → ℕ → List ℕ → Case
+
+abbrev lent : List ℕ
+lent = replicate 6 9
+
+abbrev pub Right : List Case → Type 0
+Right [] = Unit {0}
+Right ((b starts ws) ∷ cs) = (numbers 4 8 b ≡ ws) × Right cs
+Right ((b accepts c) ∷ cs) = (validation b ≡ answer c) × Right cs
+Right ((b refuses r at n) ∷ cs) = (validation b ≡ rejected (rejection r n)) × Right cs
+Right ((b uses f leaving bytes) ∷ cs) = ((usageAnswer b 3 6 ≡ answer f) × (usageMemory b 3 lent ≡ bytes)) × Right cs
+Right ((b repeats a) ∷ cs) = ((usageAnswer b 3 6 ≡ a) × (usageMemory b 3 lent ≡ (0 ∷ 0 ∷ 0 ∷ 0 ∷ 9 ∷ 9 ∷ []))) × Right cs
+Right ((b sizes i is s) ∷ cs) = (dataSizeAnswer b i ≡ answer s) × Right cs
+
+abbrev tetraCounts : Counts
+tetraCounts = record { validated = 17; skipped = 0; zones = 1; sections = 2 }
+
+abbrev pub cases : List Case
+cases =
+    -- (a) the tetrahedron
+    (tetra starts (1 ∷ 1844 ∷ 17 ∷ 32 ∷ 1460 ∷ 16 ∷ 1588 ∷ 256 ∷ []))
+    ∷ (tetra accepts tetraCounts)
+    -- (b) 31 bytes
+    ∷ (replicate 31 0 refuses 1 at 0)
+    -- (c) a header alone
+    ∷ (allBytes 4 (1 ∷ 32 ∷ 0 ∷ 32 ∷ 32 ∷ 0 ∷ 32 ∷ 0 ∷ []) refuses 4 at 0)
+    -- (d) a lawful MT root alone
+    ∷ (image (rootPlan ∷ []) refuses 23 at 0)
+    -- (e), (f), (g) start offsets
+    ∷ (withOffsets (1 ∷ 3 ∷ 6 ∷ 9 ∷ 12 ∷ []) refuses 30 at 9)
+    ∷ (withOffsets (0 ∷ 3 ∷ 6 ∷ 6 ∷ 12 ∷ []) refuses 31 at 9)
+    ∷ (withOffsets (0 ∷ 3 ∷ 6 ∷ 9 ∷ 11 ∷ []) refuses 32 at 9)
+    -- (h) faces range 1..5
+    ∷ (tetrahedron (1 ∷ 5 ∷ []) (0 ∷ 3 ∷ 6 ∷ 9 ∷ 12 ∷ []) fourFaces (1 ∷ 2 ∷ 3 ∷ 4 ∷ []) refuses 29 at 9)
+    -- (i) node 5
+    ∷ (tetrahedron (1 ∷ 4 ∷ []) (0 ∷ 3 ∷ 6 ∷ 9 ∷ 12 ∷ []) (1 ∷ 3 ∷ 2 ∷ 1 ∷ 2 ∷ 4 ∷ 2 ∷ 3 ∷ 4 ∷ 3 ∷ 1 ∷ 5 ∷ []) (1 ∷ 2 ∷ 3 ∷ 4 ∷ []) refuses 34 at 9)
+    -- (j) face 0, 5 or −2147483648
+    ∷ (withFaces (1 ∷ 2 ∷ 3 ∷ 0 ∷ []) refuses 35 at 13)
+    ∷ (withFaces (1 ∷ 2 ∷ 3 ∷ 5 ∷ []) refuses 35 at 13)
+    ∷ (withFaces (1 ∷ 2 ∷ 3 ∷ minus 2147483648 ∷ []) refuses 35 at 13)
+    -- (k) faces 1 2 3 −3
+    ∷ (withFaces (1 ∷ 2 ∷ 3 ∷ minus 3 ∷ []) accepts tetraCounts)
+    ∷ (withFaces (1 ∷ 2 ∷ 3 ∷ minus 3 ∷ []) uses 4 leaving (1 ∷ 1 ∷ 3 ∷ 0 ∷ 9 ∷ 9 ∷ []))
+    -- (l) faces 1 2 3 3
+    ∷ (withFaces (1 ∷ 2 ∷ 3 ∷ 3 ∷ []) accepts tetraCounts)
+    ∷ (withFaces (1 ∷ 2 ∷ 3 ∷ 3 ∷ []) repeats rejected (repetition 13 5))
+    -- (m) 17 × 33 × 9 with a rind
+    ∷ (layered accepts record { validated = 7; skipped = 0; zones = 1; sections = 0 })
+    ∷ (layered sizes 6 is (17 ∷ 33 ∷ 11 ∷ []))
+    ∷ []
+
+pub all-right : Right cases
+unfolding computed
+all-right =
+    (refl, (refl, (refl, (refl, (refl, (refl, (refl, (refl, (refl, (refl, (refl, (refl, (refl, (refl, ((refl, refl), (refl, ((refl, refl), (refl, (refl, tt)))))))))))))))))))

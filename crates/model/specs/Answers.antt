@@ -1,0 +1,75 @@
+-- For each case of an answer enum document 01's number and values. Contracts go through these definitions.
+use Prim.Native.Nat.{ℕ}
+use mathlib.Core.Path.{_≡_}
+use mathlib.Core.Bool.{true}
+use mathlib.Core.List.{List, [], _∷_}
+use lib.ListN.{take}
+use lib.IntN.{ℤ}
+use lib.Ieee.{binary32, binary64, nanBits, toBits}
+use Rattle.model.specs.declared.Stage.{Stage}
+use Rattle.model.specs.declared.Stage.the-variants as Stage
+use Rattle.model.specs.declared.Table.{Table}
+use Rattle.model.specs.declared.Table.the-variants as Table
+use Rattle.model.specs.declared.Validation.{Validation}
+use Rattle.model.specs.declared.Validation.the-variants as Validation
+use Rattle.model.specs.declared.Count.{Count}
+use Rattle.model.specs.declared.Count.the-variants as Count
+use Rattle.model.specs.declared.DataSize.{DataSize}
+use Rattle.model.specs.declared.DataSize.the-variants as DataSize
+use Rattle.model.specs.declared.Corner.{Corner}
+use Rattle.model.specs.declared.Corner.the-variants as Corner
+use Rattle.model.specs.declared.ArrayValue.{ArrayValue}
+use Rattle.model.specs.declared.ArrayValue.the-variants as ArrayValue
+use Rattle.model.specs.declared.FaceUsage.{FaceUsage}
+use Rattle.model.specs.declared.FaceUsage.the-variants as FaceUsage
+use Rattle.model.specs.Rules.{Answer, rejected, answer, Check, passed}
+use Rattle.model.specs.Records.{TableCounts}
+use Rattle.model.specs.Validation.{Counts}
+use Rattle.model.specs.ArrayValue.{Value, whole, single, double}
+
+abbrev pub stageTells : Stage → Check
+stageTells Stage.Pass = passed
+stageTells (Stage.Rejected r) = rejected r
+
+abbrev pub tableTells : Table → Answer TableCounts
+tableTells (Table.Sound n d x) = answer (record { nodes = n; dimensions = d; bytes = x })
+tableTells (Table.Rejected r) = rejected r
+
+abbrev pub validationTells : Validation → Answer Counts
+validationTells (Validation.Accepted v s z e) = answer (record { validated = v; skipped = s; zones = z; sections = e })
+validationTells (Validation.Rejected r) = rejected r
+
+abbrev pub countTells : Count → Answer ℕ
+countTells (Count.Of n) = answer n
+countTells (Count.Rejected r) = rejected r
+
+-- as many sizes as there are directions
+abbrev pub dataSizeTells : DataSize → Answer (List ℕ)
+dataSizeTells (DataSize.Sizes n i j k) = answer (take n (i ∷ j ∷ k ∷ []))
+dataSizeTells (DataSize.Rejected r) = rejected r
+
+abbrev pub cornerTells : Corner → Answer ℤ
+cornerTells (Corner.Number n) = answer n
+cornerTells (Corner.Rejected r) = rejected r
+
+-- a single and a double by their bits, a NaN's too
+abbrev pub valueTells : ArrayValue → Answer Value
+valueTells (ArrayValue.Whole n) = answer (whole n)
+valueTells (ArrayValue.Single x) = answer (single (toBits binary32 x))
+valueTells (ArrayValue.Double x) = answer (double (toBits binary64 x))
+valueTells (ArrayValue.SingleNan bits) = answer (single bits)
+valueTells (ArrayValue.DoubleNan bits) = answer (double bits)
+valueTells (ArrayValue.Rejected r) = rejected r
+
+-- the two NaN cases are for NaNs alone
+abbrev pub NanCases : ArrayValue → Type 0
+NanCases (ArrayValue.Whole n) = Unit {0}
+NanCases (ArrayValue.Single x) = Unit {0}
+NanCases (ArrayValue.Double x) = Unit {0}
+NanCases (ArrayValue.SingleNan bits) = nanBits binary32 bits ≡ true
+NanCases (ArrayValue.DoubleNan bits) = nanBits binary64 bits ≡ true
+NanCases (ArrayValue.Rejected r) = Unit {0}
+
+abbrev pub usageTells : FaceUsage → Answer ℕ
+usageTells (FaceUsage.Faces n) = answer n
+usageTells (FaceUsage.Rejected r) = rejected r

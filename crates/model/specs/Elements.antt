@@ -1,0 +1,142 @@
+-- Document 01, "Sections": rules 27 to 35.
+use Prim.Native.Nat.{ℕ, zero, suc, _+_, _*_, _-_}
+use mathlib.Core.Bool.{Bool, cond, not, _&&_, _||_}
+use mathlib.Core.List.{List, [], _∷_}
+use lib.Dec.{eqb, leb, ltb}
+use Rattle.model.specs.Lists.{_⊃_, Row, _has_, row, someFrom, everyFrom}
+use Rattle.model.specs.Bytes.{below, magnitude}
+use Rattle.model.specs.Rules.{Rule, _unless_}
+use Rattle.model.specs.Image.{Tree, parent, width, number}
+use Rattle.model.specs.Containment.{sectionOf, found}
+use Rattle.model.specs.Values.{size, vertexSize, typeLawful, valueLawful, rangeOf, offsetsOf, connectivityOf}
+
+abbrev pub NGON : ℕ
+NGON = 22
+
+abbrev pub NFACE : ℕ
+NFACE = 23
+
+-- nodes per element by type; 0 for a type with no fixed number
+unfoldable pub nodesPer : ℕ → ℕ
+nodesPer e =
+    row e 0
+    (2 has 1 ∷ 3 has 2 ∷ 4 has 3 ∷ 5 has 3 ∷ 6 has 6 ∷ 7 has 4 ∷ 8 has 8 ∷ 9 has 9 ∷ 10 has 4 ∷ 11 has 10 ∷ 12 has 5 ∷ 13 has 14
+    ∷ 14 has 6 ∷ 15 has 15 ∷ 16 has 18 ∷ 17 has 8 ∷ 18 has 20 ∷ 19 has 27 ∷ 21 has 13 ∷ [])
+
+-- the types whose elements are found by start offsets
+unfoldable pub hasOffsets : ℕ → Bool
+hasOffsets e = eqb e NGON || eqb e NFACE
+
+-- the types that are taken
+unfoldable pub taken : ℕ → Bool
+taken e = ltb 0 (nodesPer e) || hasOffsets e
+
+-- a section's type, and the numbers of its elements
+unfoldable pub elementType : Tree → ℕ → ℕ
+elementType t s = number t s 0
+
+unfoldable pub firstElement : Tree → ℕ → ℕ
+firstElement t s = number t (rangeOf t s) 0
+
+unfoldable pub lastElement : Tree → ℕ → ℕ
+lastElement t s = number t (rangeOf t s) 1
+
+unfoldable pub inRange : Tree → ℕ → ℕ → Bool
+inRange t s e = leb (firstElement t s) e && leb e (lastElement t s)
+
+-- n
+unfoldable pub elementCount : Tree → ℕ → ℕ
+elementCount t s = lastElement t s - firstElement t s + 1
+
+-- start offset k, and entry k of the connectivity, counted from 0, as their bits
+unfoldable pub startOffset : Tree → ℕ → ℕ → ℕ
+startOffset t s k = number t (offsetsOf t s) k
+
+unfoldable pub reference : Tree → ℕ → ℕ → ℕ
+reference t s k = number t (connectivityOf t s) k
+
+unfoldable pub connectivityLength : Tree → ℕ → ℕ
+connectivityLength t s = size t (connectivityOf t s)
+
+-- where the section's k-th element starts, counted from 0; it ends where the next one starts
+unfoldable pub elementStart : Tree → ℕ → ℕ → ℕ
+elementStart t s k = cond (hasOffsets (elementType t s)) (startOffset t s k) (k * nodesPer (elementType t s))
+
+unfoldable pub elementSize : Tree → ℕ → ℕ → ℕ
+elementSize t s k = elementStart t s (suc k) - elementStart t s k
+
+-- corner c of the section's k-th element, counted from 1
+unfoldable pub cornerReference : Tree → ℕ → ℕ → ℕ → ℕ
+cornerReference t s k c = reference t s (elementStart t s k + (c - 1))
+
+-- 28: the range meets that of an earlier section of the zone
+unfoldable pub meets : Tree → ℕ → ℕ → Bool
+meets t s r = leb (firstElement t s) (lastElement t r) && leb (firstElement t r) (lastElement t s)
+
+unfoldable pub overlap : Tree → ℕ → ℕ → Bool
+overlap t s r = sectionOf t (parent t s) r && meets t s r
+
+unfoldable pub overlaps : Tree → ℕ → Bool
+overlaps t s = someFrom (overlap t s) s 0
+
+-- 29: n + 1 start offsets (absent is length 0), or n × nodes connectivity entries
+unfoldable pub lengthsFit : Tree → ℕ → Bool
+lengthsFit t s =
+    cond (hasOffsets (elementType t s))
+    (eqb (size t (offsetsOf t s)) (elementCount t s + 1))
+    (eqb (connectivityLength t s) (elementCount t s * nodesPer (elementType t s)))
+
+-- 30: the first start offset is 0
+unfoldable pub startsAtZero : Tree → ℕ → Bool
+startsAtZero t s = eqb (startOffset t s 0) 0
+
+-- 31: each is above its predecessor, as signed numbers of their own width
+unfoldable pub rises : Tree → ℕ → ℕ → Bool
+rises t s k = below (width t (offsetsOf t s)) (startOffset t s k) (startOffset t s (suc k))
+
+unfoldable pub allRise : Tree → ℕ → Bool
+allRise t s = everyFrom (rises t s) (elementCount t s) 0
+
+-- 32: the last is the connectivity length
+unfoldable pub endsAtLength : Tree → ℕ → Bool
+endsAtLength t s = eqb (startOffset t s (elementCount t s)) (connectivityLength t s)
+
+-- 34: a node reference lies in 1 to VertexSize
+unfoldable pub isNode : Tree → ℕ → ℕ → Bool
+isNode t s k = leb 1 (reference t s k) && leb (reference t s k) (vertexSize t (parent t s) 0)
+
+unfoldable pub allNodes : Tree → ℕ → Bool
+allNodes t s = everyFrom (isNode t s) (connectivityLength t s) 0
+
+-- 35: the zone's face sections: type 22, own node meets 24 and 25, ElementRange conforms
+unfoldable pub faceSection : Tree → ℕ → ℕ → Bool
+faceSection t z s = sectionOf t z s && typeLawful t s && valueLawful t s && eqb (elementType t s) NGON && found t (rangeOf t s)
+
+-- section s brings face f to the zone; f is a face of the zone
+unfoldable pub hasFace : Tree → ℕ → ℕ → ℕ → Bool
+hasFace t z f s = faceSection t z s && inRange t s f
+
+unfoldable pub faceOf : Tree → ℕ → ℕ → Bool
+faceOf t z f = someFrom (hasFace t z f) (t .count) 0
+
+-- the face that entry k of a type 23 section means; a negative reference means the same face seen from its other side
+unfoldable pub faceNumber : Tree → ℕ → ℕ → ℕ
+faceNumber t s k = magnitude (width t (connectivityOf t s)) (reference t s k)
+
+unfoldable pub isFace : Tree → ℕ → ℕ → Bool
+isFace t s k = faceOf t (parent t s) (faceNumber t s k)
+
+unfoldable pub allFaces : Tree → ℕ → Bool
+allFaces t s = everyFrom (isFace t s) (connectivityLength t s) 0
+
+unfoldable pub elementRules : Tree → ℕ → List Rule
+elementRules t s =
+    27 unless taken (elementType t s)
+    ∷ 28 unless not (overlaps t s)
+    ∷ 29 unless lengthsFit t s
+    ∷ 30 unless (hasOffsets (elementType t s) ⊃ startsAtZero t s)
+    ∷ 31 unless (hasOffsets (elementType t s) ⊃ allRise t s)
+    ∷ 32 unless (hasOffsets (elementType t s) ⊃ endsAtLength t s)
+    ∷ 34 unless (not (eqb (elementType t s) NFACE) ⊃ allNodes t s)
+    ∷ 35 unless (eqb (elementType t s) NFACE ⊃ allFaces t s)
+    ∷ []

@@ -1,0 +1,61 @@
+-- How document 01 judges. A rule is its number and a test; the first rule whose test fails is the answer; the lowest node comes first.
+use Prim.Native.Nat.{ℕ, zero, suc}
+use mathlib.Core.Bool.{Bool, cond}
+use mathlib.Core.List.{List, [], _∷_}
+use Rattle.model.specs.declared.Rejection.{Rejection}
+
+infix 68 _unless_
+infixr 20 _then_
+infix 15 _gives_
+infixl 15 _into_
+-- a refusal of document 01: its number and its node; the element is for 45 alone
+abbrev pub rejection : ℕ → ℕ → Rejection
+rejection rule node = record { rule = rule; node = node; element = 0 }
+
+abbrev pub repetition : ℕ → ℕ → Rejection
+repetition node element = record { rule = 45; node = node; element = element }
+
+-- what a call tells: a refusal, or its values
+pub data Answer (A : Type 0) : Type 0 where
+  rejected : Rejection → Answer A
+  answer : A → Answer A
+
+-- a check has no value: it refuses or passes
+abbrev pub Check : Type 0
+Check = Answer (Unit {0})
+
+abbrev pub passed : Check
+passed = answer tt
+
+-- one check, then the next
+unfoldable pub _then_ : {A : Type 0} → Check → Answer A → Answer A
+(rejected r) then s = rejected r
+(answer x) then s = s
+
+-- a check, and the value where it passes
+unfoldable pub _gives_ : {A : Type 0} → Check → A → Answer A
+c gives a = c then answer a
+
+-- an answer's value handed on
+unfoldable pub _into_ : {A B : Type 0} → Answer A → (A → Answer B) → Answer B
+(rejected r) into f = rejected r
+(answer x) into f = f x
+
+-- `7 unless t`: rule 7 is given unless t holds
+pub data Rule : Type 0 where
+  _unless_ : ℕ → Bool → Rule
+
+-- at a node the lowest rule: the first of an ascending list whose test fails
+unfoldable pub check : ℕ → List Rule → Check
+check node [] = passed
+check node ((rule unless holds) ∷ rest) = let later = check node rest in cond holds later (rejected (rejection rule node))
+
+-- the lowest node first: k nodes from i on
+unfoldable pub checkFrom : (ℕ → Check) → ℕ → ℕ → Check
+checkFrom f zero i = passed
+checkFrom f (suc k) i = let rest = checkFrom f k (suc i) in f i then rest
+
+-- Every refusal leaves lent memory unchanged: what a call leaves, where a success would leave new.
+unfoldable pub leaves : {A B : Type 0} → Answer A → List B → List B → List B
+leaves (rejected r) out new = out
+leaves (answer x) out new = new

@@ -1,0 +1,114 @@
+// The types that contracts name: a rejection, the answer of each call, a section. What they mean stands in specs/.
+ghost use mathlib.Core.Path.{_≡_};
+ghost use Rattle.model.specs.Rules.{rejection, repetition};
+
+// Why a call is refused: document 01's rule number, the node (0 where the rule names none) and, for rule 45 alone, the element.
+pub struct Rejection {
+    pub rule: u64,
+    pub node: u64,
+    pub element: u64,
+}
+
+impl Rejection {
+    // A rule broken at a node.
+    pub fn at(rule: u64, node: u64) -> Rejection
+        ensures { λ r. ⌜ r ≡ rejection rule node ⌝ }
+    {
+        Rejection {
+            rule,
+            node,
+            element: 0,
+        }
+    }
+
+    // Rule 45: a face that an element of a section uses a second time with one sign.
+    pub fn repeated(node: u64, element: u64) -> Rejection
+        ensures { λ r. ⌜ r ≡ repetition node element ⌝ }
+    {
+        Rejection {
+            rule: 45,
+            node,
+            element,
+        }
+    }
+}
+
+// One stage of validation.
+pub enum Stage {
+    Pass,
+    Rejected(Rejection),
+}
+
+// Rules 1 to 18: the table's counts.
+pub enum Table {
+    Sound {
+        nodes: u64,
+        dimensions: u64,
+        bytes: u64,
+    },
+    Rejected(Rejection),
+}
+
+// Validation of an image: the four counts of an acceptance.
+pub enum Validation {
+    Accepted {
+        validated: u64,
+        skipped: u64,
+        zones: u64,
+        sections: u64,
+    },
+    Rejected(Rejection),
+}
+
+// A path's length in bytes, or how many section entries were written.
+pub enum Count {
+    Of(u64),
+    Rejected(Rejection),
+}
+
+// The DataSize of an array in the directions i, j, k; a direction that the zone lacks is 0.
+pub enum DataSize {
+    Sizes {
+        directions: u64,
+        i: u64,
+        j: u64,
+        k: u64,
+    },
+    Rejected(Rejection),
+}
+
+// The number stored at an element's corner: a node number, or a signed face number.
+pub enum Corner {
+    Number(i64),
+    Rejected(Rejection),
+}
+
+// A stored value, its bits unchanged. A NaN has cases of its own, which carry its bits.
+pub enum ArrayValue {
+    Whole(i64),
+    Single(f32),
+    Double(f64),
+    SingleNan(u32),
+    DoubleNan(u64),
+    Rejected(Rejection),
+}
+
+// Face usage: how many faces the zone has.
+pub enum FaceUsage {
+    Faces(u64),
+    Rejected(Rejection),
+}
+
+// A section entry: where a section's elements stand in the image. Offsets count from the image's start; 0 with width 0 where absent.
+#[repr(C)]
+pub struct Section {
+    pub node: u64,
+    pub element_type: u64,
+    pub first: u64,
+    pub last: u64,
+    pub offsets_at: u64,
+    pub offsets_width: u64,
+    pub connectivity_at: u64,
+    pub connectivity_width: u64,
+    pub connectivity_length: u64,
+}
