@@ -1,0 +1,38 @@
+-- Tests and their joins.
+use Prim.Native.Nat.{ℕ}
+use mathlib.Core.Path.{_≡_, refl}
+use mathlib.Core.Bool.{Bool, true, false, cond, not, _&&_, _||_}
+use native.Mathlib.Omega.{arith}
+use Rattle.model.specs.Lists.{_⊃_}
+
+pub untrue : {A : Type 0} → false ≡ true → A
+untrue e = let z : _≡_ {A = ℕ} 0 1 = cc in absurd (omega arith)
+
+pub and-first : (a b : Bool) → (a && b) ≡ true → a ≡ true
+and-first true b e = refl
+and-first false b e = e
+
+pub and-second : (a b : Bool) → (a && b) ≡ true → b ≡ true
+and-second true b e = e
+and-second false b e = untrue e
+
+pub and-both : (a b : Bool) → a ≡ true → b ≡ true → (a && b) ≡ true
+and-both a b e f = rw (e, f)
+
+pub or-left : (a b : Bool) → a ≡ true → (a || b) ≡ true
+or-left a b e = rw e
+
+pub or-right : (a b : Bool) → b ≡ true → (a || b) ≡ true
+or-right true b e = refl
+or-right false b e = e
+
+-- what a test rules out
+pub when : (a b : Bool) → (a ⊃ b) ≡ true → a ≡ true → b ≡ true
+unfolding _⊃_
+when true b e h = e
+when false b e h = untrue h
+
+-- a test that leads to one of two types
+pub choose : {A B : Type 0} (which : Bool) → A → B → cond which A B
+choose true x y = x
+choose false x y = y

@@ -1,0 +1,99 @@
+-- What a check that passed says: every rule of the list holds, at every node of the walk. And how a loop over the nodes meets a check.
+use Prim.Native.Nat.{ℕ, zero, suc, _+_, _-_, _≤_, _<_}
+use mathlib.Core.Path.{_≡_, refl, subst, sym, ap, _∙_}
+use mathlib.Core.Bool.{Bool, true, false, cond}
+use mathlib.Core.List.{List, [], _∷_, _++_}
+use native.Mathlib.Omega.{arith}
+use native.Mathlib.Decide.{ℕ-discrete}
+use native.Mathlib.Numerals.{add-one}
+use lib.Dec.{eqb}
+use Rattle.model.specs.declared.Rejection.{Rejection}
+use Rattle.model.specs.Rules.{Answer, rejected, answer, Check, passed, Rule, _unless_, check, checkFrom, _then_, _gives_}
+use Rattle.model.proofs.Logic.{choose}
+
+-- a refusal is no value
+pub refused : {A B : Type 0} {r : Rejection} {a : A} → rejected r ≡ answer a → B
+refused e = let z : _≡_ {A = ℕ} 0 1 = cc in absurd (omega arith)
+
+-- every test of the list holds: of a written list, a product of equations `test ≡ true`
+abbrev pub Hold : List Rule → Type 0
+Hold [] = Unit {0}
+Hold ((rule unless holds) ∷ rest) = (holds ≡ true) × Hold rest
+
+pub check-pass : (node : ℕ) (rules : List Rule) → check node rules ≡ passed → Hold rules
+unfolding check
+check-pass node [] e = tt
+check-pass node ((rule unless true) ∷ rest) e = (refl, check-pass node rest e)
+check-pass node ((rule unless false) ∷ rest) e = refused e
+
+-- the equation of one rule, asked for by its number
+abbrev pub Claim : ℕ → List Rule → Type 0
+Claim n [] = Unit {0}
+Claim n ((rule unless holds) ∷ rest) = cond (eqb n rule) (holds ≡ true) (Claim n rest)
+
+pub claim : (n : ℕ) (rules : List Rule) → Hold rules → Claim n rules
+claim n [] h = tt
+claim n ((rule unless holds) ∷ rest) h = choose (eqb n rule) (h .0) (claim n rest (h .1))
+
+pub hold-left : (xs ys : List Rule) → Hold (xs ++ ys) → Hold xs
+hold-left [] ys h = tt
+hold-left ((rule unless holds) ∷ xs) ys h = (h .0, hold-left xs ys (h .1))
+
+pub hold-right : (xs ys : List Rule) → Hold (xs ++ ys) → Hold ys
+hold-right [] ys h = h
+hold-right ((rule unless holds) ∷ xs) ys h = hold-right xs ys (h .1)
+
+module _ {A : Type 0} where
+  pub then-first : (c : Check) (s : Answer A) {a : A} → (c then s) ≡ answer a → c ≡ passed
+  unfolding _then_
+  then-first (rejected r) s e = refused e
+  then-first (answer x) s e = refl
+
+  pub then-second : (c : Check) (s : Answer A) {a : A} → (c then s) ≡ answer a → s ≡ answer a
+  unfolding _then_
+  then-second (rejected r) s e = refused e
+  then-second (answer x) s e = e
+
+  -- a check that passes and what follows
+  pub then-on : {c : Check} (s : Answer A) → c ≡ passed → (c then s) ≡ s
+  unfolding _then_
+  then-on s e = rw e
+
+  pub then-off : {c : Check} {r : Rejection} (s : Answer A) → c ≡ rejected r → (c then s) ≡ rejected r
+  unfolding _then_
+  then-off s e = rw e
+
+  pub gives-check : (c : Check) (v : A) {a : A} → (c gives v) ≡ answer a → c ≡ passed
+  unfolding _gives_
+  gives-check c v e = then-first c (answer v) e
+
+  pub gives-value : (c : Check) (v : A) {a : A} → (c gives v) ≡ answer a → v ≡ a
+  unfolding _gives_
+  gives-value c v e = let h = then-second c (answer v) e in cc
+
+pub checkFrom-at : (f : ℕ → Check) (k i j : ℕ) → checkFrom f k i ≡ passed → i ≤ j → j < i + k → f j ≡ passed
+unfolding checkFrom
+checkFrom-at f zero i j e l h = absurd (omega arith)
+checkFrom-at f (suc k) i j e l h =
+    elim (ℕ-discrete i j) [
+      | yes q ↦ subst (λ (n : ℕ). f n ≡ passed) q (then-first (f i) (checkFrom f k (suc i)) e)
+      | no n ↦ checkFrom-at f k (suc i) j (then-second (f i) (checkFrom f k (suc i)) e) (omega (arith, n)) (omega arith)
+    ]
+
+-- a loop over the nodes: one that passes, one that does not, the end
+module _ (f : ℕ → Check) (n i : ℕ) where
+  checkFrom-step : i < n → checkFrom f (n - i) i ≡ (f i then checkFrom f (n - (i + 1)) (i + 1))
+  unfolding checkFrom
+  checkFrom-step h =
+      let e : n - i ≡ suc (n - (i + 1)) = omega arith in
+      rw (e, add-one)
+
+  pub checkFrom-on : i < n → f i ≡ passed → checkFrom f (n - (i + 1)) (i + 1) ≡ checkFrom f (n - i) i
+  checkFrom-on h e = sym (checkFrom-step h ∙ then-on (checkFrom f (n - (i + 1)) (i + 1)) e)
+
+  pub checkFrom-off : {r : Rejection} → i < n → f i ≡ rejected r → checkFrom f (n - i) i ≡ rejected r
+  checkFrom-off h e = checkFrom-step h ∙ then-off (checkFrom f (n - (i + 1)) (i + 1)) e
+
+  pub checkFrom-end : n ≤ i → checkFrom f (n - i) i ≡ passed
+  unfolding checkFrom
+  checkFrom-end h = let e : n - i ≡ 0 = omega arith in rw e

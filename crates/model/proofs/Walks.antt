@@ -1,0 +1,119 @@
+-- The walks of specs/Lists. As a loop with a counter i below n meets them: one step, and the end. What a walk says of each number, and the other way round.
+use Prim.Native.Nat.{ℕ, zero, suc, _+_, _-_, _≤_, _<_}
+use mathlib.Core.Path.{_≡_, refl, sym, subst, _∙_, ap}
+use mathlib.Core.Bool.{Bool, true, false, cond, not, _&&_, _||_}
+use mathlib.Core.List.{List, [], _∷_}
+use native.Mathlib.Omega.{arith}
+use native.Mathlib.Decide.{ℕ-discrete}
+use native.Mathlib.Numerals.{add-one}
+use Rattle.model.specs.Lists.{everyFrom, someFrom, countFrom, listFrom, seekFrom, sumBefore}
+use Rattle.model.proofs.Logic.{untrue, and-first, and-second, or-left, or-right}
+
+left : (n i : ℕ) → i < n → n - i ≡ suc (n - (i + 1))
+left n i h = omega arith
+
+none : (n i : ℕ) → n ≤ i → n - i ≡ 0
+none n i h = omega arith
+
+module _ (p : ℕ → Bool) (n i : ℕ) where
+  pub everyFrom-step : i < n → everyFrom p (n - i) i ≡ (p i && everyFrom p (n - (i + 1)) (i + 1))
+  unfolding everyFrom
+  everyFrom-step h = rw (left n i h, add-one)
+
+  pub everyFrom-end : n ≤ i → everyFrom p (n - i) i ≡ true
+  unfolding everyFrom
+  everyFrom-end h = rw (none n i h)
+
+  pub someFrom-step : i < n → someFrom p (n - i) i ≡ (p i || someFrom p (n - (i + 1)) (i + 1))
+  unfolding someFrom
+  someFrom-step h = rw (left n i h, add-one)
+
+  pub someFrom-end : n ≤ i → someFrom p (n - i) i ≡ false
+  unfolding someFrom
+  someFrom-end h = rw (none n i h)
+
+  pub seekFrom-step : i < n → seekFrom p (n - i) i ≡ cond (p i) i (seekFrom p (n - (i + 1)) (i + 1))
+  unfolding seekFrom
+  seekFrom-step h = rw (left n i h, add-one)
+
+  pub seekFrom-end : n ≤ i → seekFrom p (n - i) i ≡ i
+  unfolding seekFrom
+  seekFrom-end h = rw (none n i h)
+
+  pub countFrom-step : i < n → countFrom p (n - i) i ≡ cond (p i) (suc (countFrom p (n - (i + 1)) (i + 1))) (countFrom p (n - (i + 1)) (i + 1))
+  unfolding countFrom
+  countFrom-step h = rw (left n i h, add-one)
+
+  pub countFrom-end : n ≤ i → countFrom p (n - i) i ≡ 0
+  unfolding countFrom
+  countFrom-end h = rw (none n i h)
+
+  pub listFrom-step : i < n → listFrom p (n - i) i ≡ cond (p i) (i ∷ listFrom p (n - (i + 1)) (i + 1)) (listFrom p (n - (i + 1)) (i + 1))
+  unfolding listFrom
+  listFrom-step h = rw (left n i h, add-one)
+
+  pub listFrom-end : n ≤ i → listFrom p (n - i) i ≡ []
+  unfolding listFrom
+  listFrom-end h = rw (none n i h)
+
+pub sumBefore-step : (f : ℕ → ℕ) (i : ℕ) → sumBefore f (i + 1) ≡ sumBefore f i + f i
+unfolding sumBefore
+sumBefore-step f i = rw add-one
+
+-- what holds of every number holds of each
+pub every-at : (p : ℕ → Bool) (k i j : ℕ) → everyFrom p k i ≡ true → i ≤ j → j < i + k → p j ≡ true
+unfolding everyFrom
+every-at p zero i j e l h = absurd (omega arith)
+every-at p (suc k) i j e l h =
+    elim (ℕ-discrete i j) [
+      | yes q ↦ subst (λ (n : ℕ). p n ≡ true) q (and-first (p i) (everyFrom p k (suc i)) e)
+      | no n ↦ every-at p k (suc i) j (and-second (p i) (everyFrom p k (suc i)) e) (omega (arith, n)) (omega arith)
+    ]
+
+-- one that holds is some
+pub some-by : (p : ℕ → Bool) (k i j : ℕ) → p j ≡ true → i ≤ j → j < i + k → someFrom p k i ≡ true
+unfolding someFrom
+some-by p zero i j e l h = absurd (omega arith)
+some-by p (suc k) i j e l h =
+    elim (ℕ-discrete i j) [
+      | yes q ↦ or-left (p i) (someFrom p k (suc i)) (subst (λ (n : ℕ). p n ≡ true) (sym q) e)
+      | no n ↦ or-right (p i) (someFrom p k (suc i)) (some-by p k (suc i) j e (omega (arith, n)) (omega arith))
+    ]
+
+-- some number: which one
+pub record Some (p : ℕ → Bool) (k i : ℕ) : Type 0 where
+  pub at : ℕ
+  pub from : i ≤ at
+  pub to : at < i + k
+  pub holds : p at ≡ true
+
+pub some-at : (p : ℕ → Bool) (k i : ℕ) → someFrom p k i ≡ true → Some p k i
+unfolding someFrom
+some-at p zero i e = untrue e
+some-at p (suc k) i e = by-test (p i) refl e (λ h. some-at p k (suc i) h)
+  where
+    by-test : (t : Bool) → p i ≡ t → (t || someFrom p k (suc i)) ≡ true → (someFrom p k (suc i) ≡ true → Some p k (suc i)) → Some p (suc k) i
+    by-test true q h later = record { at = i; from = omega arith; to = omega arith; holds = q }
+    by-test false q h later =
+        let s = later h in record { at = s .at; from = omega arith; to = omega arith; holds = s .holds }
+
+-- a search that ended before its end stands where the test holds
+seek-here : (p : ℕ → Bool) (i later b : ℕ) (t : Bool) → p i ≡ t → (later < b → p later ≡ true) → cond t i later < b → p (cond t i later) ≡ true
+seek-here p i later b true e f h = e
+seek-here p i later b false e f h = f h
+
+pub seek-holds : (p : ℕ → Bool) (k i : ℕ) → seekFrom p k i < i + k → p (seekFrom p k i) ≡ true
+unfolding seekFrom
+seek-holds p zero i h = absurd (omega arith)
+seek-holds p (suc k) i h = seek-here p i (seekFrom p k (suc i)) (i + suc k) (p i) refl (λ l. seek-holds p k (suc i) (omega arith)) h
+
+-- each number is counted by a test or by its contrary
+pub count-both : (p q : ℕ → Bool) (k i : ℕ) → ((j : ℕ) → q j ≡ not (p j)) → countFrom p k i + countFrom q k i ≡ k
+unfolding countFrom
+count-both p q zero i e = refl
+count-both p q (suc k) i e = by-test (p i) (q i) (e i) (count-both p q k (suc i) e)
+  where
+    by-test : (t u : Bool) → u ≡ not t → countFrom p k (suc i) + countFrom q k (suc i) ≡ k
+        → cond t (suc (countFrom p k (suc i))) (countFrom p k (suc i)) + cond u (suc (countFrom q k (suc i))) (countFrom q k (suc i)) ≡ suc k
+    by-test true u f h = rw f (omega arith)
+    by-test false u f h = rw f (omega arith)
