@@ -3,3 +3,7 @@ pub mod Logic
 pub mod Walks
 pub mod Passed
 pub mod Accepted
+pub mod Bounds
+pub mod Conforming
+pub mod Counting
+pub mod Uses

@@ -8,7 +8,7 @@ use native.Mathlib.Decide.{ℕ-discrete}
 use native.Mathlib.Numerals.{add-one}
 use lib.Dec.{eqb}
 use Rattle.model.specs.declared.Rejection.{Rejection}
-use Rattle.model.specs.Rules.{Answer, rejected, answer, Check, passed, Rule, _unless_, check, checkFrom, _then_, _gives_}
+use Rattle.model.specs.Rules.{Answer, rejected, answer, Check, passed, Rule, _unless_, check, checkFrom, _then_, _gives_, _into_}
 use Rattle.model.proofs.Logic.{choose}
 
 -- a refusal is no value
@@ -70,6 +70,12 @@ module _ {A : Type 0} where
   pub gives-value : (c : Check) (v : A) {a : A} → (c gives v) ≡ answer a → v ≡ a
   unfolding _gives_
   gives-value c v e = let h = then-second c (answer v) e in cc
+
+-- a value that was handed on
+pub into-value : {A B : Type 0} (s : Answer A) (f : A → Answer B) {v : B} → (s into f) ≡ answer v → (x : A) × (s ≡ answer x) × (f x ≡ answer v)
+unfolding _into_
+into-value (rejected r) f e = refused e
+into-value (answer x) f e = (x, refl, e)
 
 pub checkFrom-at : (f : ℕ → Check) (k i j : ℕ) → checkFrom f k i ≡ passed → i ≤ j → j < i + k → f j ≡ passed
 unfolding checkFrom

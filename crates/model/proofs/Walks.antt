@@ -6,6 +6,7 @@ use mathlib.Core.List.{List, [], _∷_}
 use native.Mathlib.Omega.{arith}
 use native.Mathlib.Decide.{ℕ-discrete}
 use native.Mathlib.Numerals.{add-one}
+use native.Mathlib.Nat.{add-zero}
 use Rattle.model.specs.Lists.{everyFrom, someFrom, countFrom, listFrom, seekFrom, sumBefore}
 use Rattle.model.proofs.Logic.{untrue, and-first, and-second, or-left, or-right}
 
@@ -117,3 +118,36 @@ count-both p q (suc k) i e = by-test (p i) (q i) (e i) (count-both p q k (suc i)
         → cond t (suc (countFrom p k (suc i))) (countFrom p k (suc i)) + cond u (suc (countFrom q k (suc i))) (countFrom q k (suc i)) ≡ suc k
     by-test true u f h = rw f (omega arith)
     by-test false u f h = rw f (omega arith)
+
+-- a search ends no later than a number where the test holds
+pub seek-before : (p : ℕ → Bool) (k i j : ℕ) → p j ≡ true → i ≤ j → j < i + k → seekFrom p k i ≤ j
+unfolding seekFrom
+seek-before p zero i j e l h = absurd (omega arith)
+seek-before p (suc k) i j e l h =
+    elim (ℕ-discrete i j) [
+      | yes q ↦ at-once (p i) (subst (λ (n : ℕ). p n ≡ true) (sym q) e) l
+      | no n ↦ later (p i) l (seek-before p k (suc i) j e (omega (arith, n)) (omega arith))
+    ]
+  where
+    at-once : (t : Bool) → t ≡ true → i ≤ j → cond t i (seekFrom p k (suc i)) ≤ j
+    at-once true q m = m
+    at-once false q m = untrue q
+
+    later : (t : Bool) → i ≤ j → seekFrom p k (suc i) ≤ j → cond t i (seekFrom p k (suc i)) ≤ j
+    later true m r = m
+    later false m r = r
+
+-- a sum over more numbers is no less
+pub sum-rises : (f : ℕ → ℕ) (i k : ℕ) → sumBefore f i ≤ sumBefore f (i + k)
+unfolding sumBefore
+sum-rises f i zero = rw add-zero (omega arith)
+sum-rises f i (suc k) = let h = sum-rises f i k in let e : i + suc k ≡ suc (i + k) = omega arith in rw e (omega arith)
+
+-- one term of a sum, and what stands before it
+pub sum-part : (f : ℕ → ℕ) (i n : ℕ) → i < n → sumBefore f i + f i ≤ sumBefore f n
+sum-part f i n h =
+    let r = sum-rises f (i + 1) (n - (i + 1)) in
+    let e : i + 1 + (n - (i + 1)) ≡ n = omega arith in
+    let s = sumBefore-step f i in
+    let m : sumBefore f (i + 1) ≤ sumBefore f n = rw e at r in
+    omega arith

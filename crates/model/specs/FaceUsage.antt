@@ -85,3 +85,16 @@ usageBytes faces (answer bytes) = bytes
 unfoldable pub usageMemory : List ℕ → ℕ → List ℕ → List ℕ
 usageMemory b z out =
     leaves (usageCheck b z (length out)) out (over out (usageBytes (faceCount (treeOf b) z) (usage (treeOf b) z)))
+
+-- the positive and the negative uses that the bytes tell of
+unfoldable pub positiveUses : List ℕ → ℕ
+positiveUses [] = 0
+positiveUses (x ∷ rest) = x % 2 + positiveUses rest
+
+unfoldable pub negativeUses : List ℕ → ℕ
+negativeUses [] = 0
+negativeUses (x ∷ rest) = x / 2 % 2 + negativeUses rest
+
+-- the zone's type 23 connectivity lengths summed
+unfoldable pub cellEntries : Tree → ℕ → ℕ
+cellEntries t z = sumBefore (usesIn t z) (t .count)
