@@ -10,20 +10,11 @@ use borrow.Author.Tests.{leb-true, eqb-true}
 use Rattle.model.specs.Rules.{passed, _then_}
 use Rattle.model.specs.Image.{totalLength, nodeCount, recordOffset, dimensionOffset, wordCount, dataOffset, dataLength, treeOf, node}
 use Rattle.model.specs.Header.{headerCheck, headerRules, lengthLawful, nodeCountLawful, laidOut}
+use Rattle.model.specs.Bounds.{Laid, Placed}
 use Rattle.model.specs.Records.{tableCheck, recordRules, wordsLawful, dataAtLawful, wordsBefore, bytesBefore}
 use Rattle.model.proofs.Logic.{and-first, and-second}
 use Rattle.model.proofs.Passed.{Hold, check-pass, then-first}
 use Rattle.model.proofs.Accepted.{header-holds, record-holds}
-
--- header, records, dimension words and data lie one after the other and fill the image
-pub record Laid (b : List ℕ) : Type 0 where
-  pub short : length b ≤ 16777216
-  pub some : 1 ≤ nodeCount b
-  pub few : nodeCount b ≤ 4096
-  pub few-words : wordCount b ≤ 49152
-  pub words-at : dimensionOffset b ≡ 32 + 84 * nodeCount b
-  pub data-at : dataOffset b ≡ 32 + 84 * nodeCount b + 8 * wordCount b
-  pub whole : dataOffset b + dataLength b ≡ length b
 
 laid-by : (b : List ℕ) → Hold (headerRules b) → Laid b
 unfolding headerRules lengthLawful nodeCountLawful laidOut
@@ -54,13 +45,6 @@ laid b e = laid-by b (check-pass 0 (headerRules b) e)
 
 pub table-laid : (b : List ℕ) → tableCheck b ≡ passed → Laid b
 table-laid b e = laid-by b (header-holds b e)
-
--- a node's dimension words and data bytes, where rules 1 to 18 hold
-pub record Placed (b : List ℕ) (i : ℕ) : Type 0 where
-  pub words-from : node (treeOf b) i .firstWord ≡ wordsBefore (treeOf b) i
-  pub words-in : node (treeOf b) i .firstWord + node (treeOf b) i .rank ≤ wordCount b
-  pub data-from : node (treeOf b) i .dataAt ≡ bytesBefore (treeOf b) i
-  pub data-in : node (treeOf b) i .dataAt + node (treeOf b) i .dataSize ≤ dataLength b
 
 pub node-placed : (b : List ℕ) → tableCheck b ≡ passed → (i : ℕ) → i < nodeCount b → Placed b i
 unfolding recordRules wordsLawful dataAtLawful treeOf

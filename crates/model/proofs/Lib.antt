@@ -7,3 +7,4 @@ pub mod Bounds
 pub mod Conforming
 pub mod Counting
 pub mod Uses
+pub mod Reading

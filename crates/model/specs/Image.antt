@@ -40,6 +40,10 @@ headerSize = 32
 abbrev pub recordSize : ℕ
 recordSize = 84
 
+-- where the record of node i starts
+abbrev pub recordAt : ℕ → ℕ
+recordAt i = headerSize + recordSize * i
+
 -- what a node record holds
 pub record Node : Type 0 where
   pub name : List ℕ

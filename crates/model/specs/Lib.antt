@@ -4,6 +4,7 @@ pub mod Rules
 pub mod Image
 pub mod Header
 pub mod Records
+pub mod Bounds
 pub mod Containment
 pub mod Values
 pub mod Elements
