@@ -5,7 +5,7 @@ ghost use lib.Dec.{T};
 ghost use lib.IntN.{natAbs};
 ghost use lib.ListN.{length, getD, drop};
 ghost use Rattle.model.specs.Bytes.{le, half, signed};
-ghost use Rattle.words.specs.Width.{isWidth};
+ghost use Rattle.words.specs.Width.{isWidth, twos};
 
 // One byte, widened: its bound comes with it.
 pub fn byte_at(s: &[u8], at: usize) -> u64
@@ -49,4 +49,58 @@ pub fn u64_at(s: &[u8], at: usize) -> u64
     ensures { λ r. ⌜ r ≡ le 8 (drop at (now (s .entry))) ⌝ }
 {
     word_at(s, at, 8)
+}
+
+// The two's-complement number whose bits are x, where half of the patterns are below `half`.
+fn twos_complement(x: u64, half: u64) -> i64
+    requires { ⌜ (x < half + half) × (half ≤ 2 ^ 63) ⌝ }
+    ensures { λ r. ⌜ r ≡ twos half x ⌝ }
+{
+    if x < half {
+        x as i64
+    } else {
+        -1 - ((half - 1 - (x - half)) as i64)
+    }
+}
+
+// The signed number in `width` bytes from `at`, 4 or 8.
+pub fn signed_at(s: &[u8], at: usize, width: usize) -> i64
+    requires { ⌜ (T (isWidth width)) × (at + width ≤ length (now s)) ⌝ }
+    ensures { λ r. ⌜ r ≡ signed width (le width (drop at (now (s .entry)))) ⌝ }
+{
+    if width == 4 {
+        twos_complement(u32_at(s, at), 2147483648)
+    } else {
+        twos_complement(u64_at(s, at), 9223372036854775808)
+    }
+}
+
+// A signed 32 bit number from `at`.
+pub fn i32_at(s: &[u8], at: usize) -> i32
+    requires { ⌜ at + 4 ≤ length (now s) ⌝ }
+    ensures { λ r. ⌜ r ≡ signed 4 (le 4 (drop at (now (s .entry)))) ⌝ }
+{
+    twos_complement(u32_at(s, at), 2147483648) as i32
+}
+
+// A signed 64 bit number from `at`.
+pub fn i64_at(s: &[u8], at: usize) -> i64
+    requires { ⌜ at + 8 ≤ length (now s) ⌝ }
+    ensures { λ r. ⌜ r ≡ signed 8 (le 8 (drop at (now (s .entry)))) ⌝ }
+{
+    signed_at(s, at, 8)
+}
+
+// The magnitude of a signed 32 bit number, of the smallest one too: nothing is negated.
+pub fn magnitude32(x: i32) -> u64
+    ensures { λ r. ⌜ r ≡ natAbs x ⌝ }
+{
+    if x < 0 { (-1 - x) as u64 + 1 } else { x as u64 }
+}
+
+// The magnitude of a signed 64 bit number, of the smallest one too.
+pub fn magnitude64(x: i64) -> u64
+    ensures { λ r. ⌜ r ≡ natAbs x ⌝ }
+{
+    if x < 0 { (-1 - x) as u64 + 1 } else { x as u64 }
 }
