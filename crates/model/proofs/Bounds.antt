@@ -11,6 +11,7 @@ use Rattle.model.specs.Rules.{passed, _then_}
 use Rattle.model.specs.Image.{totalLength, nodeCount, recordOffset, dimensionOffset, wordCount, dataOffset, dataLength, treeOf, node}
 use Rattle.model.specs.Header.{headerCheck, headerRules, lengthLawful, nodeCountLawful, laidOut}
 use Rattle.model.specs.Bounds.{Laid, Placed}
+use Rattle.model.specs.Given.{Sound}
 use Rattle.model.specs.Records.{tableCheck, recordRules, wordsLawful, dataAtLawful, wordsBefore, bytesBefore}
 use Rattle.model.proofs.Logic.{and-first, and-second}
 use Rattle.model.proofs.Passed.{Hold, check-pass, then-first}
@@ -63,3 +64,7 @@ node-placed b e i l =
   where
     t : Rattle.model.specs.Image.Tree
     t = treeOf b
+
+-- rules 1 to 18 hold, with their bounds
+pub sound : (b : List ℕ) → tableCheck b ≡ passed → Sound b
+sound b e = record { laid = table-laid b e; table = e }

@@ -16,5 +16,6 @@ pub mod Corner
 pub mod ArrayValue
 pub mod FaceUsage
 pub mod Answers
+pub mod Given
 pub mod Build
 pub mod Computed

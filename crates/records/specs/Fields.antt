@@ -15,7 +15,7 @@ headerOf b =
       «dimension_offset» = dimensionOffset b;
       «word_count» = wordCount b;
       «data_offset» = dataOffset b;
-      «data_length» = dataLength b
+      «data_length» = dataLength b;
     }
 
 abbrev pub recordOf : Tree → ℕ → Record
@@ -25,5 +25,5 @@ recordOf t i =
       «first_word» = node t i .firstWord;
       parent = parent t i;
       «data_at» = node t i .dataAt;
-      «data_size» = node t i .dataSize
+      «data_size» = node t i .dataSize;
     }
