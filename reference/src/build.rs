@@ -1,8 +1,10 @@
 //! The image builder: nodes laid out as bytes. What it lays out is lawful by rules 1 to 18 when the nodes are, unless a
 //! word was overridden, as the tests of broken images do.
 
+use crate::data_type::DataType;
 use crate::header::Header;
-use crate::records::{padded, DataType, Record, Text};
+use crate::records::Record;
+use crate::text::{padded, Text};
 
 /// One node to be laid out.
 #[derive(Clone, Debug)]

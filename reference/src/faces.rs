@@ -1,6 +1,7 @@
 //! Face usage (document 01: the face ledger): how the cells of a zone use its faces.
 
-use crate::elements::{Faces, SectionData, NFACE_N};
+use crate::elements::{SectionData, NFACE_N};
+use crate::face_ranges::Faces;
 use crate::labels::Label;
 use crate::rejection::Rejection;
 use crate::tree::Tree;

@@ -80,7 +80,12 @@ fn damaged(image: &mut Image, random: &mut Random, damage: Damage) -> Vec<u8> {
             change(image, random);
             image.to_bytes()
         }
-        Damage::Bytes(change) => {
+        Damage::Words(change) => {
+            let mut bytes = image.to_bytes();
+            change(&mut bytes, random);
+            bytes
+        }
+        Damage::Length(change) => {
             let mut bytes = image.to_bytes();
             change(&mut bytes, random);
             bytes

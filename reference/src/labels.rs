@@ -1,6 +1,6 @@
 //! Known labels, the containment table (document 01: placing), and the names that labels are bound to.
 
-use crate::records::{trimmed, Text};
+use crate::text::{trimmed, Text};
 
 /// The labels that the containment table knows.
 #[derive(Clone, Copy, Debug, PartialEq, Eq)]

@@ -3,11 +3,14 @@
 //!
 //! Data flow one way: bytes → header → records → table → tree → rules → calls.
 
+pub mod answers;
 pub mod build;
 pub mod bytes;
 pub mod cases;
 pub mod damage;
+pub mod data_type;
 pub mod elements;
+pub mod face_ranges;
 pub mod faces;
 pub mod generate;
 pub mod header;
@@ -22,6 +25,7 @@ pub mod rejection;
 pub mod sids;
 pub mod sizes;
 pub mod table;
+pub mod text;
 pub mod tree;
 pub mod validation;
 

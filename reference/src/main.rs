@@ -5,10 +5,11 @@ use std::io::{self, Write};
 use std::path::{Path, PathBuf};
 use std::process::ExitCode;
 
+use reference::answers::*;
 use reference::cases::cases;
 use reference::generate::{image, Summary};
 use reference::lawful::SizeClass;
-use reference::queries::*;
+use reference::queries::queries;
 
 const USAGE: &str = "\
 reference validate FILE
@@ -69,9 +70,9 @@ fn answer(call: &str, file: &str, numbers: &[u64]) -> Result<String, String> {
         ("entries", [zone]) => entries_line(&image()?, *zone),
         ("value", [node, k]) => value_line(&image()?, *node, *k),
         ("usage", [zone]) => usage_line(&image()?, *zone),
-        ("path-into", [node, room]) => path_into_line(&image()?, *node, *room as usize),
-        ("entries-into", [zone, room]) => entries_into_line(&image()?, *zone, *room as usize),
-        ("usage-into", [zone, room]) => usage_into_line(&image()?, *zone, *room as usize),
+        ("path-into", [node, room]) => path_into_line(&image()?, *node, length(*room)?),
+        ("entries-into", [zone, room]) => entries_into_line(&image()?, *zone, length(*room)?),
+        ("usage-into", [zone, room]) => usage_into_line(&image()?, *zone, length(*room)?),
         ("corner", [entry @ .., element, corner]) => {
             let entry = entry.try_into().map_err(|_| USAGE.to_string())?;
             corner_line(&image()?, &entry, *element, *corner)
@@ -88,6 +89,11 @@ fn lines(lines: &[String]) -> String {
 /// The number that a word spells.
 fn number(word: &str) -> Result<u64, String> {
     word.parse().map_err(|_| format!("{word}: not a number of 64 bits"))
+}
+
+/// A length of memory, of at most 16 MiB of places.
+fn length(room: u64) -> Result<usize, String> {
+    usize::try_from(room).ok().filter(|&room| room <= 1 << 24).ok_or(format!("{room}: too much memory"))
 }
 
 /// The bytes of a file.

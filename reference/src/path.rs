@@ -1,8 +1,8 @@
 //! Paths (document 01, "Handing out"): the names from below the root, each after a slash; the root's is one slash.
 
-use crate::records::trimmed;
 use crate::rejection::Rejection;
 use crate::table::Table;
+use crate::text::trimmed;
 
 /// The path of any node, or one of rules 1 to 18, or 40.
 pub fn path(image: &[u8], node: u64) -> Result<Vec<u8>, Rejection> {

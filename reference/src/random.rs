@@ -8,14 +8,14 @@ impl Random {
     /// The source of a seed and of an index within it.
     pub fn new(seed: u64, index: u64) -> Random {
         let mut mixed = Random(seed);
-        let start = mixed.next();
+        let start = mixed.bits();
         let mut source = Random(start ^ index.wrapping_mul(0xd1b5_4a32_d192_ed03));
-        source.next();
+        source.bits();
         source
     }
 
     /// The next 64 bits.
-    pub fn next(&mut self) -> u64 {
+    pub fn bits(&mut self) -> u64 {
         self.0 = self.0.wrapping_add(0x9e37_79b9_7f4a_7c15);
         let mut z = self.0;
         z = (z ^ (z >> 30)).wrapping_mul(0xbf58_476d_1ce4_e5b9);
@@ -28,7 +28,7 @@ impl Random {
         if bound == 0 {
             0
         } else {
-            (u128::from(self.next()) * u128::from(bound) >> 64) as u64
+            ((u128::from(self.bits()) * u128::from(bound)) >> 64) as u64
         }
     }
 
@@ -40,7 +40,7 @@ impl Random {
     /// A number from `low` to `high`, both included.
     pub fn between(&mut self, low: i64, high: i64) -> i64 {
         let span = high.wrapping_sub(low) as u64;
-        let step = if span == u64::MAX { self.next() } else { self.below(span + 1) };
+        let step = if span == u64::MAX { self.bits() } else { self.below(span + 1) };
         low.wrapping_add(step as i64)
     }
 

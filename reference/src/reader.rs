@@ -2,9 +2,9 @@
 //! array values.
 
 use crate::bytes::{signed_at, u32_at, u64_at};
+use crate::data_type::DataType;
 use crate::elements::{shape_of, SectionData, Shape};
 use crate::labels::Label;
-use crate::records::DataType;
 use crate::rejection::Rejection;
 use crate::sizes::{data_size_of, DataSize};
 use crate::table::Table;

@@ -3,77 +3,10 @@
 use std::collections::HashSet;
 
 use crate::bytes::{u16_at, u32_at, u64_at};
+use crate::data_type::DataType;
 use crate::header::Header;
 use crate::rejection::Rejection;
-
-/// A name or a label: 32 bytes, padded right with blanks.
-pub type Text = [u8; 32];
-
-/// The text as 32 bytes, padded right with blanks; what is longer is cut off.
-pub fn padded(text: &[u8]) -> Text {
-    let mut whole = [b' '; 32];
-    let length = text.len().min(32);
-    whole[..length].copy_from_slice(&text[..length]);
-    whole
-}
-
-/// The text without the blanks at its right end.
-pub fn trimmed(text: &Text) -> &[u8] {
-    let end = text.iter().rposition(|&b| b != b' ').map_or(0, |k| k + 1);
-    &text[..end]
-}
-
-/// The eleven data types of 002 (LK, a link, is none of them).
-#[derive(Clone, Copy, Debug, PartialEq, Eq)]
-pub enum DataType {
-    MT,
-    C1,
-    B1,
-    I4,
-    U4,
-    R4,
-    I8,
-    U8,
-    R8,
-    X4,
-    X8,
-}
-
-impl DataType {
-    /// The data type that two bytes name.
-    pub fn named(code: [u8; 2]) -> Option<DataType> {
-        Some(match &code {
-            b"MT" => DataType::MT,
-            b"C1" => DataType::C1,
-            b"B1" => DataType::B1,
-            b"I4" => DataType::I4,
-            b"U4" => DataType::U4,
-            b"R4" => DataType::R4,
-            b"I8" => DataType::I8,
-            b"U8" => DataType::U8,
-            b"R8" => DataType::R8,
-            b"X4" => DataType::X4,
-            b"X8" => DataType::X8,
-            _ => return None,
-        })
-    }
-
-    /// Bytes of one value.
-    pub fn width(self) -> usize {
-        match self {
-            DataType::MT => 0,
-            DataType::C1 | DataType::B1 => 1,
-            DataType::I4 | DataType::U4 | DataType::R4 => 4,
-            DataType::I8 | DataType::U8 | DataType::R8 | DataType::X4 => 8,
-            DataType::X8 => 16,
-        }
-    }
-
-    /// Whether it is I4 or I8.
-    pub fn is_integer(self) -> bool {
-        matches!(self, DataType::I4 | DataType::I8)
-    }
-}
+use crate::text::{text_lawful, Text};
 
 /// One node's record, as it stands in the image.
 #[derive(Clone, Copy, Debug, PartialEq, Eq)]
@@ -168,11 +101,6 @@ fn depth(walk: &Walk, record: &Record) -> u32 {
 /// Rule 8: the depth is at most 32.
 fn depth_lawful(walk: &Walk, record: &Record) -> bool {
     depth(walk, record) <= Record::MAX_DEPTH
-}
-
-/// Whether a text has bytes 32 to 126 only and does not begin with a blank.
-fn text_lawful(text: &Text) -> bool {
-    text[0] != b' ' && text.iter().all(|b| (32..=126).contains(b))
 }
 
 /// Rule 9: a lawful text without a slash.

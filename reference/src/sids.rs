@@ -2,8 +2,8 @@
 //! A rule that does not concern a node holds there.
 
 use crate::bytes::Integers;
+use crate::data_type::DataType;
 use crate::labels::{fixed_name, may_hold, once_only, Label, Parent};
-use crate::records::DataType;
 use crate::sizes::{data_size_of, index_dimension, is_structured, is_unstructured};
 use crate::sizes::{read_zone_sizes, ZoneSizes, MAX_NUMBER};
 use crate::tree::Tree;

@@ -1,10 +1,12 @@
 //! The node table of an image that meets rules 1 to 18: what every later rule and call reads from.
 
 use crate::bytes::Integers;
+use crate::data_type::DataType;
 use crate::header::{check_header, Header};
 use crate::labels::Label;
-use crate::records::{check_records, DataType, Record, Text};
+use crate::records::{check_records, Record};
 use crate::rejection::Rejection;
+use crate::text::Text;
 
 /// One node of the table.
 #[derive(Clone, Debug)]

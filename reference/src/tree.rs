@@ -2,9 +2,9 @@
 //! the ancestors that a node's meaning depends on.
 
 use crate::labels::{Label, Parent};
-use crate::records::trimmed;
 use crate::sids::{type_lawful, values_lawful};
 use crate::table::Table;
+use crate::text::trimmed;
 
 /// A table with the answer, for each node, whether it is validated.
 #[derive(Clone, Debug)]

@@ -5,8 +5,8 @@ use super::values::break_type;
 use crate::build::Image;
 use crate::labels::LABELS;
 use crate::random::Random;
-use crate::records::padded;
 use crate::sizes::MAX_NUMBER;
+use crate::text::padded;
 
 /// A known label under any validated node (rule 20, unless its place is lawful).
 pub fn misplaced(image: &mut Image, random: &mut Random) {
@@ -98,7 +98,8 @@ pub fn required_broken(image: &mut Image, random: &mut Random) {
     let node = &mut image.nodes[child];
     if node.is_named("ZoneType") {
         let texts = ["structured", "Unstructured ", "UserDefined", "S", "Structure"];
-        node.set_text(*random.pick(&texts));
+        let text = *random.pick(&texts);
+        node.set_text(text);
     } else if node.is_named("ElementRange") {
         let wide = node.width() == 8;
         let (first, last) = (node.numbers()[0], node.numbers()[1]);

@@ -18,23 +18,24 @@ use values::*;
 
 pub use header::flips;
 
-/// A way to break an image: as nodes, or as bytes.
+/// A way to break an image: its nodes, words of its header, or its length in bytes.
 #[derive(Clone, Copy)]
 pub enum Damage {
     Nodes(fn(&mut Image, &mut Random)),
-    Bytes(fn(&mut Vec<u8>, &mut Random)),
+    Words(fn(&mut [u8], &mut Random)),
+    Length(fn(&mut Vec<u8>, &mut Random)),
 }
 
-use Damage::{Bytes, Nodes};
+use Damage::{Length, Nodes, Words};
 
 /// The rules that an image may break, each with its damages.
 pub const DAMAGES: [(u32, &[Damage]); 32] = [
-    (1, &[Bytes(cut_short)]),
-    (2, &[Bytes(other_form)]),
-    (3, &[Bytes(other_length), Bytes(more_bytes), Bytes(fewer_bytes)]),
-    (4, &[Bytes(node_count_out)]),
-    (5, &[Bytes(word_count_out)]),
-    (6, &[Bytes(other_offset), Bytes(other_count)]),
+    (1, &[Length(cut_short), Length(cut_short), Length(cut_short), Length(too_long)]),
+    (2, &[Words(other_form)]),
+    (3, &[Words(other_length), Length(more_bytes), Length(fewer_bytes)]),
+    (4, &[Words(node_count_out)]),
+    (5, &[Words(word_count_out)]),
+    (6, &[Words(other_offset), Words(other_count)]),
     (7, &[Nodes(other_parent)]),
     (8, &[Nodes(too_deep)]),
     (9, &[Nodes(bad_name)]),
@@ -56,10 +57,10 @@ pub const DAMAGES: [(u32, &[Damage]); 32] = [
     ),
     (17, &[Nodes(other_data_offset), Nodes(data_missing)]),
     (18, &[Nodes(trailing)]),
-    (20, &[Nodes(misplaced), Nodes(misplaced), Nodes(section_in_structured_zone)]),
+    (20, &[Nodes(misplaced), Nodes(misplaced), Nodes(misplaced), Nodes(misplaced), Nodes(section_in_structured_zone)]),
     (21, &[Nodes(renamed), Nodes(second_under_other_name)]),
     (23, &[Nodes(required_removed), Nodes(required_broken), Nodes(no_base)]),
-    (24, &[Nodes(other_type), Nodes(other_shape), Nodes(rind_to_default)]),
+    (24, &[Nodes(other_type), Nodes(other_shape), Nodes(section_array_type), Nodes(rind_to_default)]),
     (25, &[Nodes(other_values), Nodes(other_values), Nodes(rind_to_default)]),
     (26, &[Nodes(other_array_size), Nodes(other_rind), Nodes(other_location), Nodes(rind_broken)]),
     (27, &[Nodes(other_element_type)]),

@@ -146,7 +146,7 @@ pub fn wrapping_product(image: &mut Image, random: &mut Random) {
     };
     let node = &mut image.nodes[number];
     let values: u64 = node.dimensions.iter().product();
-    let odd = random.next() | 1;
+    let odd = random.bits() | 1;
     node.dimensions = match random.below(4) {
         0 => vec![odd, inverse(odd).wrapping_mul(values)],
         1 => vec![1 << 32, 1 << 32, values],

@@ -5,8 +5,8 @@ use super::values::break_type;
 use crate::build::Image;
 use crate::lawful::FIXED_TYPES;
 use crate::random::Random;
-use crate::records::padded;
 use crate::sizes::MAX_NUMBER;
+use crate::text::padded;
 
 /// An element type that is not taken (rule 27).
 pub fn other_element_type(image: &mut Image, random: &mut Random) {

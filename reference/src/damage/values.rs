@@ -1,6 +1,6 @@
 //! Damage to data types, dimensions, values and array sizes (rules 24 to 26).
 
-use super::pick::{add_anywhere, is_validated, labelled, some_node, validated_node};
+use super::pick::{add_anywhere, is_validated, labelled, section, some_node, validated_node};
 use crate::build::{Image, Node};
 use crate::lawful::STORING_TYPES;
 use crate::random::Random;
@@ -70,6 +70,23 @@ pub fn other_shape(image: &mut Image, random: &mut Random) {
     }
 }
 
+/// An array of a section with a type that it may not have: ElementStartOffset where none is needed, or another one
+/// (rule 24).
+pub fn section_array_type(image: &mut Image, random: &mut Random) {
+    let Some(section) = section(image, random) else {
+        return;
+    };
+    let offsets = image.child(section, "ElementStartOffset").is_none() && !random.one_in(3);
+    let node = if offsets {
+        let mut node = Node::list("ElementStartOffset", *random.pick(&[4, 8]), &[0, 3]);
+        break_type(random, &mut node);
+        node
+    } else {
+        Node::empty("Volume", "DataArray_t")
+    };
+    add_anywhere(image, random, section, node);
+}
+
 /// A Rind or GridLocation that does not conform, its arrays given the default size.
 pub fn rind_to_default(image: &mut Image, random: &mut Random) {
     let label = *random.pick(&["Rind_t", "GridLocation_t"]);
@@ -122,7 +139,8 @@ pub fn other_values(image: &mut Image, random: &mut Random) {
         }
         "GridLocation_t" => {
             let texts = ["vertex", "Vertex ", "CellCente", "FaceCenter", "CellCenterCellCenter"];
-            node.set_text(*random.pick(&texts));
+            let text = *random.pick(&texts);
+            node.set_text(text);
         }
         "Elements_t" => {
             numbers[1] = *random.pick(&[-1, i64::from(i32::MIN)]);
