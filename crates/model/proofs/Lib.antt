@@ -1,6 +1,7 @@
 mod Cases
 pub mod Logic
 pub mod Walks
+pub mod Members
 pub mod Passed
 pub mod Accepted
 pub mod Bounds

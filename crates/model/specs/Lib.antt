@@ -16,5 +16,7 @@ pub mod Corner
 pub mod ArrayValue
 pub mod FaceUsage
 pub mod Answers
+pub mod Reads
+pub mod Demand3
 pub mod Build
 pub mod Computed
