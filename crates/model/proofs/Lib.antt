@@ -2,6 +2,8 @@ mod Cases
 pub mod Logic
 pub mod Walks
 pub mod Members
+pub mod Flat
+pub mod Runs
 pub mod Passed
 pub mod Accepted
 pub mod Bounds
