@@ -4,6 +4,7 @@ pub mod Walks
 pub mod Members
 pub mod Flat
 pub mod Runs
+pub mod TwosComplement
 pub mod Passed
 pub mod Accepted
 pub mod Bounds
