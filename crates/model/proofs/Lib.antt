@@ -5,6 +5,7 @@ pub mod Members
 pub mod Flat
 pub mod Runs
 pub mod TwosComplement
+pub mod Arrays
 pub mod Passed
 pub mod Accepted
 pub mod Bounds
