@@ -6,6 +6,7 @@ pub mod Flat
 pub mod Runs
 pub mod TwosComplement
 pub mod Arrays
+pub mod InZone
 pub mod Passed
 pub mod Accepted
 pub mod Bounds
