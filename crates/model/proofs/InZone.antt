@@ -113,7 +113,7 @@ module _ {b : List ℕ} {z s : ℕ} (a : InZone b z s) where
 
   module _ (o : hasOffsets (elementType (treeOf b) s) ≡ true) where
     -- 29: n + 1 start offsets, so they are there
-    offsets-size : size (treeOf b) (offsetsOf (treeOf b) s) ≡ elementCount (treeOf b) s + 1
+    pub offsets-size : size (treeOf b) (offsetsOf (treeOf b) s) ≡ elementCount (treeOf b) s + 1
     unfolding elementRules lengthsFit
     offsets-size = eqb-true _ _ (rw o at (section-rule 29))
 

@@ -7,6 +7,7 @@ pub mod Runs
 pub mod TwosComplement
 pub mod Arrays
 pub mod InZone
+pub mod Corners
 pub mod Passed
 pub mod Accepted
 pub mod Bounds
