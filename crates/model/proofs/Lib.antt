@@ -8,6 +8,7 @@ pub mod TwosComplement
 pub mod Arrays
 pub mod InZone
 pub mod Corners
+pub mod References
 pub mod Passed
 pub mod Accepted
 pub mod Bounds
