@@ -1,28 +1,25 @@
 -- A section's index arrays: of I4 or I8 with one dimension, their numbers lie inside the image, and the numbers at their place are those that the node stores.
-use Prim.Native.Nat.{ℕ, zero, suc, _+_, _*_, _-_, _≤_, _<_}
-use mathlib.Core.Path.{_≡_, refl, sym, ap, _∙_}
-use mathlib.Core.Bool.{Bool, true, false, cond, not, _&&_, _||_}
+use Prim.Native.Nat.{ℕ, _+_, _*_, _≤_, _<_}
+use mathlib.Core.Path.{_≡_, sym, _∙_}
+use mathlib.Core.Bool.{true, false, not, _&&_, _||_}
 use mathlib.Core.List.{List, [], _∷_}
 use native.Mathlib.Omega.{arith}
 use native.Mathlib.Nat.{mul-comm, mul-le-mul-left}
-use lib.ListN.{length, getD, drop}
-use lib.Dec.{eqb, leb, ltb}
+use lib.ListN.{length, getD}
+use lib.Dec.{eqb}
 use borrow.Author.Tests.{eqb-true, lt-ltb, le-leb}
 use Rattle.model.specs.Lists.{row, among}
-use Rattle.model.specs.Bytes.{text, spells}
 use Rattle.model.specs.Rules.{passed}
-use Rattle.model.specs.Image.{Tree, treeOf, nodeCount, dataOffset, dataLength, node, name, parent, dimensions, dataType, width, widths, number, I4, I8}
-use Rattle.model.specs.Bounds.{Laid, Placed}
+use Rattle.model.specs.Image.{Tree, treeOf, nodeCount, dataOffset, node, dimensions, dataType, width, widths, number, I4, I8}
 use Rattle.model.specs.Records.{tableCheck, recordRules, product, dataSizeLawful}
 use Rattle.model.specs.Containment.{role, Elements, DataArray, found}
 use Rattle.model.specs.Values.{typed, flat, size, typeLawful, arrayType, sectionArrayType, indexArray, conforming}
 use Rattle.model.specs.Sections.{dataStart}
 use Rattle.model.specs.Corner.{widthLawful, inside, numberAt}
-use Rattle.model.proofs.Logic.{untrue, and-first, and-second, and-both, or-cases, or-left, or-right}
-use Rattle.model.proofs.Passed.{Claim}
+use Rattle.model.proofs.Logic.{untrue, and-second, and-both, or-cases}
 use Rattle.model.proofs.Accepted.{record-rule}
 use Rattle.model.proofs.Bounds.{table-laid, node-placed}
-use Rattle.model.proofs.Conforming.{conforming-inside, conforming-type, conforming-parent, conforming-role, conforming-name}
+use Rattle.model.proofs.Conforming.{conforming-type, conforming-parent, conforming-role}
 use Rattle.model.proofs.Reading.{number-at}
 
 -- I4 and I8 are 4 and 8 bytes wide
@@ -31,6 +28,10 @@ unfolding among widths widthLawful
 integer-width y e =
     or-cases (eqb y 4) (eqb y 7 || false) e (λ h. rw (eqb-true y 4 h))
     (λ h. or-cases (eqb y 7) false h (λ g. rw (eqb-true y 7 g)) (λ g. untrue g))
+
+pub width-lawful : (t : Tree) (i : ℕ) → typed t i (I4 ∷ I8 ∷ []) ≡ true → widthLawful (width t i) ≡ true
+unfolding typed width
+width-lawful t i e = integer-width (dataType t i) e
 
 one-dimension : (ds : List ℕ) → length ds ≡ 1 → product ds ≡ getD ds 0 0
 unfolding product
@@ -51,12 +52,12 @@ module _ (b : List ℕ) (yes : tableCheck b ≡ passed) where
   data-size j l = eqb-true _ _ (and-second (not (among 0 (dimensions (treeOf b) j))) _ (record-rule b yes 16 j l))
 
   pub indices : (j : ℕ) → j < nodeCount b → typed (treeOf b) j (I4 ∷ I8 ∷ []) ≡ true → flat (treeOf b) j ≡ true → Indices b j
-  unfolding typed flat size width
+  unfolding flat size
   indices j l y f =
       let p = one-dimension (dimensions (treeOf b) j) (eqb-true _ 1 f) in
       record {
         inside-table = l;
-        wide = integer-width (dataType (treeOf b) j) y;
+        wide = width-lawful (treeOf b) j y;
         fill = rw (← p) (mul-comm (width (treeOf b) j) (product (dimensions (treeOf b) j)) ∙ data-size j l);
       }
 

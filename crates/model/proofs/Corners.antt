@@ -1,25 +1,24 @@
 -- The corner reader with the entry of a section of an accepted image: what it reads is what the section's nodes store, and 43 never comes.
-use Prim.Native.Nat.{ℕ, zero, suc, _+_, _*_, _-_, _≤_, _<_}
-use mathlib.Core.Path.{_≡_, refl, sym, ap, _∙_}
-use mathlib.Core.Bool.{Bool, true, false, cond, not, _&&_, _||_}
+use Prim.Native.Nat.{ℕ, suc, _+_, _*_, _-_, _≤_, _<_}
+use mathlib.Core.Path.{_≡_, refl, ap, _∙_}
+use mathlib.Core.Bool.{Bool, true, false, cond, not, _&&_}
 use mathlib.Core.List.{List, [], _∷_}
 use native.Mathlib.Omega.{arith}
-use lib.IntN.{ℤ}
-use lib.Dec.{eqb, leb, ltb}
-use borrow.Author.Tests.{leb-true, le-leb, lt-leb, lt-ltb}
+use lib.Dec.{ltb}
+use borrow.Author.Tests.{le-leb, lt-ltb}
 use Rattle.model.specs.Lists.{_⊃_}
 use Rattle.model.specs.Bytes.{negative, below, signed, half}
-use Rattle.model.specs.Rules.{Answer, rejected, answer, rejection, _unless_, check, _then_, _gives_}
-use Rattle.model.specs.Image.{Tree, treeOf, width, number}
-use Rattle.model.specs.Values.{size, offsetsOf, connectivityOf}
-use Rattle.model.specs.Elements.{nodesPer, hasOffsets, taken, elementType, firstElement, lastElement, elementCount, startOffset, reference, connectivityLength, elementStart, elementSize, cornerReference, elementRules}
+use Rattle.model.specs.Rules.{rejected, answer, rejection, _unless_, check, _then_, _gives_}
+use Rattle.model.specs.Image.{treeOf, width, number}
+use Rattle.model.specs.Values.{offsetsOf, connectivityOf}
+use Rattle.model.specs.Elements.{nodesPer, hasOffsets, elementType, firstElement, lastElement, elementCount, startOffset, reference, connectivityLength, elementStart, elementSize, cornerReference, elementRules}
 use Rattle.model.specs.Sections.{entry, dataStart}
 use Rattle.model.specs.Corner.{inEntry, inside, numberAt, entryStart, entrySize, startsBefore, readable, isCorner, cornerCheck, cornerNumber, cornerAnswer}
-use Rattle.model.proofs.Logic.{untrue, and-both, implied, between, not-between}
+use Rattle.model.proofs.Logic.{and-both, implied, between, not-between}
 use Rattle.model.proofs.Accepted.{table-passed}
 use Rattle.model.proofs.TwosComplement.{not-negative, below-is}
 use Rattle.model.proofs.Arrays.{indices-inside, indices-at}
-use Rattle.model.proofs.InZone.{InZone, Span, section-rule, connectivity, offsets, offsets-size, offsets-small, span}
+use Rattle.model.proofs.InZone.{InZone, section-rule, connectivity, offsets, offsets-size, offsets-small, span}
 
 module _ {b : List ℕ} {z s : ℕ} (a : InZone b z s) where
   -- where an element starts

@@ -1,30 +1,27 @@
 -- Demand 3, proved. A read with the k-th entry is the corner reader's at the zone's k-th section, whose answer the image's rules decide; and a run of
 -- reads changes nothing, so each of its reads is one from the given state.
-use Prim.Native.Nat.{ℕ, zero, suc, _+_, _*_, _-_, _/_, _≤_, _<_}
+use Prim.Native.Nat.{ℕ, _+_, _*_, _-_, _≤_, _<_}
 use mathlib.Core.Path.{_≡_, refl, sym, ap, _∙_}
-use mathlib.Core.Bool.{Bool, true, false, _&&_}
-use mathlib.Core.List.{List, [], _∷_, _++_}
+use mathlib.Core.Bool.{Bool, true, false}
+use mathlib.Core.List.{List, _++_}
 use mathlib.Core.Logic.{_↔_, _⊎_, inl, inr, ⊎-elim}
 use native.Mathlib.Omega.{arith}
-use lib.ListN.{length, getD, length-append}
-use lib.IntN.{ℤ, pos, natAbs}
+use lib.ListN.{length, length-append}
+use lib.IntN.{ℤ, natAbs}
 use lib.Dec.{leb, ltb}
 use borrow.Author.Tests.{leb-true, leb-false, ltb-true, ltb-false}
 use Rattle.model.specs.declared.Rejection.{Rejection}
 use Rattle.model.specs.declared.Corner.{Corner}
-use Rattle.model.specs.Lists.{listFrom}
-use Rattle.model.specs.Bytes.{signed}
 use Rattle.model.specs.Rules.{Answer, rejected, answer, rejection, passed}
-use Rattle.model.specs.Image.{Tree, treeOf, nodeCount, width}
+use Rattle.model.specs.Image.{Tree, treeOf}
 use Rattle.model.specs.Containment.{isZone, sectionOf}
-use Rattle.model.specs.Values.{connectivityOf}
 use Rattle.model.specs.Elements.{NFACE, elementType, firstElement, lastElement, elementStart, cornerReference, connectivityLength}
 use Rattle.model.specs.Validation.{imageCheck}
 use Rattle.model.specs.Sections.{sectionNodes, entry, entries, sectionEntries, allNumbers}
 use Rattle.model.specs.Corner.{cornerAnswer}
 use Rattle.model.specs.Answers.{cornerTells}
-use Rattle.model.specs.Reads.{entriesIn, sectionAt, readAnswer, Read, Step, IsRead, Run, All}
-use Rattle.model.specs.Demand3.{sectionCount, sectionNode, given, InSection, sizeIn, IsCornerOf, storedAt, OneForEach, NodeNumber, FaceNumber, ReadAnswers, ReadHolds, Listed, Claim3, Demand3}
+use Rattle.model.specs.Reads.{entriesIn, sectionAt, readAnswer, Step, IsRead}
+use Rattle.model.specs.Demand3.{sectionCount, sectionNode, given, InSection, sizeIn, IsCornerOf, storedAt, OneForEach, NodeNumber, FaceNumber, ReadAnswers, ReadHolds, Listed, Demand3}
 use Rattle.model.proofs.Passed.{refused}
 use Rattle.model.proofs.Members.{list-length, Within, member, members-rise, place}
 use Rattle.model.proofs.Flat.{numbers-length, entries-length, entry-at}
@@ -32,7 +29,8 @@ use Rattle.model.proofs.Runs.{read-listed, read-leaves, run-exists, run
 use Rattle.model.proofs.Accepted.{accepted}
 use Rattle.model.proofs.InZone.{InZone}
 use Rattle.model.proofs.Corners.{corner-inside, element-inside, answer-41, answer-42, answer-stored}
-use Rattle.model.proofs.References.{InRange, one-section, HasFace, face-inside, node-inside, node-signed, face-signed}
+use Rattle.model.proofs.NoneNegative.{not-one-negative}
+use Rattle.model.proofs.References.{one-section, HasFace, face-inside, node-inside, node-signed, face-signed}
 
 -- the list of a zone's entries
 module _ (t : Tree) (z : ℕ) where
@@ -59,16 +57,6 @@ module _ (t : Tree) (z : ℕ) where
       let p = place (sectionOf t z) (t .count) 0 s (record { from = omega arith; to = omega arith; holds = e }) in
       (p .0, omega (arith, p .1, nodes-counted), p .2)
 
-  one-for-each : OneForEach t z
-  one-for-each =
-      record {
-        nodes-counted = nodes-counted;
-        numbers-counted = numbers-counted;
-        each-is = λ k h. (omega (arith, section-at k h .to), section-at k h .holds);
-        in-order = sections-rise;
-        each-listed = section-listed;
-      }
-
   -- no section is listed twice
   listed-once : (j k : ℕ) → j < sectionCount t z → k < sectionCount t z → sectionNode t z j ≡ sectionNode t z k → j ≡ k
   listed-once j k l m e = by-order (ltb j k) refl (ltb k j) refl
@@ -85,11 +73,23 @@ module _ (b : List ℕ) (z : ℕ) (rest : List ℕ) (k : ℕ) (h : k < sectionCo
       let n : length (allNumbers (sectionEntries (treeOf b) z) ++ rest) ≡ 9 * sectionCount (treeOf b) z + length rest = rw length-append (rw (numbers-counted (treeOf b) z)) in
       omega arith
 
-  read-is : (el c : ℕ) → readAnswer b (given b z rest .entries) k el c ≡ cornerAnswer b (entry (treeOf b) (sectionNode (treeOf b) z k)) el c
+  entry-is : sectionAt (given b z rest .entries) k ≡ entry (treeOf b) (sectionNode (treeOf b) z k)
   unfolding sectionEntries
-  read-is el c =
-      read-listed b (given b z rest .entries) k el c entry-listed
-      ∙ ap (λ e. cornerAnswer b e el c) (entry-at (treeOf b) (sectionNodes (treeOf b) z) rest k (omega (arith, nodes-counted (treeOf b) z)))
+  entry-is = entry-at (treeOf b) (sectionNodes (treeOf b) z) rest k (omega (arith, nodes-counted (treeOf b) z))
+
+  read-is : (el c : ℕ) → readAnswer b (given b z rest .entries) k el c ≡ cornerAnswer b (entry (treeOf b) (sectionNode (treeOf b) z k)) el c
+  read-is el c = read-listed b (given b z rest .entries) k el c entry-listed ∙ rw entry-is
+
+one-for-each : (b : List ℕ) (z : ℕ) (rest : List ℕ) → OneForEach b z rest
+one-for-each b z rest =
+    record {
+      nodes-counted = nodes-counted (treeOf b) z;
+      numbers-counted = numbers-counted (treeOf b) z;
+      each-is = λ k h. let w = section-at (treeOf b) z k h in (omega (arith, w .to), w .holds);
+      in-order = sections-rise (treeOf b) z;
+      each-listed = section-listed (treeOf b) z;
+      each-entry = entry-is b z rest;
+    }
 
 -- a number is between two others, or it is not
 inside-or-not : (lo x hi : ℕ) → ((lo ≤ x) × (x ≤ hi)) ⊎ ((lo ≤ x) × (x ≤ hi) → ⊥)
@@ -234,7 +234,8 @@ module _ (b : List ℕ) (ok : imageCheck b ≡ passed) (z : ℕ) (rest : List �
 pub demand3 : Demand3
 demand3 b c e z zone rest =
     record {
-      one-for-each = one-for-each (treeOf b) z;
+      one-for-each = one-for-each b z rest;
+      none-negative = λ k h. not-one-negative (in-zone b (accepted b e) z rest k h) zone;
       every-read = λ qs l ms end run. all-of (read-holds b (accepted b e) z rest zone) (run-kept l run);
       some-run = run-exists (given b z rest);
     }

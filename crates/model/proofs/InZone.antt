@@ -2,19 +2,19 @@
 -- and the last one ends where the connectivity does.
 use Prim.Native.Nat.{ℕ, zero, suc, _+_, _*_, _-_, _≤_, _<_}
 use mathlib.Core.Path.{_≡_, refl, sym, ap, _∙_}
-use mathlib.Core.Bool.{Bool, true, false, cond, not, _&&_, _||_}
+use mathlib.Core.Bool.{Bool, true, false, _&&_}
 use mathlib.Core.List.{List, [], _∷_}
 use native.Mathlib.Omega.{arith}
 use native.Mathlib.Nat.{suc-mul, mul-le-mul-right}
-use lib.ListN.{length, getD, drop, List·getD-eq-default}
-use lib.Dec.{eqb, leb, ltb}
-use borrow.Author.Tests.{eqb-true, leb-true, ltb-true, ltb-false, lt-ltb}
-use Rattle.model.specs.Lists.{_⊃_, row}
+use lib.ListN.{length, drop, List·getD-eq-default}
+use lib.Dec.{leb, ltb}
+use borrow.Author.Tests.{eqb-true, leb-true, ltb-true, ltb-false}
+use Rattle.model.specs.Lists.{row}
 use Rattle.model.specs.Bytes.{le, numbers, text, spells, half, below}
 use Rattle.model.specs.Rules.{passed}
 use Rattle.model.specs.Image.{Tree, treeOf, nodeCount, nodeOf, nodesOf, node, name, dimensions, width, number, I4, I8}
 use Rattle.model.specs.Containment.{role, Elements, IndexRange, DataArray, sectionOf, found}
-use Rattle.model.specs.Values.{sidsRules, size, typed, flat, indexArray, complete, rangeValue, valueLawful, conforming, rangeOf, offsetsOf, connectivityOf}
+use Rattle.model.specs.Values.{sidsRules, size, typed, indexArray, complete, rangeValue, valueLawful, conforming, rangeOf, offsetsOf, connectivityOf}
 use Rattle.model.specs.Elements.{nodesPer, hasOffsets, taken, elementType, firstElement, lastElement, elementCount, startOffset, connectivityLength, elementStart, elementRules, lengthsFit, startsAtZero, rises, allRise, endsAtLength}
 use Rattle.model.specs.Validation.{imageCheck}
 use Rattle.model.proofs.Logic.{untrue, and-first, and-second, or-left, or-right, or-cases, when}
@@ -75,12 +75,15 @@ module _ {b : List ℕ} {z s : ℕ} (a : InZone b z s) where
   unfolding sidsRules complete row
   both-found = rw role-is at (sids-rule b (a .accepted) 23 s (a .listed) (parts .is-validated))
 
+  pub range-found : found (treeOf b) (rangeOf (treeOf b) s) ≡ true
+  range-found = and-first _ (found (treeOf b) (connectivityOf (treeOf b) s)) both-found
+
   -- 25: 1 ≤ first ≤ last ≤ 2,147,483,647
   range-lawful : rangeValue (treeOf b) (rangeOf (treeOf b) s) ≡ true
   unfolding valueLawful row rangeOf
   range-lawful =
-      let h = and-first _ (found (treeOf b) (connectivityOf (treeOf b) s)) both-found in
-      rw (conforming-role (treeOf b) s IndexRange (text "ElementRange") h) at (conforming-value (treeOf b) s IndexRange (text "ElementRange") h)
+      rw (conforming-role (treeOf b) s IndexRange (text "ElementRange") range-found) at
+      (conforming-value (treeOf b) s IndexRange (text "ElementRange") range-found)
 
   pub range : Range (treeOf b) s
   unfolding rangeValue firstElement lastElement

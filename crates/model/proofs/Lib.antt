@@ -9,6 +9,7 @@ pub mod Arrays
 pub mod InZone
 pub mod Corners
 pub mod References
+pub mod NoneNegative
 pub mod Demand3
 pub mod Passed
 pub mod Accepted

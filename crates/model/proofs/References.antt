@@ -1,28 +1,25 @@
 -- What a section of an accepted image refers to: nodes from 1 to VertexSize, or faces. No element number is in two sections of a zone.
-use Prim.Native.Nat.{ℕ, zero, suc, _+_, _*_, _-_, _≤_, _<_}
-use mathlib.Core.Path.{_≡_, refl, sym, ap, _∙_}
-use mathlib.Core.Bool.{Bool, true, false, cond, not, _&&_, _||_}
+use Prim.Native.Nat.{ℕ, _≤_, _<_}
+use mathlib.Core.Path.{_≡_, refl, sym, _∙_}
+use mathlib.Core.Bool.{Bool, true, false, not, _&&_}
 use mathlib.Core.List.{List, [], _∷_}
 use native.Mathlib.Omega.{arith}
-use native.Mathlib.Decide.{ℕ-discrete}
-use lib.IntN.{ℤ, pos, natAbs}
+use lib.IntN.{pos, natAbs}
 use lib.Dec.{eqb, leb, ltb}
-use borrow.Author.Tests.{eqb-true, eqb-false, ne-eqb, leb-true, le-leb, ltb-true, ltb-false, not-true}
-use Rattle.model.specs.Lists.{_⊃_, row, everyFrom}
-use Rattle.model.specs.Bytes.{text, same, signed, magnitude, half}
+use borrow.Author.Tests.{eqb-true, ne-eqb, leb-true, le-leb, ltb-true, ltb-false, not-true}
+use Rattle.model.specs.Lists.{row, everyFrom}
+use Rattle.model.specs.Bytes.{text, same, signed}
 use Rattle.model.specs.Rules.{passed}
 use Rattle.model.specs.Image.{Tree, treeOf, nodeCount, parent, stored, width}
-use Rattle.model.specs.Containment.{role, Root, Zone, Elements, isZone, validatedAs, validated, sectionOf, mayHold, found}
-use Rattle.model.specs.Values.{sidsRules, reads, structured, unstructured, zoneTypeOf, indexDimension, vertexSize, cellSize, unstructuredSizes, zoneValue, typeLawful, valueLawful, placed, connectivityOf, rangeOf}
+use Rattle.model.specs.Containment.{role, Zone, Elements, isZone, validatedAs, validated, sectionOf, mayHold}
+use Rattle.model.specs.Values.{sidsRules, reads, structured, unstructured, zoneTypeOf, indexDimension, vertexSize, cellSize, unstructuredSizes, zoneValue, typeLawful, valueLawful, placed, connectivityOf}
 use Rattle.model.specs.Elements.{NGON, NFACE, elementType, firstElement, lastElement, inRange, meets, overlap, overlaps, reference, connectivityLength, isNode, allNodes, faceSection, hasFace, faceOf, faceNumber, isFace, allFaces, elementRules}
 use Rattle.model.specs.Validation.{imageCheck}
-use Rattle.model.proofs.Logic.{untrue, and-first, and-second, and-both, or-cases, when, between}
-use Rattle.model.proofs.Walks.{every-at, some-by, Some, some-at}
-use Rattle.model.proofs.Passed.{Claim}
+use Rattle.model.proofs.Logic.{untrue, and-first, and-second, and-both, or-cases, when}
+use Rattle.model.proofs.Walks.{every-at, some-by, some-at}
 use Rattle.model.proofs.Accepted.{sids-rule}
 use Rattle.model.proofs.TwosComplement.{half-wide, signed-is, magnitude-is}
-use Rattle.model.proofs.Arrays.{Indices}
-use Rattle.model.proofs.InZone.{InZone, parts, role-is, section-rule, connectivity, Range, range}
+use Rattle.model.proofs.InZone.{InZone, parts, role-is, section-rule, connectivity, range}
 
 -- an element number in a section's range
 pub record InRange (t : Tree) (s f : ℕ) : Type 0 where
@@ -61,11 +58,11 @@ module _ {b : List ℕ} {z s : ℕ} (a : InZone b z s) where
       (when (eqb (role (treeOf b) s) Elements) _ (and-second (mayHold (role (treeOf b) (parent (treeOf b) s)) (role (treeOf b) s)) _ h) (parts a .elements)))
 
   module _ (zone : isZone (treeOf b) z ≡ true) where
-    zone-kind : (eqb (role (treeOf b) z) Zone && validated (treeOf b) z) ≡ true
+    pub zone-kind : (eqb (role (treeOf b) z) Zone && validated (treeOf b) z) ≡ true
     unfolding isZone validatedAs
     zone-kind = and-second (ltb z (treeOf b .count)) _ zone
 
-    zone-listed : z < nodeCount b
+    pub zone-listed : z < nodeCount b
     unfolding isZone treeOf
     zone-listed = ltb-true z (nodeCount b) (and-first (ltb z (nodeCount b)) _ zone)
 

@@ -1,18 +1,15 @@
 -- Runs of reads: every list of reads has one, and each read of a run finds and leaves the state that was given.
-use Prim.Native.Nat.{ℕ, _/_, _<_}
-use mathlib.Core.Path.{_≡_, refl, subst, sym, ap, _∙_}
-use mathlib.Core.Bool.{true}
+use Prim.Native.Nat.{ℕ, _<_}
+use mathlib.Core.Path.{_≡_, refl}
 use mathlib.Core.List.{List, [], _∷_}
 use lib.IntN.{ℤ}
-use lib.Dec.{ltb}
 use borrow.Author.Tests.{lt-ltb}
-use Rattle.model.specs.declared.Section.{Section}
 use Rattle.model.specs.declared.Corner.{Corner}
 use Rattle.model.specs.declared.Corner.the-variants as Corner
 use Rattle.model.specs.Rules.{Answer, rejected, answer, check, _then_}
 use Rattle.model.specs.Corner.{cornerAnswer}
 use Rattle.model.specs.Answers.{cornerTells}
-use Rattle.model.specs.Reads.{CornerRead, EntryRead, entriesIn, sectionAt, readAnswer, State, Read, Step, IsRead, Run, done, next, All, all-none, all-more}
+use Rattle.model.specs.Reads.{entriesIn, sectionAt, readAnswer, State, Read, Step, IsRead, Run, done, next, All, all-none, all-more}
 
 -- a read with an entry of the list is the corner reader's
 pub read-listed : (image entries : List ℕ) (k element corner : ℕ) → k < entriesIn entries

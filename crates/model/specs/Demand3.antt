@@ -1,6 +1,6 @@
 -- Demand 3: what an acceptance buys. One claim about every list of corner reads with a zone's section entries.
 -- The image decides: the right sides speak of its nodes, by the definitions of the element rules, never of an entry's fields.
-use Prim.Native.Nat.{ℕ, _+_, _*_, _-_, _≤_, _<_}
+use Prim.Native.Nat.{ℕ, _*_, _-_, _≤_, _<_}
 use mathlib.Core.Path.{_≡_}
 use mathlib.Core.Bool.{true}
 use mathlib.Core.List.{List, _++_}
@@ -14,8 +14,8 @@ use Rattle.model.specs.Bytes.{signed}
 use Rattle.model.specs.Rules.{rejected, answer, rejection}
 use Rattle.model.specs.Image.{Tree, treeOf, width}
 use Rattle.model.specs.Containment.{sectionOf, isZone}
-use Rattle.model.specs.Values.{vertexSize, connectivityOf}
-use Rattle.model.specs.Elements.{NGON, NFACE, elementType, firstElement, lastElement, elementSize, cornerReference}
+use Rattle.model.specs.Values.{vertexSize, rangeOf, offsetsOf, connectivityOf}
+use Rattle.model.specs.Elements.{NGON, NFACE, elementType, firstElement, lastElement, elementCount, startOffset, hasOffsets, elementSize, cornerReference}
 use Rattle.model.specs.Validation.{Counts, validation}
 use Rattle.model.specs.Sections.{entryLength, sectionNodes, entry, sectionEntries, allNumbers}
 use Rattle.model.specs.Answers.{cornerTells}
@@ -48,16 +48,6 @@ module _ (t : Tree) (z k : ℕ) where
       signed (width t (connectivityOf t (sectionNode t z k)))
       (cornerReference t (sectionNode t z k) (element - firstElement t (sectionNode t z k)) corner)
 
--- "the section entries given for that zone, one for each of its judged sections"
-pub record OneForEach (t : Tree) (z : ℕ) : Type 0 where
-  -- the list of nodes is as long as there are such sections, and so is the list of entries
-  pub nodes-counted : length (sectionNodes t z) ≡ sectionCount t z
-  pub numbers-counted : length (allNumbers (sectionEntries t z)) ≡ entryLength * sectionCount t z
-  -- each node of the list is one, in node order; each one is in the list
-  pub each-is : (k : ℕ) → k < sectionCount t z → (sectionNode t z k < t .count) × (sectionOf t z (sectionNode t z k) ≡ true)
-  pub in-order : (j k : ℕ) → j < k → k < sectionCount t z → sectionNode t z j < sectionNode t z k
-  pub each-listed : (s : ℕ) → s < t .count → sectionOf t z s ≡ true → (k : ℕ) × (k < sectionCount t z) × (sectionNode t z k ≡ s)
-
 -- "A node number so read lies from 1 to VertexSize."
 pub record NodeNumber (t : Tree) (z : ℕ) (n : ℤ) : Type 0 where
   pub node : ℕ
@@ -65,7 +55,30 @@ pub record NodeNumber (t : Tree) (z : ℕ) (n : ℤ) : Type 0 where
   pub from-one : 1 ≤ node
   pub to-vertex-size : node ≤ vertexSize t z 0
 
+-- "type, range, offsets and connectivity, signed, in their own widths" (document 01): a section's numbers but for the connectivity, and VertexSize,
+-- are not negative, so their bits are their values
+pub record NoneNegative (t : Tree) (z s : ℕ) : Type 0 where
+  pub type-is : signed (width t s) (elementType t s) ≡ pos (elementType t s)
+  pub first-is : signed (width t (rangeOf t s)) (firstElement t s) ≡ pos (firstElement t s)
+  pub last-is : signed (width t (rangeOf t s)) (lastElement t s) ≡ pos (lastElement t s)
+  pub offset-is : hasOffsets (elementType t s) ≡ true → (i : ℕ) → i ≤ elementCount t s → signed (width t (offsetsOf t s)) (startOffset t s i) ≡ pos (startOffset t s i)
+  pub vertex-size-is : signed (width t z) (vertexSize t z 0) ≡ pos (vertexSize t z 0)
+
 module _ (b : List ℕ) (z : ℕ) (rest : List ℕ) where
+  -- "the section entries given for that zone, one for each of its judged sections"; "a zone's k-th entry is for its k-th judged Elements_t child"
+  pub record OneForEach : Type 0 where
+    -- the list of nodes is as long as there are such sections, and so is the list of entries
+    pub nodes-counted : length (sectionNodes (treeOf b) z) ≡ sectionCount (treeOf b) z
+    pub numbers-counted : length (allNumbers (sectionEntries (treeOf b) z)) ≡ entryLength * sectionCount (treeOf b) z
+    -- each node of the list is one, in node order; each one is in the list
+    pub each-is : (k : ℕ) → k < sectionCount (treeOf b) z
+        → (sectionNode (treeOf b) z k < treeOf b .count) × (sectionOf (treeOf b) z (sectionNode (treeOf b) z k) ≡ true)
+    pub in-order : (j k : ℕ) → j < k → k < sectionCount (treeOf b) z → sectionNode (treeOf b) z j < sectionNode (treeOf b) z k
+    pub each-listed : (s : ℕ) → s < treeOf b .count → sectionOf (treeOf b) z s ≡ true
+        → (k : ℕ) × (k < sectionCount (treeOf b) z) × (sectionNode (treeOf b) z k ≡ s)
+    -- the k-th entry is the k-th node's
+    pub each-entry : (k : ℕ) → k < sectionCount (treeOf b) z → sectionAt (given b z rest .entries) k ≡ entry (treeOf b) (sectionNode (treeOf b) z k)
+
   -- "A face number's magnitude lies in the range of exactly one of the entries, a face section's, and that face's corners can all be read in turn."
   pub record FaceNumber (f : ℕ) : Type 0 where
     pub which : ℕ
@@ -105,7 +118,8 @@ module _ (b : List ℕ) (z : ℕ) (rest : List ℕ) where
 
   -- "any list of corner reads of that image with these entries, whatever the element and corner numbers, in any order, refused reads included"
   pub record Claim3 : Type 0 where
-    pub one-for-each : OneForEach (treeOf b) z
+    pub one-for-each : OneForEach
+    pub none-negative : (k : ℕ) → k < sectionCount (treeOf b) z → NoneNegative (treeOf b) z (sectionNode (treeOf b) z k)
     pub every-read : (qs : List Read) → All Listed qs → (ms : List Step) (end : State) → Run (given b z rest) qs ms end → All ReadHolds ms
     -- the claim is not empty: every list of reads has a run
     pub some-run : (qs : List Read) → (ms : List Step) × Run (given b z rest) qs ms (given b z rest)
