@@ -1,28 +1,29 @@
 -- Demand 3, proved. A read with the k-th entry is the corner reader's at the zone's k-th section, whose answer the image's rules decide; and a run of
 -- reads changes nothing, so each of its reads is one from the given state.
-use Prim.Native.Nat.{ℕ, _+_, _*_, _-_, _≤_, _<_}
+use Prim.Native.Nat.{ℕ, _+_, _*_, _-_, _/_, _≤_, _<_}
 use mathlib.Core.Path.{_≡_, refl, sym, ap, _∙_}
 use mathlib.Core.Bool.{Bool, true, false}
 use mathlib.Core.List.{List, _++_}
 use mathlib.Core.Logic.{_↔_, _⊎_, inl, inr, ⊎-elim}
 use native.Mathlib.Omega.{arith}
-use lib.ListN.{length, length-append}
+use lib.ListN.{length, drop, length-append}
 use lib.IntN.{ℤ, natAbs}
 use lib.Dec.{leb, ltb}
 use borrow.Author.Tests.{leb-true, leb-false, ltb-true, ltb-false}
 use Rattle.model.specs.declared.Rejection.{Rejection}
 use Rattle.model.specs.declared.Corner.{Corner}
-use Rattle.model.specs.Rules.{Answer, rejected, answer, rejection, passed}
+use Rattle.model.specs.Lists.{over}
+use Rattle.model.specs.Rules.{Answer, rejected, answer, rejection, passed, leaves}
 use Rattle.model.specs.Image.{Tree, treeOf}
 use Rattle.model.specs.Containment.{isZone, sectionOf}
 use Rattle.model.specs.Elements.{NFACE, elementType, firstElement, lastElement, elementStart, cornerReference, connectivityLength}
 use Rattle.model.specs.Validation.{imageCheck}
-use Rattle.model.specs.Sections.{sectionNodes, entry, entries, sectionEntries, allNumbers}
+use Rattle.model.specs.Sections.{sectionNodes, entry, entries, sectionEntries, allNumbers, sectionsCheck, sectionsAnswer, sectionNumbersMemory}
 use Rattle.model.specs.Corner.{cornerAnswer}
 use Rattle.model.specs.Answers.{cornerTells}
 use Rattle.model.specs.Reads.{entriesIn, sectionAt, readAnswer, Step, IsRead}
-use Rattle.model.specs.Demand3.{sectionCount, sectionNode, given, InSection, sizeIn, IsCornerOf, storedAt, OneForEach, NodeNumber, FaceNumber, ReadAnswers, ReadHolds, Listed, Demand3}
-use Rattle.model.proofs.Passed.{refused}
+use Rattle.model.specs.Demand3.{sectionCount, sectionNode, given, InSection, sizeIn, IsCornerOf, storedAt, OneForEach, NodeNumber, FaceNumber, ReadAnswers, ReadHolds, Listed, Claim3, Demand3}
+use Rattle.model.proofs.Passed.{refused, check-pass, then-first, then-second, gives-check, gives-value}
 use Rattle.model.proofs.Members.{list-length, Within, member, members-rise, place}
 use Rattle.model.proofs.Flat.{numbers-length, entries-length, entry-at}
 use Rattle.model.proofs.Runs.{read-listed, read-leaves, run-exists, run-kept, Kept, all-of}
@@ -231,11 +232,34 @@ module _ (b : List ℕ) (ok : imageCheck b ≡ passed) (z : ℕ) (rest : List �
             (step-told m (w .is-read) (w .finds) (w .listed));
       }
 
-pub demand3 : Demand3
-demand3 b c e z zone rest =
+-- of an image that all checks pass
+pub claim3 : (b : List ℕ) → imageCheck b ≡ passed → (z : ℕ) → isZone (treeOf b) z ≡ true → (rest : List ℕ) → Claim3 b z rest
+claim3 b ok z zone rest =
     record {
       one-for-each = one-for-each b z rest;
-      none-negative = λ k h. not-one-negative (in-zone b (accepted b e) z rest k h) zone;
-      every-read = λ qs l ms end run. all-of (read-holds b (accepted b e) z rest zone) (run-kept l run);
+      none-negative = λ k h. not-one-negative (in-zone b ok z rest k h) zone;
+      every-read = λ qs l ms end run. all-of (read-holds b ok z rest zone) (run-kept l run);
       some-run = run-exists (given b z rest);
+    }
+
+pub demand3 : Demand3
+demand3 b c e z zone rest = claim3 b (accepted b e) z zone rest
+
+-- The call that gives the entries, where it answers a count: the image is accepted, the zone is one, the count is that of its sections, and the
+-- lent list begins with the entries. So the claim holds of reads with the list that the call left.
+pub record Given (b : List ℕ) (z : ℕ) (out : List ℕ) (n : ℕ) : Type 0 where
+  pub count-is : n ≡ sectionCount (treeOf b) z
+  pub list-is : sectionNumbersMemory b z out ≡ given b z (drop (length (allNumbers (sectionEntries (treeOf b) z))) out) .entries
+  pub claim : Claim3 b z (drop (length (allNumbers (sectionEntries (treeOf b) z))) out)
+
+pub entries-given : (b : List ℕ) (z : ℕ) (out : List ℕ) {n : ℕ} → sectionsAnswer b z (length out / 9) ≡ answer n → Given b z out n
+unfolding sectionsAnswer sectionsCheck sectionNumbersMemory leaves over
+entries-given b z out e =
+    let room = length out / 9 in
+    let yes′ = gives-check (sectionsCheck b z room) (length (sectionNodes (treeOf b) z)) e in
+    let zone = check-pass 0 _ (then-second (imageCheck b) _ yes′) .0 in
+    record {
+      count-is = sym (gives-value (sectionsCheck b z room) (length (sectionNodes (treeOf b) z)) e) ∙ nodes-counted (treeOf b) z;
+      list-is = rw yes′;
+      claim = claim3 b (then-first (imageCheck b) _ yes′) z zone _;
     }

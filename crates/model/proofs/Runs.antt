@@ -1,21 +1,32 @@
 -- Runs of reads: every list of reads has one, and each read of a run finds and leaves the state that was given.
-use Prim.Native.Nat.{ℕ, _<_}
-use mathlib.Core.Path.{_≡_, refl}
+use Prim.Native.Nat.{ℕ, _≤_, _<_}
+use mathlib.Core.Path.{_≡_, refl, sym, _∙_}
 use mathlib.Core.List.{List, [], _∷_}
 use lib.IntN.{ℤ}
-use borrow.Author.Tests.{lt-ltb}
+use borrow.Author.Tests.{lt-ltb, le-ltb}
 use Rattle.model.specs.declared.Corner.{Corner}
 use Rattle.model.specs.declared.Corner.the-variants as Corner
-use Rattle.model.specs.Rules.{Answer, rejected, answer, check, _then_}
+use Rattle.model.specs.Rules.{Answer, rejected, answer, rejection, check, _then_}
 use Rattle.model.specs.Corner.{cornerAnswer}
 use Rattle.model.specs.Answers.{cornerTells}
-use Rattle.model.specs.Reads.{entriesIn, sectionAt, readAnswer, State, Read, Step, IsRead, Run, done, next, All, all-none, all-more}
+use Rattle.model.specs.Reads.{CornerRead, EntryRead, entriesIn, sectionAt, readAnswer, State, Read, Step, IsRead, Run, done, next, All, all-none, all-more}
 
 -- a read with an entry of the list is the corner reader's
 pub read-listed : (image entries : List ℕ) (k element corner : ℕ) → k < entriesIn entries
     → readAnswer image entries k element corner ≡ cornerAnswer image (sectionAt entries k) element corner
 unfolding readAnswer check _then_
 read-listed image entries k element corner h = rw (lt-ltb k (entriesIn entries) h)
+
+-- and 40 where the list has none
+pub read-unlisted : (image entries : List ℕ) (k element corner : ℕ) → entriesIn entries ≤ k → readAnswer image entries k element corner ≡ rejected (rejection 40 0)
+unfolding readAnswer check _then_
+read-unlisted image entries k element corner h = rw (le-ltb k (entriesIn entries) h)
+
+-- so the corner reader's contract gives the contract of a read with an entry of a list
+pub entry-read : {image entries image′ entries′ : List ℕ} {k element corner : ℕ} {r : Corner} → k < entriesIn entries
+    → CornerRead image (sectionAt entries k) element corner r image′ → entries′ ≡ entries → EntryRead image entries k element corner r image′ entries′
+entry-read {image} {entries} {k = k} {element = element} {corner = corner} h c e =
+    record { answers = c .answers ∙ sym (read-listed image entries k element corner h); image-kept = c .image-kept; entries-kept = e }
 
 -- every answer is told by some case of the enum
 cornerOf : Answer ℤ → Corner
