@@ -6,7 +6,7 @@ use mathlib.Core.Bool.{Bool, true, false}
 use mathlib.Core.List.{List, _++_}
 use mathlib.Core.Logic.{_↔_, _⊎_, inl, inr, ⊎-elim}
 use native.Mathlib.Omega.{arith}
-use lib.ListN.{length, drop, length-append}
+use lib.ListN.{length, length-append}
 use lib.IntN.{ℤ, natAbs}
 use lib.Dec.{leb, ltb}
 use borrow.Author.Tests.{leb-true, leb-false, ltb-true, ltb-false}
@@ -21,12 +21,12 @@ use Rattle.model.specs.Validation.{imageCheck}
 use Rattle.model.specs.Sections.{sectionNodes, entry, entries, sectionEntries, allNumbers, sectionsCheck, sectionsAnswer, sectionNumbersMemory}
 use Rattle.model.specs.Corner.{cornerAnswer}
 use Rattle.model.specs.Answers.{cornerTells}
-use Rattle.model.specs.Reads.{entriesIn, sectionAt, readAnswer, Step, IsRead}
-use Rattle.model.specs.Demand3.{sectionCount, sectionNode, given, InSection, sizeIn, IsCornerOf, storedAt, OneForEach, NodeNumber, FaceNumber, ReadAnswers, ReadHolds, Listed, Claim3, Demand3}
+use Rattle.model.specs.Reads.{entriesIn, sectionAt, readAnswer, ReadMade, IsRead}
+use Rattle.model.specs.Demand3.{sectionCount, sectionNode, given, InSection, sizeIn, IsCornerOf, storedAt, OneForEach, NodeNumber, FaceNumber, ReadAnswers, ReadHolds, Listed, Claim3, Demand3, EntriesGiven}
 use Rattle.model.proofs.Passed.{refused, check-pass, then-first, then-second, gives-check, gives-value}
 use Rattle.model.proofs.Members.{list-length, Within, member, members-rise, place}
 use Rattle.model.proofs.Flat.{numbers-length, entries-length, entry-at}
-use Rattle.model.proofs.Runs.{read-listed, read-leaves, run-exists, run-kept, Kept, all-of}
+use Rattle.model.proofs.Runs.{read-listed, read-leaves, run-exists, run-kept, ReadKept, all-of}
 use Rattle.model.proofs.Accepted.{accepted}
 use Rattle.model.proofs.InZone.{InZone}
 use Rattle.model.proofs.Corners.{corner-inside, element-inside, answer-41, answer-42, answer-stored}
@@ -161,12 +161,12 @@ module _ (b : List ℕ) (ok : imageCheck b ≡ passed) (z : ℕ) (rest : List �
   read-told : (k el c : ℕ) → k < sectionCount (treeOf b) z → (a : Answer ℤ) → a ≡ readAnswer b (given b z rest .entries) k el c → Told (treeOf b) z k el c a
   read-told k el c h a e = rw (e, read-is b z rest k h el c) (told (in-zone k h) el c)
 
-  step-told : (m : Step) → IsRead m → m .found ≡ given b z rest → Listed b z rest (m .asked)
+  step-told : (m : ReadMade) → IsRead m → m .found ≡ given b z rest → Listed b z rest (m .asked)
       → Told (treeOf b) z (m .asked .which) (m .asked .element) (m .asked .corner) (cornerTells (m .answered))
   step-told m r e h = read-told (m .asked .which) (m .asked .element) (m .asked .corner) h (cornerTells (m .answered)) (rw e at (r .answers))
 
   corner-read : (k f c : ℕ) → k < sectionCount (treeOf b) z → InSection (treeOf b) z k f → IsCornerOf (treeOf b) z k f c
-      → (m : Step) → IsRead m → m .found ≡ given b z rest → m .asked ≡ record { which = k; element = f; corner = c }
+      → (m : ReadMade) → IsRead m → m .found ≡ given b z rest → m .asked ≡ record { which = k; element = f; corner = c }
       → (m .left ≡ given b z rest) × (cornerTells (m .answered) ≡ answer (storedAt (treeOf b) z k f c))
   corner-read k f c h i j m r e q = (read-leaves m r ∙ e, told-number (rw q at (step-told m r e (rw q h))) i j)
 
@@ -222,7 +222,7 @@ module _ (b : List ℕ) (ok : imageCheck b ≡ passed) (z : ℕ) (rest : List �
         face-number = λ y n e. let w = told-stored d n e in rw (w .2) (face-read k el c h y (w .0) (w .1));
       }
 
-  read-holds : isZone (treeOf b) z ≡ true → (m : Step) → Kept (given b z rest) (Listed b z rest) m → ReadHolds b z rest m
+  read-holds : isZone (treeOf b) z ≡ true → (m : ReadMade) → ReadKept (given b z rest) (Listed b z rest) m → ReadHolds b z rest m
   read-holds zone m w =
       record {
         finds-given = w .finds;
@@ -245,14 +245,8 @@ claim3 b ok z zone rest =
 pub demand3 : Demand3
 demand3 b c e z zone rest = claim3 b (accepted b e) z zone rest
 
--- The call that gives the entries, where it answers a count: the image is accepted, the zone is one, the count is that of its sections, and the
--- lent list begins with the entries. So the claim holds of reads with the list that the call left.
-pub record Given (b : List ℕ) (z : ℕ) (out : List ℕ) (n : ℕ) : Type 0 where
-  pub count-is : n ≡ sectionCount (treeOf b) z
-  pub list-is : sectionNumbersMemory b z out ≡ given b z (drop (length (allNumbers (sectionEntries (treeOf b) z))) out) .entries
-  pub claim : Claim3 b z (drop (length (allNumbers (sectionEntries (treeOf b) z))) out)
-
-pub entries-given : (b : List ℕ) (z : ℕ) (out : List ℕ) {n : ℕ} → sectionsAnswer b z (length out / 9) ≡ answer n → Given b z out n
+-- the list that the section call left
+pub entries-given : (b : List ℕ) (z : ℕ) (out : List ℕ) {n : ℕ} → sectionsAnswer b z (length out / 9) ≡ answer n → EntriesGiven b z out n
 unfolding sectionsAnswer sectionsCheck sectionNumbersMemory leaves over
 entries-given b z out e =
     let room = length out / 9 in

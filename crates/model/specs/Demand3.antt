@@ -5,7 +5,7 @@ use mathlib.Core.Path.{_≡_}
 use mathlib.Core.Bool.{true}
 use mathlib.Core.List.{List, _++_}
 use mathlib.Core.Logic.{_↔_}
-use lib.ListN.{length, getD}
+use lib.ListN.{length, getD, drop}
 use lib.IntN.{ℤ, pos, natAbs}
 use Rattle.model.specs.declared.Rejection.{Rejection}
 use Rattle.model.specs.declared.Corner.{Corner}
@@ -17,9 +17,9 @@ use Rattle.model.specs.Containment.{sectionOf, isZone}
 use Rattle.model.specs.Values.{vertexSize, rangeOf, offsetsOf, connectivityOf}
 use Rattle.model.specs.Elements.{NGON, NFACE, elementType, firstElement, lastElement, elementCount, startOffset, hasOffsets, elementSize, cornerReference}
 use Rattle.model.specs.Validation.{Counts, validation}
-use Rattle.model.specs.Sections.{entryLength, sectionNodes, entry, sectionEntries, allNumbers}
+use Rattle.model.specs.Sections.{entryLength, sectionNodes, entry, sectionEntries, allNumbers, sectionNumbersMemory}
 use Rattle.model.specs.Answers.{cornerTells}
-use Rattle.model.specs.Reads.{sectionAt, State, Read, Step, IsRead, Run, All}
+use Rattle.model.specs.Reads.{sectionAt, ReadState, Request, ReadMade, IsRead, ReadRun, AllOf}
 
 -- a zone's validated sections: how many, and the node of the k-th, counted from 0
 abbrev pub sectionCount : Tree → ℕ → ℕ
@@ -28,8 +28,8 @@ sectionCount t z = countFrom (sectionOf t z) (t .count) 0
 abbrev pub sectionNode : Tree → ℕ → ℕ → ℕ
 sectionNode t z k = getD (sectionNodes t z) k 0
 
--- what is given: the image, and a list of numbers that begins with the zone's section entries
-abbrev pub given : List ℕ → ℕ → List ℕ → State
+-- what is given: the image, and a lent list that begins with the zone's section entries, nine numbers each
+abbrev pub given : List ℕ → ℕ → List ℕ → ReadState
 given b z rest = record { image = b; entries = allNumbers (sectionEntries (treeOf b) z) ++ rest }
 
 -- of the zone's k-th section, as the image stores it: an element in its ElementRange, an element's size, a corner of it, the number stored there
@@ -87,7 +87,7 @@ module _ (b : List ℕ) (z : ℕ) (rest : List ℕ) where
     pub no-other : (k : ℕ) → k < sectionCount (treeOf b) z → InSection (treeOf b) z k f → k ≡ which
     pub face-section : elementType (treeOf b) (sectionNode (treeOf b) z which) ≡ NGON
     -- a read of any of its corners finds the given state and leaves it for the next one, and answers the number stored there
-    pub corners-read : (c : ℕ) → IsCornerOf (treeOf b) z which f c → (m : Step) → IsRead m → m .found ≡ given b z rest
+    pub corners-read : (c : ℕ) → IsCornerOf (treeOf b) z which f c → (m : ReadMade) → IsRead m → m .found ≡ given b z rest
         → m .asked ≡ record { which = which; element = f; corner = c }
         → (m .left ≡ given b z rest) × (cornerTells (m .answered) ≡ answer (storedAt (treeOf b) z which f c))
 
@@ -102,29 +102,35 @@ module _ (b : List ℕ) (z : ℕ) (rest : List ℕ) where
     -- "Every other read answers the number stored at that corner, from that section's own connectivity bytes."
     pub number-stored : InSection (treeOf b) z k element → IsCornerOf (treeOf b) z k element corner
         → cornerTells r ≡ answer (storedAt (treeOf b) z k element corner)
-    -- "corners of type 23 are face numbers, others node numbers" (document 01)
+    -- "corners of type 23 are face numbers, others node numbers" (document 01); a magnitude is the number's absolute value
     pub node-number : (elementType (treeOf b) (sectionNode (treeOf b) z k) ≡ NFACE → ⊥) → (n : ℤ) → cornerTells r ≡ answer n → NodeNumber (treeOf b) z n
     pub face-number : elementType (treeOf b) (sectionNode (treeOf b) z k) ≡ NFACE → (n : ℤ) → cornerTells r ≡ answer n → FaceNumber (natAbs n)
 
   -- "each read in it finds and leaves image and entries as they were given"
-  pub record ReadHolds (m : Step) : Type 0 where
+  pub record ReadHolds (m : ReadMade) : Type 0 where
     pub finds-given : m .found ≡ given b z rest
     pub leaves-given : m .left ≡ given b z rest
     pub read-answers : ReadAnswers (m .asked .which) (m .asked .element) (m .asked .corner) (m .answered)
 
   -- a read with one of the entries given
-  abbrev pub Listed : Read → Type 0
+  abbrev pub Listed : Request → Type 0
   Listed q = q .which < sectionCount (treeOf b) z
 
   -- "any list of corner reads of that image with these entries, whatever the element and corner numbers, in any order, refused reads included"
   pub record Claim3 : Type 0 where
     pub one-for-each : OneForEach
     pub none-negative : (k : ℕ) → k < sectionCount (treeOf b) z → NoneNegative (treeOf b) z (sectionNode (treeOf b) z k)
-    pub every-read : (qs : List Read) → All Listed qs → (ms : List Step) (end : State) → Run (given b z rest) qs ms end → All ReadHolds ms
+    pub every-read : (qs : List Request) → AllOf Listed qs → (ms : List ReadMade) (end : ReadState) → ReadRun (given b z rest) qs ms end → AllOf ReadHolds ms
     -- the claim is not empty: every list of reads has a run
-    pub some-run : (qs : List Read) → (ms : List Step) × Run (given b z rest) qs ms (given b z rest)
+    pub some-run : (qs : List Request) → (ms : List ReadMade) × ReadRun (given b z rest) qs ms (given b z rest)
 
 -- "Take an image accepted under demand 2, a zone of it and the section entries given for that zone"
 abbrev pub Demand3 : Type 0
 Demand3 =
     (b : List ℕ) (c : Counts) → validation b ≡ answer c → (z : ℕ) → isZone (treeOf b) z ≡ true → (rest : List ℕ) → Claim3 b z rest
+
+-- The call that gives the entries, where it answers a count: that of the zone's sections. The list that it leaves is one that the claim speaks of.
+pub record EntriesGiven (b : List ℕ) (z : ℕ) (out : List ℕ) (n : ℕ) : Type 0 where
+  pub count-is : n ≡ sectionCount (treeOf b) z
+  pub list-is : sectionNumbersMemory b z out ≡ given b z (drop (length (allNumbers (sectionEntries (treeOf b) z))) out) .entries
+  pub claim : Claim3 b z (drop (length (allNumbers (sectionEntries (treeOf b) z))) out)
