@@ -10,6 +10,7 @@ pub mod InZone
 pub mod Corners
 pub mod References
 pub mod NoneNegative
+pub mod ZoneEntries
 pub mod Demand3
 pub mod Passed
 pub mod Accepted
