@@ -82,8 +82,8 @@ module _ (b : List ℕ) (i n : ℕ) (e : trimmed (name (treeOf b) i) ≡ take n 
   pub sized : length (stepOf (treeOf b) i) ≡ suc n
   sized = rw e (ap suc took)
 
-  pub named : (p : ℕ) → p ≡ recordAt i → (d : List ℕ) (k : ℕ) → k < length d → paste (set d k 47) (k + 1) (drop p b) n ≡ written d k (stepOf (treeOf b) i)
-  named p f d k l = rw (e, f) (slashed d k (drop (recordAt i) b) n l took)
+  pub named : {p : ℕ} → p ≡ recordAt i → (d : List ℕ) (k : ℕ) → k < length d → {new : List ℕ} → new ≡ paste (set d k 47) (k + 1) (drop p b) n → new ≡ written d k (stepOf (treeOf b) i)
+  named f d k l g = rw (g, e, f) (slashed d k (drop (recordAt i) b) n l took)
 
 -- names, and the next one after them
 joined : (p a d : List ℕ) → written (over d p) (length p) a ≡ over d (p ++ a)

@@ -1,5 +1,6 @@
 // The path of a node: the names from below the root, each after a slash.
-use records::Record;
+use model::{Count, Rejection};
+use records::{Header, Record};
 ghost use mathlib.Core.Path.{_≡_};
 ghost use mathlib.Core.List.{_++_};
 ghost use Prim.Native.Nat.{_+_, _≤_, _<_};
@@ -7,7 +8,8 @@ ghost use lib.ListN.{length, take, drop};
 ghost use lib.Seq.{paste};
 ghost use Rattle.model.specs.Lists.{over};
 ghost use Rattle.model.specs.Image.{treeOf, nodeCount, recordAt, name};
-ghost use Rattle.model.specs.Path.{trimmed, pathOf};
+ghost use Rattle.model.specs.Path.{trimmed, pathOf, pathAnswer, pathMemory};
+ghost use Rattle.model.specs.Answers.{countTells};
 ghost use Rattle.model.specs.Bounds.{Laid};
 ghost use Rattle.model.specs.Given.{Sound};
 ghost use Rattle.paths.specs.Names.{stepOf, namesOf, written};
@@ -107,4 +109,22 @@ fn write_path(image: &[u8], i: usize, out: &mut [u8])
         return;
     }
     write_names(image, i, out);
+}
+
+// The path of a node of an image in which rules 1 to 18 hold: rule 40, then 46, then the path in front of `out` and its length.
+fn sound_path(image: &[u8], node: u64, out: &mut [u8]) -> Count
+    requires { ⌜ Sound (now image) ⌝ }
+    ensures { λ r. ⌜ (countTells r ≡ pathAnswer (now (image .entry)) node (length (now (out .entry)))) × (now (out .exit) ≡ pathMemory (now (image .entry)) node (now (out .entry))) ⌝ }
+{
+    let count = words::u32_at(image, Header::NODE_COUNT);
+    if count <= node {
+        return Count::Rejected(Rejection::at(40, 0));
+    }
+    let i = node as usize;
+    let n = path_length(image, i);
+    if out.len() < n {
+        return Count::Rejected(Rejection::at(46, 0));
+    }
+    write_path(image, i, out);
+    Count::Of(n as u64)
 }

@@ -30,7 +30,7 @@ returns c =
     let n = d .name-length .result in
     let e = d .name-length .ensures .0 in (
       omega (arith, sized b (a .i) n e (omega arith)),
-      c .before .before .copy .ensures ∙ named b (a .i) n e (omega arith) (d .before .at .result) (d .before .at .ensures) (a .out .now) (a .k) (omega arith),
+      named b (a .i) n e (omega arith) (d .before .at .ensures) (a .out .now) (a .k) (omega arith) (c .before .before .copy .ensures),
     )
 
 pub write-name-spec : {M : Type 1} → statement M
