@@ -9,4 +9,3 @@ pub mod Counting
 pub mod Uses
 pub mod Reading
 pub mod Parents
-pub mod Checks

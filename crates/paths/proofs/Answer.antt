@@ -12,7 +12,7 @@ use Rattle.model.specs.Image.{treeOf, nodeCount}
 use Rattle.model.specs.Records.{tableCheck}
 use Rattle.model.specs.Path.{pathOf, pathCheck, pathAnswer, pathMemory}
 use Rattle.model.proofs.Passed.{then-on}
-use Rattle.model.proofs.Checks.{kept, broken}
+use Rattle.model.proofs.Staging.{kept, broken}
 
 module _ (b : List ℕ) (sound : tableCheck b ≡ passed) (i room : ℕ) where
   counted : (treeOf b) .count ≡ nodeCount b
