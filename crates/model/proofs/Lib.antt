@@ -8,5 +8,4 @@ pub mod Conforming
 pub mod Counting
 pub mod Uses
 pub mod Reading
-pub mod Parents
 pub mod Staging
