@@ -16,7 +16,7 @@ use Rattle.model.specs.Image.{Tree, treeOf, nodeCount, recordAt, name, parent}
 use Rattle.model.specs.Path.{trimmed, namesWithin, pathOf}
 use Rattle.model.specs.Bounds.{Laid}
 use Rattle.model.specs.Given.{Sound}
-use Rattle.model.proofs.Parents.{parent-lower}
+use Rattle.model.proofs.Parents.{parent-lower, lawful-at}
 use Rattle.paths.specs.Names.{stepOf, namesOf, written}
 
 -- a blank at the end is padding, another byte is not
@@ -97,7 +97,7 @@ enough b s zero zero i n h l = refl
 enough b s zero (suc j) i n h l = let e : i ≡ 0 = omega arith in rw e
 enough b s (suc k) zero i n h l = let e : i ≡ 0 = omega arith in rw e
 enough b s (suc k) (suc j) i n h l =
-    by-test (eqb i 0) refl (λ z. let u = parent-lower b s i n z in enough b s k j (parent (treeOf b) i) (omega arith) (omega arith) (omega arith))
+    by-test (eqb i 0) refl (λ z. let u = parent-lower (treeOf b) i (lawful-at b s i n) z in enough b s k j (parent (treeOf b) i) (omega arith) (omega arith) (omega arith))
   where
     by-test : (t : Bool) → eqb i 0 ≡ t → ((i ≡ 0 → ⊥) → namesWithin (treeOf b) k (parent (treeOf b) i) ≡ namesWithin (treeOf b) j (parent (treeOf b) i))
         → cond t [] (namesWithin (treeOf b) k (parent (treeOf b) i) ++ stepOf (treeOf b) i) ≡ cond t [] (namesWithin (treeOf b) j (parent (treeOf b) i) ++ stepOf (treeOf b) i)
@@ -109,7 +109,7 @@ unfolding namesWithin
 names-step b s zero n z = absurd (z refl)
 names-step b s (suc i) n z =
     let p = parent (treeOf b) (suc i) in
-    let u = parent-lower b s (suc i) n z in
+    let u = parent-lower (treeOf b) (suc i) (lawful-at b s (suc i) n) z in
     rw (ne-eqb (suc i) 0 z) (ap (λ q. q ++ stepOf (treeOf b) (suc i)) (enough b s i p p (omega arith) (omega arith) (omega arith)))
 
 pub root : (b : List ℕ) (i : ℕ) (d : List ℕ) → i ≡ 0 → (0 ≡ length (namesOf (treeOf b) i)) × (d ≡ over d (namesOf (treeOf b) i))
@@ -119,7 +119,7 @@ root b i d e = rw e (refl, refl)
 -- one call: p is the parent of node i
 module _ (b : List ℕ) (s : Sound b) (i p : ℕ) (n : i < nodeCount b) (e : p ≡ parent (treeOf b) i) (z : i ≡ 0 → ⊥) where
   pub lower : p < i
-  lower = rw e (parent-lower b s i n z)
+  lower = rw e (parent-lower (treeOf b) i (lawful-at b s i n) z)
 
   pub longer : length (namesOf (treeOf b) p) + length (stepOf (treeOf b) i) ≡ length (namesOf (treeOf b) i)
   longer = rw e (sym (ap length (names-step b s i n z) ∙ length-append (namesOf (treeOf b) (parent (treeOf b) i)) (stepOf (treeOf b) i)))
