@@ -28,6 +28,10 @@ no-nan t h = rw h tt
 pub bits-kept : (f : Format) (x : ℕ) → x < 2 * top f → nanBits f x ≡ false → toBits f (ofBits f x) ≡ x
 bits-kept f x l h = toBits-ofBits f x l (no-nan (isNan (ofBits f x)) (sym (nanBits-is f x) ∙ h))
 
+pub or-none : (a : Bool) → a ≡ (a || false)
+or-none true = refl
+or-none false = refl
+
 -- rule 16, at a width w
 pub array-size : (b : List ℕ) → Sound b → (i : ℕ) → i < nodeCount b → (w : ℕ) → w ≡ width (treeOf b) i → product (dimensions (treeOf b) i) * w ≡ node (treeOf b) i .dataSize
 unfolding recordRules dataSizeLawful
@@ -63,15 +67,15 @@ wide d = isWidth (getD widths d 0) && leb d 11
 
 -- the data types that are handed out are 4 or 8 bytes wide
 pub readable-wide : (d : ℕ) → among d readable ≡ true → T (isWidth (getD widths d 0)) × (d ≤ 11)
-unfolding widths
+unfolding widths wide
 readable-wide d e =
     let h = each wide d readable tt e in
     (rw (and-first (isWidth (getD widths d 0)) (leb d 11) h) tt, leb-true d 11 (and-second (isWidth (getD widths d 0)) (leb d 11) h))
 
 module _ (t : Tree) (i d : ℕ) (e : d ≡ dataType t i) where
-  pub width-is : getD widths d 0 ≡ width t i
+  pub width-is : (n : ℕ) → d ≡ n → getD widths n 0 ≡ width t i
   unfolding width
-  width-is = rw e
+  width-is n f = rw (← f, e)
 
   pub value-single : (k : ℕ) → d ≡ 6 → single (number t i k) ≡ valueAt t i k
   unfolding valueAt row
