@@ -109,3 +109,33 @@ fn value_at(image: &[u8], i: usize, k: usize, data_type: u64) -> ArrayValue
     let wide = records::width_of(data_type) as usize;
     ArrayValue::Whole(whole_at(image, i, k, wide))
 }
+
+// Value k of node i, counted from 1: rule 47, then 42, then the value.
+fn node_value(image: &[u8], i: usize, k: u64) -> ArrayValue
+    requires { ⌜ Sound (now image) × (i < nodeCount (now image)) ⌝ }
+    ensures { λ r. ⌜ (valueTells r ≡ valueAnswer (now (image .entry)) i k) × NanCases r ⌝ }
+{
+    let data_type = records::data_type_of(image, i);
+    if !is_readable(data_type) {
+        return ArrayValue::Rejected(Rejection::at(47, 0));
+    }
+    if k < 1 {
+        return ArrayValue::Rejected(Rejection::at(42, 0));
+    }
+    if array_length(image, i, records::width_of(data_type)) < k {
+        return ArrayValue::Rejected(Rejection::at(42, 0));
+    }
+    value_at(image, i, (k - 1) as usize, data_type)
+}
+
+// Value k of a node of an image in which rules 1 to 18 hold: rule 40, then 47 and 42, then the value.
+fn sound_value(image: &[u8], node: u64, k: u64) -> ArrayValue
+    requires { ⌜ Sound (now image) ⌝ }
+    ensures { λ r. ⌜ (valueTells r ≡ valueAnswer (now (image .entry)) node k) × NanCases r ⌝ }
+{
+    let count = words::u32_at(image, Header::NODE_COUNT);
+    if count <= node {
+        return ArrayValue::Rejected(Rejection::at(40, 0));
+    }
+    node_value(image, node as usize, k)
+}
