@@ -10,3 +10,4 @@ pub mod Uses
 pub mod Reading
 pub mod Staging
 pub mod Parents
+pub mod Known

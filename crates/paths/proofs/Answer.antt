@@ -1,32 +1,28 @@
 -- What a path's check refuses, in order, where rules 1 to 18 hold; and what it leaves.
 use Prim.Native.Nat.{ℕ, _≤_, _<_}
-use mathlib.Core.Path.{_≡_, refl, _∙_}
+use mathlib.Core.Path.{_≡_, _∙_}
 use mathlib.Core.List.{List, [], _∷_}
 use lib.ListN.{length}
-use lib.Dec.{ltb, leb}
-use borrow.Author.Tests.{le-ltb, lt-ltb, lt-leb, le-leb}
+use lib.Dec.{leb}
+use borrow.Author.Tests.{lt-leb, le-leb}
 use Rattle.model.specs.declared.Rejection.{Rejection}
 use Rattle.model.specs.Lists.{over}
 use Rattle.model.specs.Rules.{_unless_, rejection, rejected, answer, passed, check, _then_, _gives_, leaves}
 use Rattle.model.specs.Image.{treeOf, nodeCount}
 use Rattle.model.specs.Records.{tableCheck}
 use Rattle.model.specs.Path.{pathOf, pathCheck, pathAnswer, pathMemory}
-use Rattle.model.proofs.Passed.{then-on}
 use Rattle.model.proofs.Staging.{kept, broken}
+use Rattle.model.proofs.Known.{no-node, a-node}
 
 module _ (b : List ℕ) (sound : tableCheck b ≡ passed) (i room : ℕ) where
-  counted : (treeOf b) .count ≡ nodeCount b
-  unfolding treeOf
-  counted = refl
-
-  pub no-node : nodeCount b ≤ i → pathCheck b i room ≡ rejected (rejection 40 0)
+  pub unknown : nodeCount b ≤ i → pathCheck b i room ≡ rejected (rejection 40 0)
   unfolding pathCheck
-  no-node h = then-on _ sound ∙ broken 0 40 _ (rw counted (le-ltb i (nodeCount b) h))
+  unknown h = no-node b sound i _ h
 
   -- rule 46 is left
   known : i < nodeCount b → pathCheck b i room ≡ check 0 (46 unless leb (length (pathOf (treeOf b) i)) room ∷ [])
   unfolding pathCheck
-  known h = then-on _ sound ∙ kept 0 40 _ (rw counted (lt-ltb i (nodeCount b) h))
+  known h = a-node b sound i _ h
 
   pub no-room : i < nodeCount b → room < length (pathOf (treeOf b) i) → pathCheck b i room ≡ rejected (rejection 46 0)
   no-room h l = known h ∙ broken 0 46 [] (lt-leb (length (pathOf (treeOf b) i)) room l)

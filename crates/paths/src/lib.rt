@@ -1,6 +1,8 @@
 // The path of a node: the names from below the root, each after a slash.
-use model::{Count, Rejection};
-use records::{Header, Record};
+use model::Count;
+use model::Rejection;
+use records::Header;
+use records::Record;
 ghost use mathlib.Core.Path.{_≡_};
 ghost use mathlib.Core.List.{_++_};
 ghost use Prim.Native.Nat.{_+_, _≤_, _<_};

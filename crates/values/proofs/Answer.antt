@@ -1,10 +1,10 @@
 -- What an array value's check refuses, in order, where rules 1 to 18 hold; and what is answered.
 use Prim.Native.Nat.{ℕ, _-_, _≤_, _<_}
-use mathlib.Core.Path.{_≡_, refl, _∙_}
+use mathlib.Core.Path.{_≡_, _∙_}
 use mathlib.Core.Bool.{true, false, _&&_}
 use mathlib.Core.List.{List, [], _∷_}
-use lib.Dec.{ltb, leb}
-use borrow.Author.Tests.{le-ltb, lt-ltb, lt-leb, le-leb}
+use lib.Dec.{leb}
+use borrow.Author.Tests.{lt-leb, le-leb}
 use Rattle.model.specs.declared.Rejection.{Rejection}
 use Rattle.model.specs.Lists.{among}
 use Rattle.model.specs.Rules.{_unless_, rejection, rejected, answer, passed, check, _then_, _gives_}
@@ -13,23 +13,19 @@ use Rattle.model.specs.Records.{tableCheck, product}
 use Rattle.model.specs.Values.{typed}
 use Rattle.model.specs.ArrayValue.{valueAt, valueCheck, valueAnswer}
 use Rattle.model.proofs.Logic.{and-both}
-use Rattle.model.proofs.Passed.{then-on}
 use Rattle.model.proofs.Staging.{kept, broken}
+use Rattle.model.proofs.Known.{no-node, a-node}
 use Rattle.values.specs.Readable.{readable}
 
 module _ (b : List ℕ) (sound : tableCheck b ≡ passed) (i k : ℕ) where
-  counted : (treeOf b) .count ≡ nodeCount b
-  unfolding treeOf
-  counted = refl
-
-  pub no-node : nodeCount b ≤ i → valueCheck b i k ≡ rejected (rejection 40 0)
+  pub unknown : nodeCount b ≤ i → valueCheck b i k ≡ rejected (rejection 40 0)
   unfolding valueCheck
-  no-node h = then-on _ sound ∙ broken 0 40 _ (rw counted (le-ltb i (nodeCount b) h))
+  unknown h = no-node b sound i _ h
 
   -- rules 47 and 42 are left
   known : i < nodeCount b → valueCheck b i k ≡ check 0 (47 unless typed (treeOf b) i readable ∷ 42 unless (leb 1 k && leb k (product (dimensions (treeOf b) i))) ∷ [])
   unfolding valueCheck
-  known h = then-on _ sound ∙ kept 0 40 _ (rw counted (lt-ltb i (nodeCount b) h))
+  known h = a-node b sound i _ h
 
   pub unreadable : i < nodeCount b → among (dataType (treeOf b) i) readable ≡ false → valueCheck b i k ≡ rejected (rejection 47 0)
   unfolding typed

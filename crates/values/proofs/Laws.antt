@@ -6,6 +6,7 @@ use mathlib.Core.List.{List, [], _∷_}
 use native.Mathlib.Omega.{arith}
 use native.Mathlib.Nat.{mul-le-mul-left, mul-comm, mul-suc}
 use lib.Dec.{T, eqb, leb}
+use lib.IntN.{ℤ}
 use lib.ListN.{getD}
 use lib.Ieee.{Format, nanBits, ofBits, toBits, isNan, top}
 use lib.Ieee.Bits.{toBits-ofBits, nanBits-is}
@@ -72,19 +73,20 @@ readable-wide d e =
     let h = each wide d readable tt e in
     (rw (and-first (isWidth (getD widths d 0)) (leb d 11) h) tt, leb-true d 11 (and-second (isWidth (getD widths d 0)) (leb d 11) h))
 
-module _ (t : Tree) (i d : ℕ) (e : d ≡ dataType t i) where
-  pub width-is : (n : ℕ) → d ≡ n → getD widths n 0 ≡ width t i
-  unfolding width
-  width-is n f = rw (← f, e)
+pub width-is : (t : Tree) (i d : ℕ) → d ≡ dataType t i → (n : ℕ) → d ≡ n → getD widths n 0 ≡ width t i
+unfolding width
+width-is t i d e n f = rw (← f, e)
 
-  pub value-single : (k : ℕ) → d ≡ 6 → single (number t i k) ≡ valueAt t i k
+-- value k by its data type
+module _ (t : Tree) (i d : ℕ) (e : d ≡ dataType t i) (k : ℕ) where
+  pub value-single : {x : ℕ} → x ≡ number t i k → d ≡ 6 → single x ≡ valueAt t i k
   unfolding valueAt row
-  value-single k f = let g : dataType t i ≡ 6 = sym e ∙ f in rw g
+  value-single h f = let g : dataType t i ≡ 6 = sym e ∙ f in rw (h, g)
 
-  pub value-double : (k : ℕ) → d ≡ 9 → double (number t i k) ≡ valueAt t i k
+  pub value-double : {x : ℕ} → x ≡ number t i k → d ≡ 9 → double x ≡ valueAt t i k
   unfolding valueAt row
-  value-double k f = let g : dataType t i ≡ 9 = sym e ∙ f in rw g
+  value-double h f = let g : dataType t i ≡ 9 = sym e ∙ f in rw (h, g)
 
-  pub value-whole : (k : ℕ) → (d ≡ 6 → ⊥) → (d ≡ 9 → ⊥) → whole (signed (width t i) (number t i k)) ≡ valueAt t i k
+  pub value-whole : {z : ℤ} → z ≡ signed (width t i) (number t i k) → (d ≡ 6 → ⊥) → (d ≡ 9 → ⊥) → whole z ≡ valueAt t i k
   unfolding valueAt row
-  value-whole k f g = rw (← e, ne-eqb d 6 f, ne-eqb d 9 g)
+  value-whole h f g = rw (h, ← e, ne-eqb d 6 f, ne-eqb d 9 g)

@@ -1,6 +1,8 @@
 // The values of a node's array: whole numbers, singles and doubles, their bits unchanged.
-use model::{ArrayValue, Rejection};
-use records::{Header, Record};
+use model::ArrayValue;
+use model::Rejection;
+use records::Header;
+use records::Record;
 ghost use mathlib.Core.Path.{_≡_};
 ghost use mathlib.Core.Bool.{true};
 ghost use Prim.Native.Nat.{_+_, _*_, _≤_, _<_};

@@ -6,7 +6,7 @@ use Prim.Native.Nat.{_<_}
 use Rattle.model.specs.Rules.{rejected, answer}
 use Rattle.model.specs.Image.{nodeCount}
 use Rattle.records.proofs.Places.{node-count-at}
-use Rattle.paths.proofs.Answer.{no-node, no-room, fits, refuses, succeeds}
+use Rattle.paths.proofs.Answer.{unknown, no-room, fits, refuses, succeeds}
 use Rattle.paths.proofs.sound_path.Statement.{statement}
 use Rattle.paths.proofs.sound_path.Tie as tie
 
@@ -14,7 +14,7 @@ returns : tie.Need-returns
 returns c =
     let f = c .before .before .before .before .before in
     let b = f .args .image .now in
-    let r = refuses b (f .args .node) (f .args .out .now) (no-node b (f .pre .table) (f .args .node) _ (omega (arith, node-count-at b))) in
+    let r = refuses b (f .args .node) (f .args .out .now) (unknown b (f .pre .table) (f .args .node) _ (omega (arith, node-count-at b))) in
     (ap rejected (c .at .ensures) ∙ r .0, r .1)
 
 path-length-requires : tie.Need-path-length-requires

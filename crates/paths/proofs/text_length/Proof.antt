@@ -25,11 +25,11 @@ returns c =
 
 loop-again : tie.Need-loop-again Inv-loop μ-loop
 loop-again c = (
-    search needs,
-    let d = c .before .before in
-    let a = d .before .before .before .args in
-    trim-drop (a .image .now) (a .at) (d .before .loop .k) (omega arith) (omega arith) (sym (c .before .byte-at .ensures .0) ∙ c .if1 .left) ∙ d .before .loop .inv .1,
-    )
+  search needs,
+  let d = c .before .before in
+      let a = d .before .before .before .args in
+      trim-drop (a .image .now) (a .at) (d .before .loop .k) (omega arith) (omega arith) (sym (c .before .byte-at .ensures .0) ∙ c .if1 .left) ∙ d .before .loop .inv .1,
+)
 
 returns-2 : tie.Need-returns-2 Inv-loop μ-loop
 returns-2 c =

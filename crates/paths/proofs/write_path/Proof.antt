@@ -9,7 +9,7 @@ use Rattle.paths.proofs.write_path.Statement.{statement}
 use Rattle.paths.proofs.write_path.Tie as tie
 
 slice-write-out : tie.Need-slice-write-out
-slice-write-out c = 
+slice-write-out c =
     let a = c .before .before .before .args in
     let e = path-root (treeOf (a .image .now)) (a .i) (c .if1 .taken) in
     omega (arith, ap length e)
@@ -25,7 +25,7 @@ write-names-requires c κs =
     (f .pre .0, rw (path-names (treeOf (f .args .image .now)) (f .args .i) (c .before .if1 .left)) at (f .pre .1))
 
 returns-2 : tie.Need-returns-2
-returns-2 c = 
+returns-2 c =
     let d = c .before .before .before .before in
     let a = d .before .before .before .args in
     rw (path-names (treeOf (a .image .now)) (a .i) (d .if1 .left)) (c .before .before .write-names .ensures .1)

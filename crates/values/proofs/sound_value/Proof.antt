@@ -4,7 +4,7 @@ use borrow.Author.Needs.{needs}
 use mathlib.Core.Path.{_≡_, _∙_, ap}
 use Rattle.model.specs.Rules.{rejected}
 use Rattle.records.proofs.Places.{node-count-at}
-use Rattle.values.proofs.Answer.{no-node, refuses}
+use Rattle.values.proofs.Answer.{unknown, refuses}
 use Rattle.values.proofs.sound_value.Statement.{statement}
 use Rattle.values.proofs.sound_value.Tie as tie
 
@@ -12,7 +12,7 @@ returns : tie.Need-returns
 returns c =
     let f = c .before .before .before .before in
     let b = f .args .image .now in
-    (ap rejected (c .at .ensures) ∙ refuses b (f .args .node) (f .args .k) (no-node b (f .pre .table) (f .args .node) (f .args .k) (omega (arith, node-count-at b))), tt)
+    (ap rejected (c .at .ensures) ∙ refuses b (f .args .node) (f .args .k) (unknown b (f .pre .table) (f .args .node) (f .args .k) (omega (arith, node-count-at b))), tt)
 
 node-value-requires : tie.Need-node-value-requires
 node-value-requires c κs =

@@ -8,7 +8,6 @@ use lib.Dec.{T}
 use Rattle.model.specs.Image.{treeOf, widths, width}
 use Rattle.words.specs.Width.{isWidth}
 use Rattle.model.specs.Rules.{answer}
-use Rattle.model.specs.ArrayValue.{whole, single, double}
 use Rattle.values.proofs.Laws.{array-room, readable-wide, width-is, value-single, value-double, value-whole}
 use Rattle.values.proofs.value_at.Statement.{statement}
 use Rattle.values.proofs.value_at.Tie as tie
@@ -25,8 +24,8 @@ returns : tie.Need-returns
 returns c =
     let d = c .before .before in
     let f = d .before .before in
-    let v = value-single (treeOf (f .args .image .now)) (f .args .i) (f .args .data-type) (f .pre .0 .1 .1) (f .args .k) (d .if1 .taken) in
-    (c .single-of .ensures .0 ∙ ap answer (ap single (c .before .number .ensures .0) ∙ v), c .single-of .ensures .1)
+    let v = value-single (treeOf (f .args .image .now)) (f .args .i) (f .args .data-type) (f .pre .0 .1 .1) (f .args .k) (c .before .number .ensures .0) (d .if1 .taken) in
+    (c .single-of .ensures .0 ∙ ap answer v, c .single-of .ensures .1)
 
 number-requires-2 : tie.Need-number-requires-2
 unfolding widths
@@ -40,14 +39,14 @@ returns-2 : tie.Need-returns-2
 returns-2 c =
     let d = c .before .before in
     let f = d .before .before .before in
-    let v = value-double (treeOf (f .args .image .now)) (f .args .i) (f .args .data-type) (f .pre .0 .1 .1) (f .args .k) (d .if2 .taken) in
-    (c .double-of .ensures .0 ∙ ap answer (ap double (c .before .number2 .ensures .0) ∙ v), c .double-of .ensures .1)
+    let v = value-double (treeOf (f .args .image .now)) (f .args .i) (f .args .data-type) (f .pre .0 .1 .1) (f .args .k) (c .before .number2 .ensures .0) (d .if2 .taken) in
+    (c .double-of .ensures .0 ∙ ap answer v, c .double-of .ensures .1)
 
 width-of-requires : tie.Need-width-of-requires
 width-of-requires c κs = let f = c .before .before .before in readable-wide (f .args .data-type) (f .pre .0 .1 .0) .1
 
 whole-at-requires : tie.Need-whole-at-requires
-whole-at-requires c κs = 
+whole-at-requires c κs =
     let f = c .before .before .before .before in
     let b = f .args .image .now in
     let d = f .args .data-type in
@@ -59,8 +58,8 @@ returns-3 : tie.Need-returns-3
 returns-3 c =
     let d = c .before .before in
     let f = d .before .before .before in
-    let v = value-whole (treeOf (f .args .image .now)) (f .args .i) (f .args .data-type) (f .pre .0 .1 .1) (f .args .k) (d .before .if1 .left) (d .if2 .left) in
-    (rw (toZ-ofZ (sfits-of {w = w64} {z = c .whole-at .result} (c .whole-at .ok))) (ap answer (ap whole (c .whole-at .ensures) ∙ v)), tt)
+    let v = value-whole (treeOf (f .args .image .now)) (f .args .i) (f .args .data-type) (f .pre .0 .1 .1) (f .args .k) (c .whole-at .ensures) (d .before .if1 .left) (d .if2 .left) in
+    (rw (toZ-ofZ (sfits-of {w = w64} {z = c .whole-at .result} (c .whole-at .ok))) (ap answer v), tt)
 
 pub value-at-spec : {M : Type 1} → statement M
 value-at-spec = tie.close (tie.spec number-requires (search needs) (search needs) returns number-requires-2 (search needs) returns-2 width-of-requires whole-at-requires returns-3)
