@@ -11,8 +11,14 @@ use Rattle.model.specs.Rules.{_unless_, rejection, rejected, answer, passed, ch
 use Rattle.model.specs.Image.{treeOf, nodeCount}
 use Rattle.model.specs.Records.{tableCheck}
 use Rattle.model.specs.Path.{pathOf, pathCheck, pathAnswer, pathMemory}
+use Rattle.model.proofs.Passed.{then-off}
 use Rattle.model.proofs.Staging.{kept, broken}
 use Rattle.model.proofs.Known.{no-node, a-node}
+
+-- what rules 1 to 18 refuse
+pub no-table : (b : List ℕ) (i room : ℕ) {r : Rejection} → tableCheck b ≡ rejected r → pathCheck b i room ≡ rejected r
+unfolding pathCheck
+no-table b i room e = then-off _ e
 
 module _ (b : List ℕ) (sound : tableCheck b ≡ passed) (i room : ℕ) where
   pub unknown : nodeCount b ≤ i → pathCheck b i room ≡ rejected (rejection 40 0)

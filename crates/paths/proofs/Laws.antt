@@ -1,20 +1,18 @@
 -- Laws of a name without its padding, of a copy, and of the names down to a node.
-use Prim.Native.Nat.{ℕ, zero, suc, _+_, _*_, _-_, _≤_, _<_}
+use Prim.Native.Nat.{ℕ, zero, suc, _+_, _-_, _≤_, _<_}
 use mathlib.Core.Path.{_≡_, refl, sym, ap, _∙_}
 use mathlib.Core.Bool.{Bool, true, false, cond, _&&_}
 use mathlib.Core.List.{List, [], _∷_, _++_, append-assoc}
 use native.Mathlib.Omega.{arith}
-use native.Mathlib.Nat.{zero-add}
 use native.Mathlib.Numerals.{add-one}
 use lib.Dec.{eqb}
 use lib.ListN.{length, getD, set, take, drop, length-drop, length-append}
 use lib.Seq.{take-suc, length-take-le, paste, paste-suc, getD-drop, drop-drop, drop-set-lt, take-suc-set, take-append-seam, drop-append-add}
-use borrow.Author.Tests.{eqb-true, eqb-false, ne-eqb, eq-eqb}
+use borrow.Author.Tests.{eqb-false, ne-eqb}
 use Rattle.model.specs.Lists.{over}
 use Rattle.model.specs.Bytes.{blank}
 use Rattle.model.specs.Image.{Tree, treeOf, nodeCount, recordAt, name, parent}
 use Rattle.model.specs.Path.{trimmed, namesWithin, pathOf}
-use Rattle.model.specs.Bounds.{Laid}
 use Rattle.model.specs.Given.{Sound}
 use Rattle.model.proofs.Parents.{parent-lower, lawful-at}
 use Rattle.paths.specs.Names.{stepOf, namesOf, written}

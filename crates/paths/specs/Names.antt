@@ -1,6 +1,6 @@
 -- The parts of a path, and a buffer that holds one.
 use Prim.Native.Nat.{ℕ, _+_}
-use mathlib.Core.List.{List, [], _∷_, _++_}
+use mathlib.Core.List.{List, _∷_, _++_}
 use lib.ListN.{length, take, drop}
 use Rattle.model.specs.Image.{Tree, name}
 use Rattle.model.specs.Path.{trimmed, slash, namesWithin}

@@ -13,9 +13,15 @@ use Rattle.model.specs.Records.{tableCheck, product}
 use Rattle.model.specs.Values.{typed}
 use Rattle.model.specs.ArrayValue.{valueAt, valueCheck, valueAnswer}
 use Rattle.model.proofs.Logic.{and-both}
+use Rattle.model.proofs.Passed.{then-off}
 use Rattle.model.proofs.Staging.{kept, broken}
 use Rattle.model.proofs.Known.{no-node, a-node}
 use Rattle.values.specs.Readable.{readable}
+
+-- what rules 1 to 18 refuse
+pub no-table : (b : List ℕ) (i k : ℕ) {r : Rejection} → tableCheck b ≡ rejected r → valueCheck b i k ≡ rejected r
+unfolding valueCheck
+no-table b i k e = then-off _ e
 
 module _ (b : List ℕ) (sound : tableCheck b ≡ passed) (i k : ℕ) where
   pub unknown : nodeCount b ≤ i → valueCheck b i k ≡ rejected (rejection 40 0)

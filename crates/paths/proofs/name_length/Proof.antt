@@ -1,8 +1,8 @@
 -- The name stands in front of the record.
 use native.Mathlib.Omega.{arith}
 use borrow.Author.Needs.{needs}
-use mathlib.Core.Path.{_≡_, _∙_, sym, ap}
-use Prim.Native.Nat.{ℕ, _<_}
+use mathlib.Core.Path.{_∙_, ap}
+use Prim.Native.Nat.{_<_}
 use Rattle.model.specs.Image.{nodeCount}
 use Rattle.model.proofs.Reading.{name-at}
 use Rattle.model.specs.Path.{trimmed}

@@ -1,7 +1,5 @@
 -- The root's path is one slash, another's its names.
 use borrow.Author.Needs.{needs}
-use mathlib.Core.Path.{_≡_, _∙_, sym, ap}
-use lib.ListN.{length}
 use Rattle.model.specs.Image.{treeOf}
 use Rattle.paths.proofs.Laws.{path-root, path-names}
 use Rattle.paths.proofs.path_length.Statement.{statement}

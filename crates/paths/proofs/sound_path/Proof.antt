@@ -1,10 +1,8 @@
 -- Rule 40, rule 46, then the path.
 use native.Mathlib.Omega.{arith}
 use borrow.Author.Needs.{needs}
-use mathlib.Core.Path.{_≡_, _∙_, ap}
-use Prim.Native.Nat.{_<_}
+use mathlib.Core.Path.{_∙_, ap}
 use Rattle.model.specs.Rules.{rejected, answer}
-use Rattle.model.specs.Image.{nodeCount}
 use Rattle.records.proofs.Places.{node-count-at}
 use Rattle.paths.proofs.Answer.{unknown, no-room, fits, refuses, succeeds}
 use Rattle.paths.proofs.sound_path.Statement.{statement}

@@ -1,7 +1,7 @@
 -- A slash, and the name's bytes after it.
 use native.Mathlib.Omega.{arith}
 use borrow.Author.Needs.{needs}
-use mathlib.Core.Path.{_≡_, _∙_}
+use mathlib.Core.Path.{_∙_}
 use lib.ListN.{length-set}
 use Rattle.paths.proofs.Laws.{sized, named}
 use Rattle.paths.proofs.write_name.Statement.{statement}

@@ -1,7 +1,7 @@
 -- One slash for the root, the names for another node.
 use native.Mathlib.Omega.{arith}
 use borrow.Author.Needs.{needs}
-use mathlib.Core.Path.{_≡_, _∙_, sym, ap}
+use mathlib.Core.Path.{ap}
 use lib.ListN.{length}
 use Rattle.model.specs.Image.{treeOf}
 use Rattle.paths.proofs.Laws.{path-root, path-names, slash-alone}

@@ -4,7 +4,7 @@ use mathlib.Core.Bool.{false}
 use borrow.Author.Needs.{needs}
 use lib.Ieee.{binary64, nanBits}
 use Rattle.model.specs.Rules.{answer}
-use Rattle.model.specs.ArrayValue.{Value, double}
+use Rattle.model.specs.ArrayValue.{double}
 use Rattle.values.proofs.Laws.{no-nan, bits-kept}
 use Rattle.values.proofs.double_of.Statement.{statement}
 use Rattle.values.proofs.double_of.Tie as tie

@@ -4,7 +4,7 @@ use mathlib.Core.Bool.{false}
 use borrow.Author.Needs.{needs}
 use lib.Ieee.{binary32, nanBits}
 use Rattle.model.specs.Rules.{answer}
-use Rattle.model.specs.ArrayValue.{Value, single}
+use Rattle.model.specs.ArrayValue.{single}
 use Rattle.values.proofs.Laws.{no-nan, bits-kept}
 use Rattle.values.proofs.single_of.Statement.{statement}
 use Rattle.values.proofs.single_of.Tie as tie

@@ -1,7 +1,7 @@
 -- Rule 40, then the node's value.
 use native.Mathlib.Omega.{arith}
 use borrow.Author.Needs.{needs}
-use mathlib.Core.Path.{_≡_, _∙_, ap}
+use mathlib.Core.Path.{_∙_, ap}
 use Rattle.model.specs.Rules.{rejected}
 use Rattle.records.proofs.Places.{node-count-at}
 use Rattle.values.proofs.Answer.{unknown, refuses}

@@ -1,9 +1,8 @@
 -- The number of the value's bytes, as the data type says.
-use native.Mathlib.Omega.{arith}
 use borrow.Author.Needs.{needs, sfits-of}
 use mir.Syntax.{w64}
 use mir.Facts.{toZ-ofZ}
-use mathlib.Core.Path.{_≡_, refl, sym, ap, _∙_}
+use mathlib.Core.Path.{_≡_, refl, ap, _∙_}
 use lib.Dec.{T}
 use Rattle.model.specs.Image.{treeOf, widths, width}
 use Rattle.words.specs.Width.{isWidth}

@@ -1,10 +1,7 @@
 -- The signed number at the value's place.
-use native.Mathlib.Omega.{arith}
 use borrow.Author.Needs.{needs, sfits-of}
 use mir.Syntax.{w64}
 use mir.Facts.{toZ-ofZ}
-use mathlib.Core.Path.{_≡_, sym, ap, _∙_}
-use Rattle.model.specs.Bytes.{signed}
 use Rattle.model.proofs.Reading.{number-at}
 use Rattle.records.proofs.Places.{area-at}
 use Rattle.values.proofs.whole_at.Statement.{statement}
