@@ -11,4 +11,4 @@ returns-2 : tie.Need-returns-2
 returns-2 c = no-node _ _ (c .before .node-count .ensures .0) (c .if1 .left)
 
 pub is-zone-spec : {M : Type 1} → statement M
-is-zone-spec = tie.close (tie.spec (search needs) (search needs) returns returns-2)
+is-zone-spec = tie.close (tie.spec (λ c κs. search needs) (λ c κs. search needs) returns returns-2)

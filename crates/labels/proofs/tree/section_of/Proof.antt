@@ -14,4 +14,4 @@ unfolding sectionOf
 returns-2 c = alike (c .before .before .parent-of .ensures .0) (c .before .if1 .left) (c .validated-as .ensures)
 
 pub section-of-spec : {M : Type 1} → statement M
-section-of-spec = tie.close (tie.spec (search needs) returns (search needs) returns-2)
+section-of-spec = tie.close (tie.spec (λ c κs. search needs) returns (λ c κs. search needs) returns-2)

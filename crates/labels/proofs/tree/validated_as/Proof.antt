@@ -14,4 +14,4 @@ unfolding validatedAs
 returns-2 c = alike (c .before .before .role-of .ensures .0) (c .before .if1 .left) (c .validated .ensures)
 
 pub validated-as-spec : {M : Type 1} → statement M
-validated-as-spec = tie.close (tie.spec (search needs) returns (search needs) returns-2)
+validated-as-spec = tie.close (tie.spec (λ c κs. search needs) returns (λ c κs. search needs) returns-2)
