@@ -36,3 +36,7 @@ when false b e h = untrue h
 pub choose : {A B : Type 0} (which : Bool) → A → B → cond which A B
 choose true x y = x
 choose false x y = y
+
+pub or-cases : {A : Type 0} (a b : Bool) → (a || b) ≡ true → (a ≡ true → A) → (b ≡ true → A) → A
+or-cases true b e f g = f refl
+or-cases false b e f g = g e
