@@ -1,0 +1,47 @@
+// The corner reader: no verdict first, nothing is assumed of the image or of the entry.
+ghost use mathlib.Core.Path.{_≡_};
+ghost use mathlib.Core.Bool.{true};
+ghost use Prim.Native.Nat.{_≤_, _<_};
+ghost use Rattle.model.specs.Corner.{inside};
+ghost use Rattle.model.specs.Answers.{cornerTells};
+ghost use Rattle.model.specs.Reads.{CornerRead};
+ghost use Rattle.corners.specs.Spans.{cornerIn};
+
+use model::Corner;
+use model::Rejection;
+use model::Section;
+use super::rows::signed_number_at;
+use super::spans::element_span;
+use super::spans::Span;
+
+// A corner, counted from 1, of the element that stands from `start` on and before `end` in the connectivity.
+fn corner_in(image: &[u8], section: Section, start: u64, end: u64, corner: u64) -> Corner
+    requires { ⌜ (start < end) × (end ≤ section .«connectivity_length»)
+        × (inside (now image) (section .«connectivity_at») (section .«connectivity_width») (section .«connectivity_length») ≡ true) ⌝ }
+    ensures { λ r. ⌜ cornerTells r ≡ cornerIn (now (image .entry)) section start end corner ⌝ }
+{
+    if corner < 1 {
+        return Corner::Rejected(Rejection::at(42, 0));
+    }
+    if end - start < corner {
+        return Corner::Rejected(Rejection::at(42, 0));
+    }
+    Corner::Number(signed_number_at(image, section.connectivity_at, section.connectivity_width, start + (corner - 1)))
+}
+
+// The number stored at an element's corner; 41, then 43, then 42. The image stays as it is.
+pub fn corner(image: &[u8], section: Section, element: u64, corner: u64) -> Corner
+    ensures { λ r. ⌜ CornerRead (now (image .entry)) section element corner r (now (image .exit)) ⌝ }
+{
+    if element < section.first {
+        return Corner::Rejected(Rejection::at(41, 0));
+    }
+    if section.last < element {
+        return Corner::Rejected(Rejection::at(41, 0));
+    }
+    let span = element_span(image, section, element - section.first);
+    let Span::Range { start, end } = span else {
+        return Corner::Rejected(Rejection::at(43, 0));
+    };
+    corner_in(image, section, start, end, corner)
+}
