@@ -96,10 +96,10 @@ has-node k m = let e = suc-mul k m in same-test 1 m (suc (k * m)) (suc k * m) (�
 
 pub span-is : (b : List ℕ) (e : Section) (k : ℕ)
     → spanOf b e k
-        ≡ provided (inside b (e .«connectivity_at») (e .«connectivity_width») (e .«connectivity_length»))
-        (cond (hasOffsets (e .«element_type»))
-        (offsetSpan b (e .«offsets_at») (e .«offsets_width») k (e .«connectivity_length»))
-        (fixedSpan k (nodesPer (e .«element_type»)) (e .«connectivity_length»)))
+    ≡ provided (inside b (e .«connectivity_at») (e .«connectivity_width») (e .«connectivity_length»))
+    (cond (hasOffsets (e .«element_type»))
+    (offsetSpan b (e .«offsets_at») (e .«offsets_width») k (e .«connectivity_length»))
+    (fixedSpan k (nodesPer (e .«element_type»)) (e .«connectivity_length»)))
 unfolding spanOf readable taken startsBefore entryStart offsetSpan rangeBetween fixedSpan _⊃_
 span-is b e k = by-type (hasOffsets (e .«element_type»)) refl
   where

@@ -5,12 +5,11 @@ ghost use lib.Dec.{T};
 ghost use Rattle.model.specs.Bytes.{half};
 ghost use Rattle.words.specs.Width.{isWidth};
 ghost use Rattle.corners.specs.Spans.{SpanIn, SpanInside, fixedSpan, rangeBetween, offsetSpan, spanOf};
-
+use super::rows::inside;
+use super::rows::number_at;
 use element_types::has_offsets;
 use element_types::nodes_per;
 use model::Section;
-use super::rows::inside;
-use super::rows::number_at;
 
 // From `start` on and before `end`, counted from 0.
 pub enum Span {
@@ -45,7 +44,11 @@ fn half_of(width: u64) -> u64
     requires { ⌜ T (isWidth width) ⌝ }
     ensures { λ r. ⌜ r ≡ half width ⌝ }
 {
-    if width == 4 { 0x8000_0000 } else { 0x8000_0000_0000_0000 }
+    if width == 4 {
+        0x8000_0000
+    } else {
+        0x8000_0000_0000_0000
+    }
 }
 
 // An element from a start offset to the next one, as their bits.
@@ -86,7 +89,12 @@ pub fn element_span(image: &[u8], section: Section, k: u64) -> Span
     ensures { λ r. ⌜ (r ≡ spanOf (now (image .entry)) section k) × SpanInside (now (image .entry)) section r ⌝ }
 {
     let length = section.connectivity_length;
-    if inside(image, section.connectivity_at, section.connectivity_width, length) {
+    if inside(
+        image,
+        section.connectivity_at,
+        section.connectivity_width,
+        length,
+    ) {
         if has_offsets(section.element_type) {
             return offset_span(image, section.offsets_at, section.offsets_width, k, length);
         }

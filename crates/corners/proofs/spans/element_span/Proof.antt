@@ -14,19 +14,21 @@ within : (c : tie.Then1) → let a = c .before .before .before .args in
 within c = sym (c .before .inside .ensures) ∙ c .if1 .taken
 
 returns : tie.Need-returns
-returns c =
-    (rw (span-is, within (c .before .before .before), sym (c .before .before .has-offsets .ensures) ∙ c .before .if2 .taken) (c .offset-span .ensures .0),
-    span-inside _ (c .before .before .before .before .before .before .args .section) (c .offset-span .result) (within (c .before .before .before)) (c .offset-span .ensures .1))
+returns c = (
+  rw (span-is, within (c .before .before .before), sym (c .before .before .has-offsets .ensures) ∙ c .before .if2 .taken) (c .offset-span .ensures .0),
+  span-inside _ (c .before .before .before .before .before .before .args .section) (c .offset-span .result) (within (c .before .before .before)) (c .offset-span .ensures .1),
+)
 
 fixed-span-requires : tie.Need-fixed-span-requires
-fixed-span-requires c κs = 
+fixed-span-requires c κs =
     (c .nodes-per .ensures .1, inside-few _ _ _ _ (omega arith) (within (c .before .before .before)))
 
 returns-2 : tie.Need-returns-2
-returns-2 c = 
-    (rw (span-is, within (c .before .before .before .before), sym (c .before .before .before .has-offsets .ensures) ∙ c .before .before .if2 .left)
-    (rw (c .before .nodes-per .ensures .0) at (c .fixed-span .ensures .0)),
-    span-inside _ (c .before .before .before .before .before .before .before .args .section) (c .fixed-span .result) (within (c .before .before .before .before)) (c .fixed-span .ensures .1))
+returns-2 c = (
+  rw (span-is, within (c .before .before .before .before), sym (c .before .before .before .has-offsets .ensures) ∙ c .before .before .if2 .left)
+      (rw (c .before .nodes-per .ensures .0) at (c .fixed-span .ensures .0)),
+  span-inside _ (c .before .before .before .before .before .before .before .args .section) (c .fixed-span .result) (within (c .before .before .before .before)) (c .fixed-span .ensures .1),
+)
 
 returns-3 : tie.Need-returns-3
 returns-3 c = (rw (span-is, sym (c .before .inside .ensures) ∙ c .if1 .left), tt)

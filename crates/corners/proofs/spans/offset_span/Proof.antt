@@ -34,10 +34,11 @@ range-between-requires c κs = inside-width _ _ _ _ (within (c .before .before))
 
 returns-2 : tie.Need-returns-2
 unfolding offsetSpan
-returns-2 c =
-    (rw (within (c .before .before .before))
-    (rw (c .before .before .number-at .ensures, c .before .number-at2 .ensures, add-one) at (c .range-between .ensures .0)),
-    c .range-between .ensures .1)
+returns-2 c = (
+  rw (within (c .before .before .before))
+      (rw (c .before .before .number-at .ensures, c .before .number-at2 .ensures, add-one) at (c .range-between .ensures .0)),
+  c .range-between .ensures .1,
+)
 
 returns-3 : tie.Need-returns-3
 unfolding offsetSpan
