@@ -5,6 +5,12 @@ pub mod Members
 pub mod Flat
 pub mod Runs
 pub mod TwosComplement
+pub mod Arrays
+pub mod InZone
+pub mod Corners
+pub mod References
+pub mod NoneNegative
+pub mod Demand3
 pub mod Passed
 pub mod Accepted
 pub mod Bounds

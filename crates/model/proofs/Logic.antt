@@ -1,8 +1,10 @@
 -- Tests and their joins.
-use Prim.Native.Nat.{ℕ}
+use Prim.Native.Nat.{ℕ, _≤_}
 use mathlib.Core.Path.{_≡_, refl}
 use mathlib.Core.Bool.{Bool, true, false, cond, not, _&&_, _||_}
 use native.Mathlib.Omega.{arith}
+use lib.Dec.{leb}
+use borrow.Author.Tests.{leb-true, le-leb}
 use Rattle.model.specs.Lists.{_⊃_}
 
 pub untrue : {A : Type 0} → false ≡ true → A
@@ -40,3 +42,20 @@ choose false x y = y
 pub or-cases : {A : Type 0} (a b : Bool) → (a || b) ≡ true → (a ≡ true → A) → (b ≡ true → A) → A
 or-cases true b e f g = f refl
 or-cases false b e f g = g e
+
+pub implied : (a b : Bool) → (a ≡ true → b ≡ true) → (a ⊃ b) ≡ true
+unfolding _⊃_
+implied true b f = f refl
+implied false b f = refl
+
+-- a number between two others, as a test
+pub between : (lo x hi : ℕ) → lo ≤ x → x ≤ hi → (leb lo x && leb x hi) ≡ true
+between lo x hi l h = and-both _ _ (le-leb lo x l) (le-leb x hi h)
+
+pub not-between : (lo x hi : ℕ) → ((lo ≤ x) × (x ≤ hi) → ⊥) → (leb lo x && leb x hi) ≡ false
+not-between lo x hi f = by-tests (leb lo x) refl (leb x hi) refl
+  where
+    by-tests : (p : Bool) → leb lo x ≡ p → (q : Bool) → leb x hi ≡ q → (p && q) ≡ false
+    by-tests true e true g = absurd (f (leb-true lo x e, leb-true x hi g))
+    by-tests true e false g = refl
+    by-tests false e q g = refl

@@ -1,11 +1,11 @@
 -- Signed numbers as their bits, over the width: what is above a number that is not negative, and when bits are the number itself.
 use Prim.Native.Nat.{ℕ, zero, suc, _+_, _*_, _-_, _≤_, _<_}
-use mathlib.Core.Path.{_≡_, refl, ap}
-use mathlib.Core.Bool.{Bool, true, false, cond, not, _&&_, _||_}
+use mathlib.Core.Path.{_≡_, refl}
+use mathlib.Core.Bool.{Bool, true, false, cond, not, _&&_}
 use native.Mathlib.Omega.{arith}
-use lib.IntN.{ℤ, pos, negsuc, natAbs}
+use lib.IntN.{pos, negsuc, natAbs}
 use lib.Pow.{pow-pos}
-use lib.Dec.{eqb, leb, ltb}
+use lib.Dec.{eqb, ltb}
 use borrow.Author.Tests.{ltb-true, lt-ltb, lt-leb, leb-false, not-true, eqb-true}
 use Rattle.model.specs.Bytes.{half, negative, below, magnitude, signed}
 use Rattle.model.specs.Corner.{widthLawful}

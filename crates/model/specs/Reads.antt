@@ -47,36 +47,36 @@ pub record EntryRead (image entries : List ℕ) (k element corner : ℕ) (r : Co
   pub entries-kept : entries′ ≡ entries
 
 -- what a read finds and leaves
-pub record State : Type 0 where
+pub record ReadState : Type 0 where
   pub image : List ℕ
   pub entries : List ℕ
 
 -- what a read is asked: with which entry of the list, an element number and a corner number
-pub record Read : Type 0 where
+pub record Request : Type 0 where
   pub which : ℕ
   pub element : ℕ
   pub corner : ℕ
 
 -- a read that was made
-pub record Step : Type 0 where
-  pub found : State
-  pub asked : Read
+pub record ReadMade : Type 0 where
+  pub found : ReadState
+  pub asked : Request
   pub answered : Corner
-  pub left : State
+  pub left : ReadState
 
 -- it meets the contract of the call
-abbrev pub IsRead : Step → Type 0
+abbrev pub IsRead : ReadMade → Type 0
 IsRead m =
     EntryRead (m .found .image) (m .found .entries) (m .asked .which) (m .asked .element) (m .asked .corner) (m .answered)
     (m .left .image)
     (m .left .entries)
 
 -- a run of a list of reads from a state to a state. Nobody else writes meanwhile, so each read finds what the one before left.
-pub data Run : State → List Read → List Step → State → Type 0 where
-  done : {s : State} → Run s [] [] s
-  next : {m : Step} {qs : List Read} {ms : List Step} {end : State} → IsRead m → Run (m .left) qs ms end → Run (m .found) (m .asked ∷ qs) (m ∷ ms) end
+pub data ReadRun : ReadState → List Request → List ReadMade → ReadState → Type 0 where
+  done : {s : ReadState} → ReadRun s [] [] s
+  next : {m : ReadMade} {qs : List Request} {ms : List ReadMade} {end : ReadState} → IsRead m → ReadRun (m .left) qs ms end → ReadRun (m .found) (m .asked ∷ qs) (m ∷ ms) end
 
 -- each one of a list
-pub data All {A : Type 0} (P : A → Type 0) : List A → Type 0 where
-  all-none : All P []
-  all-more : {x : A} {xs : List A} → P x → All P xs → All P (x ∷ xs)
+pub data AllOf {A : Type 0} (P : A → Type 0) : List A → Type 0 where
+  all-none : AllOf P []
+  all-more : {x : A} {xs : List A} → P x → AllOf P xs → AllOf P (x ∷ xs)
