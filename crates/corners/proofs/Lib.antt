@@ -2,3 +2,4 @@ pub mod Widths
 pub mod Ranges
 pub mod Outcomes
 pub mod Written
+pub mod AnsweredRun
