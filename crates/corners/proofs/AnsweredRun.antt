@@ -52,9 +52,9 @@ module _ {image entries reads : List ℕ} {numbers : List ℤ} {rules : List ℕ
   unfolding Told answerAt
   written i h =
       let r : getD rules′ i 0 ≡ ruleOf (answerAt image entries reads i) =
-          rw (a .rules-are) (written-at (λ j. ruleOf (answerAt image entries reads j)) rules 0 (requestsIn reads) i h) in
+      rw (a .rules-are) (written-at (λ j. ruleOf (answerAt image entries reads j)) rules 0 (requestsIn reads) i h) in
       let n : getD numbers′ i (pos 0) ≡ numberOf (answerAt image entries reads i) =
-          rw (a .numbers-are) (written-at (λ j. numberOf (answerAt image entries reads j)) numbers (pos 0) (requestsIn reads) i h) in
+      rw (a .numbers-are) (written-at (λ j. numberOf (answerAt image entries reads j)) numbers (pos 0) (requestsIn reads) i h) in
       record { answers = rw (r, n) (answer-told image entries reads i); image-kept = refl; entries-kept = refl }
 
   -- from the state that the runner found to the state that it left

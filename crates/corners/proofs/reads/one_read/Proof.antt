@@ -11,7 +11,7 @@ returns c = entry-read (c .before .before .if1 .taken) (rw (c .before .section-a
 
 returns-2 : tie.Need-returns-2
 returns-2 c =
-    record { answers = rw (c .at .ensures) (sym (read-unlisted _ _ _ _ _ (c .before .if1 .left))); image-kept = refl; entries-kept = refl }
+    record { answers = ap rejected (c .at .ensures) ∙ sym (read-unlisted _ _ _ _ _ (c .before .if1 .left)); image-kept = refl; entries-kept = refl }
 
 pub one-read-spec : {M : Type 1} → statement M
 one-read-spec = tie.close (tie.spec (search needs) (search needs) returns (search needs) returns-2)
