@@ -8,3 +8,14 @@ pub mod Conforming
 pub mod Counting
 pub mod Uses
 pub mod Reading
+pub mod Members
+pub mod Flat
+pub mod Runs
+pub mod TwosComplement
+pub mod Arrays
+pub mod InZone
+pub mod Corners
+pub mod References
+pub mod NoneNegative
+pub mod ZoneEntries
+pub mod Demand3
