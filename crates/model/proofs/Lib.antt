@@ -19,3 +19,5 @@ pub mod References
 pub mod NoneNegative
 pub mod ZoneEntries
 pub mod Demand3
+pub mod Staging
+pub mod Parents
