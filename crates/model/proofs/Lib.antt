@@ -21,3 +21,4 @@ pub mod ZoneEntries
 pub mod Demand3
 pub mod Staging
 pub mod Parents
+pub mod Known
