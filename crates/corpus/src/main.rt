@@ -1,6 +1,8 @@
 // Answers calls on images, both from standard input: a line a call, in the independent program's words.
 // The input is 64-bit words: of each image its length and the number of calls, then its bytes, then twelve words a call.
 
+mod print;
+
 // Word k of a call: its number, then its arguments.
 fn word(call: &[u8; 96], k: usize) -> u64 {
     if k < 12 {
@@ -9,14 +11,14 @@ fn word(call: &[u8; 96], k: usize) -> u64 {
     0
 }
 
-fn print_refusal(r: model::Rejection) {
-    io::write_all(1, b"refuse ");
-    io::print_decimal(1, r.rule);
-    io::write_all(1, b" ");
-    io::print_decimal(1, r.node);
-    if r.rule == 45 {
-        io::write_all(1, b" ");
-        io::print_decimal(1, r.element);
+// The path call with room for so many bytes, each 170 before; the memory afterwards.
+fn path_into(image: &[u8], node: u64, room: u64) {
+    let mut out = [170u8; 1024];
+    let n = room as usize;
+    if n <= 1024 {
+        let told = paths::path(image, node, &mut out[..n]);
+        print::count(told, b"length ");
+        print::bytes(&out[..n]);
     }
 }
 
@@ -28,7 +30,17 @@ fn one_call(image: &[u8]) -> bool {
         return false;
     }
     let kind = word(&call, 0);
-    io::print_decimal(1, kind);
+    let node = word(&call, 1);
+    let number = word(&call, 2);
+    if kind == 2 {
+        print::table(table::check_table(image));
+    }
+    if kind == 3 {
+        path_into(image, node, number);
+    }
+    if kind == 7 {
+        print::value(values::array_value(image, node, number));
+    }
     io::write_all(1, b"\n");
     true
 }
