@@ -22,3 +22,9 @@ pub mod Demand3
 pub mod Staging
 pub mod Parents
 pub mod Known
+pub mod Joins
+pub mod Loops
+pub mod Parents
+pub mod Children
+pub mod Validated
+pub mod Sections

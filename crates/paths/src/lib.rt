@@ -1,10 +1,10 @@
 // The path of a node: the names from below the root, each after a slash.
 use model::Count;
 use model::Rejection;
+use model::Stage;
 use records::Header;
 use records::Record;
 ghost use mathlib.Core.Path.{_≡_};
-ghost use mathlib.Core.List.{_++_};
 ghost use Prim.Native.Nat.{_+_, _≤_, _<_};
 ghost use lib.ListN.{length, take, drop};
 ghost use lib.Seq.{paste};
@@ -129,4 +129,16 @@ fn sound_path(image: &[u8], node: u64, out: &mut [u8]) -> Count
     }
     write_path(image, i, out);
     Count::Of(n as u64)
+}
+
+// The path of a node: rules 1 to 18, then 40, then 46; the path is written in front of `out`, its length answered, and the bytes beyond it stay.
+// A rejection leaves `out` as it was.
+pub fn path(image: &[u8], node: u64, out: &mut [u8]) -> Count
+    ensures { λ r. ⌜ (countTells r ≡ pathAnswer (now (image .entry)) node (length (now (out .entry)))) × (now (out .exit) ≡ pathMemory (now (image .entry)) node (now (out .entry))) ⌝ }
+{
+    let stage = table::table_stage(image);
+    if let Stage::Rejected(rejection) = stage {
+        return Count::Rejected(rejection);
+    }
+    sound_path(image, node, out)
 }

@@ -1,6 +1,7 @@
 // The values of a node's array: whole numbers, singles and doubles, their bits unchanged.
 use model::ArrayValue;
 use model::Rejection;
+use model::Stage;
 use records::Header;
 use records::Record;
 ghost use mathlib.Core.Path.{_≡_};
@@ -140,4 +141,15 @@ fn sound_value(image: &[u8], node: u64, k: u64) -> ArrayValue
         return ArrayValue::Rejected(Rejection::at(40, 0));
     }
     node_value(image, node as usize, k)
+}
+
+// Value k of a node's array, counted from 1: rules 1 to 18, then 40, 47 and 42, then the value.
+pub fn array_value(image: &[u8], node: u64, k: u64) -> ArrayValue
+    ensures { λ r. ⌜ (valueTells r ≡ valueAnswer (now (image .entry)) node k) × NanCases r ⌝ }
+{
+    let stage = table::table_stage(image);
+    if let Stage::Rejected(rejection) = stage {
+        return ArrayValue::Rejected(rejection);
+    }
+    sound_value(image, node, k)
 }

@@ -3,6 +3,7 @@ use mathlib.Core.Path.{_≡_, refl, sym, ap, _∙_}
 use mathlib.Core.Bool.{false}
 use borrow.Author.Needs.{needs}
 use lib.Ieee.{binary64, nanBits}
+use lib.Ieee.Bits.{nanBits-is}
 use Rattle.model.specs.Rules.{answer}
 use Rattle.model.specs.ArrayValue.{double}
 use Rattle.values.proofs.Laws.{no-nan, bits-kept}
@@ -16,7 +17,7 @@ plain : (c : tie.Else1) → nanBits binary64 (c .before .before .args .bits) ≡
 plain c = sym (c .before .nan-double .ensures) ∙ c .if1 .left
 
 returns-2 : tie.Need-returns-2
-returns-2 c = (ap (λ x. answer (double x)) (bits-kept binary64 (c .before .before .args .bits) (c .before .before .fits .bits .fits) (plain c)), tt)
+returns-2 c = (ap (λ x. answer (double x)) (bits-kept binary64 (c .before .before .args .bits) (c .before .before .fits .bits .fits) (plain c)), sym (nanBits-is binary64 (c .before .before .args .bits)) ∙ plain c)
 
 pub double-of-spec : {M : Type 1} → statement M
 double-of-spec = tie.close (tie.spec (search needs) returns (λ c. no-nan (nanBits binary64 (c .before .before .args .bits)) (plain c)) returns-2)
