@@ -24,7 +24,6 @@ pub mod Parents
 pub mod Known
 pub mod Joins
 pub mod Loops
-pub mod Parents
 pub mod Children
 pub mod Validated
 pub mod Sections
