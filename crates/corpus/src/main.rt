@@ -11,15 +11,27 @@ fn word(call: &[u8; 96], k: usize) -> u64 {
     0
 }
 
+// The path call with the first n bytes of a buffer lent.
+fn path_on(image: &[u8], node: u64, out: &mut [u8], n: usize) {
+    if out.len() < n {
+        return;
+    }
+    print::count(paths::path(image, node, &mut out[..n]), b"length ");
+}
+
+// The first n bytes of a buffer.
+fn memory(out: &[u8], n: usize) {
+    if out.len() < n {
+        return;
+    }
+    print::bytes(&out[..n]);
+}
+
 // The path call with room for so many bytes, each 170 before; the memory afterwards.
 fn path_into(image: &[u8], node: u64, room: u64) {
     let mut out = [170u8; 1024];
-    let n = room as usize;
-    if n <= 1024 {
-        let told = paths::path(image, node, &mut out[..n]);
-        print::count(told, b"length ");
-        print::bytes(&out[..n]);
-    }
+    path_on(image, node, &mut out, room as usize);
+    memory(&out, room as usize);
 }
 
 // Answers one call on an image, and says whether there was one.

@@ -1,4 +1,5 @@
 // Answers as lines of text, in the independent program's words.
+ghost use Rattle.model.specs.Answers.{NanCases};
 use model::ArrayValue;
 use model::Count;
 use model::Rejection;
@@ -30,9 +31,18 @@ fn signed(x: i64) {
     io::print_decimal(1, words::magnitude64(x));
 }
 
+// The bits of a single.
+fn single(bits: u32) {
+    pair(b"single ", bits as u64);
+}
+
 // The bytes of lent memory, after `room`.
 pub fn bytes(out: &[u8]) {
     io::write_all(1, b" room");
+    each_byte(out);
+}
+
+fn each_byte(out: &[u8]) {
     let mut k = 0;
     while k < out.len() {
         pair(b" ", words::byte_at(out, k));
@@ -42,7 +52,11 @@ pub fn bytes(out: &[u8]) {
 
 pub fn table(t: Table) {
     match t {
-        Table::Sound { nodes, dimensions: _, bytes: _ } => {
+        Table::Sound {
+            nodes,
+            dimensions: _,
+            bytes: _,
+        } => {
             pair(b"accept ", nodes);
         }
         Table::Rejected(r) => {
@@ -62,20 +76,22 @@ pub fn count(c: Count, word: &[u8]) {
     }
 }
 
-pub fn value(v: ArrayValue) {
+pub fn value(v: ArrayValue)
+    requires { ⌜ NanCases v ⌝ }
+{
     match v {
         ArrayValue::Whole(n) => {
             io::write_all(1, b"whole ");
             signed(n);
         }
         ArrayValue::Single(x) => {
-            pair(b"single ", f32::to_bits(x) as u64);
+            single(f32::to_bits(x));
         }
         ArrayValue::Double(x) => {
             pair(b"double ", f64::to_bits(x));
         }
         ArrayValue::SingleNan(b) => {
-            pair(b"single ", b as u64);
+            single(b);
         }
         ArrayValue::DoubleNan(b) => {
             pair(b"double ", b);

@@ -4,35 +4,10 @@ use lib.Seq.{length-take-le}
 use borrow.Author.Needs.{needs}
 use Rattle.corpus.proofs.read_image.Statement.{statement}
 use Rattle.corpus.proofs.read_image.Tie as tie
-use Rattle.corpus.proofs.read_image.Reads as reads
-use Rattle.corpus.proofs.read_image.Lts as lts
-use Rattle.io.proofs.read_full.Reads as read-full-reads
-
-returns : tie.Need-returns
-returns c = search needs
-
-slice-relend-prefix-read-full : tie.Need-slice-relend-prefix-read-full
-slice-relend-prefix-read-full c = search needs
 
 slice-aggregate-read-full : tie.Need-slice-aggregate-read-full
 slice-aggregate-read-full c = sym (length-take-le _ _ (omega arith))
 
-read-full-requires : tie.Need-read-full-requires
-read-full-requires c κs = search needs
-
-same-length : tie.Need-same-length
-same-length c = search needs
-
-returns-2 : tie.Need-returns-2
-returns-2 c = search needs
-
 pub read-image-spec : {M : Type 1} → statement M
-read-image-spec =
-    tie.close
-    (tie.spec
-    returns
-    slice-relend-prefix-read-full
-    slice-aggregate-read-full
-    read-full-requires
-    same-length
-    returns-2)
+read-image-spec = tie.close (tie.spec (search needs) (search needs) slice-aggregate-read-full (search needs)
+    (search needs) (search needs))
