@@ -1,105 +1,35 @@
 -- Demand 3, proved. A read with the k-th entry is the corner reader's at the zone's k-th section, whose answer the image's rules decide; and a run of
 -- reads changes nothing, so each of its reads is one from the given state.
-use Prim.Native.Nat.{ℕ, _+_, _*_, _-_, _/_, _≤_, _<_}
-use mathlib.Core.Path.{_≡_, refl, sym, ap, _∙_}
-use mathlib.Core.Bool.{Bool, true, false}
-use mathlib.Core.List.{List, _++_}
-use mathlib.Core.Logic.{_↔_, _⊎_, inl, inr, ⊎-elim}
+use Prim.Native.Nat.{ℕ, _+_, _-_, _/_, _<_}
+use mathlib.Core.Path.{_≡_, sym, ap, _∙_}
+use mathlib.Core.Bool.{true}
+use mathlib.Core.List.{List}
+use mathlib.Core.Logic.{_↔_, ⊎-elim}
 use native.Mathlib.Omega.{arith}
-use lib.ListN.{length, length-append}
+use lib.ListN.{length}
 use lib.IntN.{ℤ, natAbs}
-use lib.Dec.{leb, ltb}
-use borrow.Author.Tests.{leb-true, leb-false, ltb-true, ltb-false}
 use Rattle.model.specs.declared.Rejection.{Rejection}
 use Rattle.model.specs.declared.Corner.{Corner}
 use Rattle.model.specs.Lists.{over}
 use Rattle.model.specs.Rules.{Answer, rejected, answer, rejection, passed, leaves}
 use Rattle.model.specs.Image.{Tree, treeOf}
-use Rattle.model.specs.Containment.{isZone, sectionOf}
+use Rattle.model.specs.Containment.{isZone}
 use Rattle.model.specs.Elements.{NFACE, elementType, firstElement, lastElement, elementStart, cornerReference, connectivityLength}
 use Rattle.model.specs.Validation.{imageCheck}
-use Rattle.model.specs.Sections.{sectionNodes, entry, entries, sectionEntries, allNumbers, sectionsCheck, sectionsAnswer, sectionNumbersMemory}
+use Rattle.model.specs.Sections.{sectionNodes, entry, entries, sectionsCheck, sectionsAnswer, sectionNumbersMemory}
 use Rattle.model.specs.Corner.{cornerAnswer}
 use Rattle.model.specs.Answers.{cornerTells}
-use Rattle.model.specs.Reads.{entriesIn, sectionAt, readAnswer, ReadMade, IsRead}
-use Rattle.model.specs.Demand3.{sectionCount, sectionNode, given, InSection, sizeIn, IsCornerOf, storedAt, OneForEach, NodeNumber, FaceNumber, ReadAnswers, ReadHolds, Listed, Claim3, Demand3, EntriesGiven}
+use Rattle.model.specs.Reads.{readAnswer, ReadMade, IsRead}
+use Rattle.model.specs.Demand3.{sectionCount, sectionNode, given, InSection, sizeIn, IsCornerOf, storedAt, NodeNumber, FaceNumber, ReadAnswers, ReadHolds, Listed, Claim3, Demand3, EntriesGiven}
+use Rattle.model.proofs.Logic.{inside-or-not}
 use Rattle.model.proofs.Passed.{refused, check-pass, then-first, then-second, gives-check, gives-value}
-use Rattle.model.proofs.Members.{list-length, Within, member, members-rise, place}
-use Rattle.model.proofs.Flat.{numbers-length, entries-length, entry-at}
-use Rattle.model.proofs.Runs.{read-listed, read-leaves, run-exists, run-kept, ReadKept, all-of}
+use Rattle.model.proofs.Runs.{read-leaves, run-exists, run-kept, ReadKept, all-of}
+use Rattle.model.proofs.ZoneEntries.{nodes-counted, section-at, section-listed, listed-once, read-is, one-for-each}
 use Rattle.model.proofs.Accepted.{accepted}
 use Rattle.model.proofs.InZone.{InZone}
 use Rattle.model.proofs.Corners.{corner-inside, element-inside, answer-41, answer-42, answer-stored}
 use Rattle.model.proofs.NoneNegative.{not-one-negative}
 use Rattle.model.proofs.References.{one-section, HasFace, face-inside, node-inside, node-signed, face-signed}
-
--- the list of a zone's entries
-module _ (t : Tree) (z : ℕ) where
-  nodes-counted : length (sectionNodes t z) ≡ sectionCount t z
-  unfolding sectionNodes
-  nodes-counted = list-length (sectionOf t z) (t .count) 0
-
-  numbers-counted : length (allNumbers (sectionEntries t z)) ≡ 9 * sectionCount t z
-  unfolding sectionEntries
-  numbers-counted =
-      numbers-length (entries t (sectionNodes t z)) ∙ ap (λ (n : ℕ). 9 * n) (entries-length t (sectionNodes t z) ∙ nodes-counted)
-
-  section-at : (k : ℕ) → k < sectionCount t z → Within (sectionOf t z) (t .count) 0 (sectionNode t z k)
-  unfolding sectionNodes
-  section-at k h = member (sectionOf t z) (t .count) 0 k (omega (arith, nodes-counted))
-
-  sections-rise : (j k : ℕ) → j < k → k < sectionCount t z → sectionNode t z j < sectionNode t z k
-  unfolding sectionNodes
-  sections-rise j k l h = members-rise (sectionOf t z) (t .count) 0 j k l (omega (arith, nodes-counted))
-
-  section-listed : (s : ℕ) → s < t .count → sectionOf t z s ≡ true → (k : ℕ) × (k < sectionCount t z) × (sectionNode t z k ≡ s)
-  unfolding sectionNodes
-  section-listed s l e =
-      let p = place (sectionOf t z) (t .count) 0 s (record { from = omega arith; to = omega arith; holds = e }) in
-      (p .0, omega (arith, p .1, nodes-counted), p .2)
-
-  -- no section is listed twice
-  listed-once : (j k : ℕ) → j < sectionCount t z → k < sectionCount t z → sectionNode t z j ≡ sectionNode t z k → j ≡ k
-  listed-once j k l m e = by-order (ltb j k) refl (ltb k j) refl
-    where
-      by-order : (x : Bool) → ltb j k ≡ x → (y : Bool) → ltb k j ≡ y → j ≡ k
-      by-order true p y q = absurd (omega (arith, sections-rise j k (ltb-true j k p) m))
-      by-order false p true q = absurd (omega (arith, sections-rise k j (ltb-true k j q) l))
-      by-order false p false q = omega (arith, ltb-false j k p, ltb-false k j q)
-
--- a read with the k-th entry is the corner reader's, with the entry of the k-th section
-module _ (b : List ℕ) (z : ℕ) (rest : List ℕ) (k : ℕ) (h : k < sectionCount (treeOf b) z) where
-  entry-listed : k < entriesIn (given b z rest .entries)
-  entry-listed =
-      let n : length (allNumbers (sectionEntries (treeOf b) z) ++ rest) ≡ 9 * sectionCount (treeOf b) z + length rest = rw length-append (rw (numbers-counted (treeOf b) z)) in
-      omega arith
-
-  entry-is : sectionAt (given b z rest .entries) k ≡ entry (treeOf b) (sectionNode (treeOf b) z k)
-  unfolding sectionEntries
-  entry-is = entry-at (treeOf b) (sectionNodes (treeOf b) z) rest k (omega (arith, nodes-counted (treeOf b) z))
-
-  read-is : (el c : ℕ) → readAnswer b (given b z rest .entries) k el c ≡ cornerAnswer b (entry (treeOf b) (sectionNode (treeOf b) z k)) el c
-  read-is el c = read-listed b (given b z rest .entries) k el c entry-listed ∙ rw entry-is
-
-one-for-each : (b : List ℕ) (z : ℕ) (rest : List ℕ) → OneForEach b z rest
-one-for-each b z rest =
-    record {
-      nodes-counted = nodes-counted (treeOf b) z;
-      numbers-counted = numbers-counted (treeOf b) z;
-      each-is = λ k h. let w = section-at (treeOf b) z k h in (omega (arith, w .to), w .holds);
-      in-order = sections-rise (treeOf b) z;
-      each-listed = section-listed (treeOf b) z;
-      each-entry = entry-is b z rest;
-    }
-
--- a number is between two others, or it is not
-inside-or-not : (lo x hi : ℕ) → ((lo ≤ x) × (x ≤ hi)) ⊎ ((lo ≤ x) × (x ≤ hi) → ⊥)
-inside-or-not lo x hi = by-tests (leb lo x) refl (leb x hi) refl
-  where
-    by-tests : (p : Bool) → leb lo x ≡ p → (q : Bool) → leb x hi ≡ q → ((lo ≤ x) × (x ≤ hi)) ⊎ ((lo ≤ x) × (x ≤ hi) → ⊥)
-    by-tests true e true g = inl (leb-true lo x e, leb-true x hi g)
-    by-tests true e false g = inr (λ i. omega (arith, leb-false x hi g))
-    by-tests false e q g = inr (λ i. omega (arith, leb-false lo x e))
 
 -- the three answers of the reader at the zone's k-th section, and when each comes
 data Told (t : Tree) (z k el c : ℕ) (a : Answer ℤ) : Type 0 where

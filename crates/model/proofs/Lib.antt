@@ -1,6 +1,13 @@
 mod Cases
 pub mod Logic
 pub mod Walks
+pub mod Passed
+pub mod Accepted
+pub mod Bounds
+pub mod Conforming
+pub mod Counting
+pub mod Uses
+pub mod Reading
 pub mod Members
 pub mod Flat
 pub mod Runs
@@ -10,11 +17,13 @@ pub mod InZone
 pub mod Corners
 pub mod References
 pub mod NoneNegative
+pub mod ZoneEntries
 pub mod Demand3
-pub mod Passed
-pub mod Accepted
-pub mod Bounds
-pub mod Conforming
-pub mod Counting
-pub mod Uses
-pub mod Reading
+pub mod Staging
+pub mod Parents
+pub mod Known
+pub mod Joins
+pub mod Loops
+pub mod Children
+pub mod Validated
+pub mod Sections

@@ -1,10 +1,11 @@
 -- Tests and their joins.
-use Prim.Native.Nat.{ℕ, _≤_}
+use Prim.Native.Nat.{ℕ, _≤_, _<_}
 use mathlib.Core.Path.{_≡_, refl}
-use mathlib.Core.Bool.{Bool, true, false, cond, not, _&&_, _||_}
+use mathlib.Core.Bool.{Bool, true, false, cond, _&&_, _||_}
 use native.Mathlib.Omega.{arith}
 use lib.Dec.{leb}
-use borrow.Author.Tests.{leb-true, le-leb}
+use mathlib.Core.Logic.{_⊎_, inl, inr}
+use borrow.Author.Tests.{leb-true, leb-false, le-leb}
 use Rattle.model.specs.Lists.{_⊃_}
 
 pub untrue : {A : Type 0} → false ≡ true → A
@@ -52,6 +53,14 @@ implied false b f = refl
 pub between : (lo x hi : ℕ) → lo ≤ x → x ≤ hi → (leb lo x && leb x hi) ≡ true
 between lo x hi l h = and-both _ _ (le-leb lo x l) (le-leb x hi h)
 
+pub inside-or-not : (lo x hi : ℕ) → ((lo ≤ x) × (x ≤ hi)) ⊎ ((lo ≤ x) × (x ≤ hi) → ⊥)
+inside-or-not lo x hi = by-tests (leb lo x) refl (leb x hi) refl
+  where
+    by-tests : (p : Bool) → leb lo x ≡ p → (q : Bool) → leb x hi ≡ q → ((lo ≤ x) × (x ≤ hi)) ⊎ ((lo ≤ x) × (x ≤ hi) → ⊥)
+    by-tests true e true g = inl (leb-true lo x e, leb-true x hi g)
+    by-tests true e false g = inr (λ i. omega (arith, leb-false x hi g))
+    by-tests false e q g = inr (λ i. omega (arith, leb-false lo x e))
+
 pub not-between : (lo x hi : ℕ) → ((lo ≤ x) × (x ≤ hi) → ⊥) → (leb lo x && leb x hi) ≡ false
 not-between lo x hi f = by-tests (leb lo x) refl (leb x hi) refl
   where
@@ -59,3 +68,7 @@ not-between lo x hi f = by-tests (leb lo x) refl (leb x hi) refl
     by-tests true e true g = absurd (f (leb-true lo x e, leb-true x hi g))
     by-tests true e false g = refl
     by-tests false e q g = refl
+
+-- of two numbers neither is below the other
+pub neither : (a b : ℕ) → (a < b → ⊥) → (b < a → ⊥) → a ≡ b
+neither a b f g = omega arith

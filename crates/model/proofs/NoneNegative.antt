@@ -1,7 +1,7 @@
 -- The numbers of a section of an accepted image are not negative, but for its connectivity's: their bits are their values.
 use Prim.Native.Nat.{ℕ, _≤_, _<_}
 use mathlib.Core.Path.{_≡_, refl, sym, _∙_}
-use mathlib.Core.Bool.{Bool, true, false, _&&_, _||_}
+use mathlib.Core.Bool.{Bool, true, false, _&&_}
 use mathlib.Core.List.{List, [], _∷_}
 use native.Mathlib.Omega.{arith}
 use lib.IntN.{pos}
@@ -13,15 +13,13 @@ use Rattle.model.specs.Image.{Tree, treeOf, dataType, width, I4, I8}
 use Rattle.model.specs.Containment.{role, Zone, IndexRange, isZone, validated}
 use Rattle.model.specs.Values.{sidsRules, typed, shaped, typeLawful, indexDimension, vertexSize, rangeOf, offsetsOf}
 use Rattle.model.specs.Elements.{nodesPer, hasOffsets, taken, elementType, firstElement, lastElement, startOffset, elementRules}
-use Rattle.model.specs.Corner.{widthLawful}
 use Rattle.model.specs.Demand3.{NoneNegative}
 use Rattle.model.proofs.Logic.{untrue, and-first, and-second, or-left, or-cases}
-use Rattle.model.proofs.Passed.{Claim}
 use Rattle.model.proofs.Accepted.{sids-rule}
 use Rattle.model.proofs.Conforming.{conforming-type, conforming-role}
 use Rattle.model.proofs.TwosComplement.{half-wide, signed-is}
-use Rattle.model.proofs.Arrays.{width-lawful, Indices}
-use Rattle.model.proofs.InZone.{InZone, parts, role-is, section-rule, range, range-found, offsets, offsets-small}
+use Rattle.model.proofs.Arrays.{width-lawful}
+use Rattle.model.proofs.InZone.{InZone, parts, role-is, section-rule, range, range-found, offsets-small}
 use Rattle.model.proofs.References.{zone-kind, zone-listed, vertex-size-small}
 
 -- a key past all keys of a table

@@ -1,12 +1,12 @@
 -- What a section of an accepted image refers to: nodes from 1 to VertexSize, or faces. No element number is in two sections of a zone.
 use Prim.Native.Nat.{ℕ, _≤_, _<_}
 use mathlib.Core.Path.{_≡_, refl, sym, _∙_}
-use mathlib.Core.Bool.{Bool, true, false, not, _&&_}
+use mathlib.Core.Bool.{true, false, not, _&&_}
 use mathlib.Core.List.{List, [], _∷_}
 use native.Mathlib.Omega.{arith}
 use lib.IntN.{pos, natAbs}
 use lib.Dec.{eqb, leb, ltb}
-use borrow.Author.Tests.{eqb-true, ne-eqb, leb-true, le-leb, ltb-true, ltb-false, not-true}
+use borrow.Author.Tests.{eqb-true, ne-eqb, leb-true, le-leb, ltb-true, not-true}
 use Rattle.model.specs.Lists.{row, everyFrom}
 use Rattle.model.specs.Bytes.{text, same, signed}
 use Rattle.model.specs.Rules.{passed}
@@ -15,7 +15,7 @@ use Rattle.model.specs.Containment.{role, Zone, Elements, isZone, valida
 use Rattle.model.specs.Values.{sidsRules, reads, structured, unstructured, zoneTypeOf, indexDimension, vertexSize, cellSize, unstructuredSizes, zoneValue, typeLawful, valueLawful, placed, connectivityOf}
 use Rattle.model.specs.Elements.{NGON, NFACE, elementType, firstElement, lastElement, inRange, meets, overlap, overlaps, reference, connectivityLength, isNode, allNodes, faceSection, hasFace, faceOf, faceNumber, isFace, allFaces, elementRules}
 use Rattle.model.specs.Validation.{imageCheck}
-use Rattle.model.proofs.Logic.{untrue, and-first, and-second, and-both, or-cases, when}
+use Rattle.model.proofs.Logic.{untrue, and-first, and-second, and-both, or-cases, when, neither}
 use Rattle.model.proofs.Walks.{every-at, some-by, some-at}
 use Rattle.model.proofs.Accepted.{sids-rule}
 use Rattle.model.proofs.TwosComplement.{half-wide, signed-is, magnitude-is}
@@ -106,12 +106,7 @@ module _ {b : List ℕ} {z s : ℕ} (a : InZone b z s) where
 
 -- so a number that is in two ranges is in one section's
 pub one-section : {b : List ℕ} {z s r : ℕ} → InZone b z s → InZone b z r → (f : ℕ) → InRange (treeOf b) s f → InRange (treeOf b) r f → s ≡ r
-one-section {b} {z} {s} {r} a a′ f p q = by-order (ltb r s) refl (ltb s r) refl
-  where
-    by-order : (x : Bool) → ltb r s ≡ x → (y : Bool) → ltb s r ≡ y → s ≡ r
-    by-order true e y g = absurd (apart a a′ (ltb-true r s e) f p q)
-    by-order false e true g = absurd (apart a′ a (ltb-true s r g) f q p)
-    by-order false e false g = omega (arith, ltb-false r s e, ltb-false s r g)
+one-section {s = s} {r = r} a a′ f p q = neither s r (λ l. apart a′ a l f q p) (λ l. apart a a′ l f p q)
 
 -- the section of the zone that has a face
 pub record HasFace (b : List ℕ) (z f : ℕ) : Type 0 where

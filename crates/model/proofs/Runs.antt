@@ -62,6 +62,10 @@ same-state image entries image′ entries′ p q = cc
 pub read-leaves : (m : ReadMade) → IsRead m → m .left ≡ m .found
 read-leaves m r = same-state (m .found .image) (m .found .entries) (m .left .image) (m .left .entries) (r .image-kept) (r .entries-kept)
 
+pub run-leaves : {s end : ReadState} {qs : List Request} {ms : List ReadMade} → ReadRun s qs ms end → end ≡ s
+run-leaves done = refl
+run-leaves (next {m} r later) = run-leaves later ∙ read-leaves m r
+
 first-of : {A : Type 0} {P : A → Type 0} {x : A} {xs : List A} → AllOf P (x ∷ xs) → P x
 first-of (all-more h hs) = h
 

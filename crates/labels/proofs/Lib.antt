@@ -1,0 +1,6 @@
+pub mod Fields
+pub mod Tables
+pub mod Known
+pub mod Kin
+pub mod Climbing
+pub mod Grid

@@ -1,0 +1,106 @@
+//! The answers of the calls as lines of text, one for each call.
+
+use crate::faces::{face_count, face_usage};
+use crate::path::{path, path_into};
+use crate::reader::{array_value, corner, data_size, section_entries, section_entries_into};
+use crate::reader::{Section, Value, ENTRY_LENGTH};
+use crate::rejection::Rejection;
+use crate::table::check_table;
+use crate::validation::validate;
+
+/// The byte that memory lent by the `into` queries is filled with.
+pub const FILLING: u8 = 170;
+
+/// The line of an answer, or of the rejection.
+fn line<T>(answer: Result<T, Rejection>, show: impl Fn(T) -> String) -> String {
+    match answer {
+        Ok(answer) => show(answer),
+        Err(rejection) => rejection.to_string(),
+    }
+}
+
+/// Numbers, each after a blank.
+pub fn numbers<T: ToString>(items: impl IntoIterator<Item = T>) -> String {
+    let mut text = String::new();
+    for item in items {
+        text.push(' ');
+        text.push_str(&item.to_string());
+    }
+    text
+}
+
+/// `accept J P Z S`.
+pub fn validate_line(image: &[u8]) -> String {
+    line(validate(image), |c| format!("accept {} {} {} {}", c.validated, c.skipped, c.zones, c.sections))
+}
+
+/// `accept N`.
+pub fn table_line(image: &[u8]) -> String {
+    line(check_table(image), |count| format!("accept {count}"))
+}
+
+/// The path.
+pub fn path_line(image: &[u8], node: u64) -> String {
+    line(path(image, node), |path| String::from_utf8_lossy(&path).into_owned())
+}
+
+/// `sizes D s1 .. sD`.
+pub fn sizes_line(image: &[u8], node: u64) -> String {
+    line(data_size(image, node), |size| format!("sizes {}{}", size.directions, numbers(size.dimensions())))
+}
+
+/// `entries COUNT` and nine numbers for each.
+pub fn entries_line(image: &[u8], zone: u64) -> String {
+    line(section_entries(image, zone), |entries| {
+        let all = entries.iter().flat_map(Section::numbers);
+        format!("entries {}{}", entries.len(), numbers(all))
+    })
+}
+
+/// `corner NUMBER`.
+pub fn corner_line(image: &[u8], entry: &[u64; ENTRY_LENGTH], element: u64, number: u64) -> String {
+    line(corner(image, entry, element, number), |answer| format!("corner {answer}"))
+}
+
+/// `whole N`, `single BITS` or `double BITS`.
+pub fn value_line(image: &[u8], node: u64, k: u64) -> String {
+    line(array_value(image, node, k), |value| match value {
+        Value::Whole(number) => format!("whole {number}"),
+        Value::Single(bits) => format!("single {bits}"),
+        Value::Double(bits) => format!("double {bits}"),
+    })
+}
+
+/// `usage F b1 .. bF`, with memory enough.
+pub fn usage_line(image: &[u8], zone: u64) -> String {
+    let room = face_count(image, zone).unwrap_or(0) as usize;
+    let mut out = vec![FILLING; room];
+    line(face_usage(image, zone, &mut out), |count| format!("usage {count}{}", numbers(&out)))
+}
+
+/// `length L room b1 .. bR` or the rejection and `room b1 .. bR`: the path into memory of `room` bytes.
+pub fn path_into_line(image: &[u8], node: u64, room: usize) -> String {
+    let mut out = vec![FILLING; room];
+    let answer = path_into(image, node, &mut out);
+    let answered = line(answer, |length| format!("length {length}"));
+    format!("{answered} room{}", numbers(&out))
+}
+
+/// `usage F room b1 .. bR` or the rejection and `room b1 .. bR`: the face usage into memory of `room` bytes.
+pub fn usage_into_line(image: &[u8], zone: u64, room: usize) -> String {
+    let mut out = vec![FILLING; room];
+    let answer = face_usage(image, zone, &mut out);
+    let answered = line(answer, |count| format!("usage {count}"));
+    format!("{answered} room{}", numbers(&out))
+}
+
+/// `entries C room n1 .. n9R` or the rejection and `room n1 .. n9R`: the entries into memory of `room` entries, each of
+/// whose numbers was 170.
+pub fn entries_into_line(image: &[u8], zone: u64, room: usize) -> String {
+    let filling = Section::of_numbers(&[u64::from(FILLING); ENTRY_LENGTH]);
+    let mut out = vec![filling; room];
+    let answer = section_entries_into(image, zone, &mut out);
+    let answered = line(answer, |count| format!("entries {count}"));
+    let all = out.iter().flat_map(Section::numbers);
+    format!("{answered} room{}", numbers(all))
+}

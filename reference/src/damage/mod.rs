@@ -1,0 +1,79 @@
+//! Damage to lawful images: for each rule the ways in which it may be broken. A damage that finds no place for itself
+//! leaves the image as it is.
+
+mod containment;
+mod header;
+mod pick;
+mod records;
+mod sections;
+mod values;
+
+use crate::build::Image;
+use crate::random::Random;
+use containment::*;
+use header::*;
+use records::*;
+use sections::*;
+use values::*;
+
+pub use header::flips;
+
+/// A way to break an image: its nodes, words of its header, or its length in bytes.
+#[derive(Clone, Copy)]
+pub enum Damage {
+    Nodes(fn(&mut Image, &mut Random)),
+    Words(fn(&mut [u8], &mut Random)),
+    Length(fn(&mut Vec<u8>, &mut Random)),
+}
+
+use Damage::{Length, Nodes, Words};
+
+/// The rules that an image may break, each with its damages.
+pub const DAMAGES: [(u32, &[Damage]); 32] = [
+    (1, &[Length(cut_short), Length(cut_short), Length(cut_short), Length(too_long)]),
+    (2, &[Words(other_form)]),
+    (3, &[Words(other_length), Length(more_bytes), Length(fewer_bytes)]),
+    (4, &[Words(node_count_out)]),
+    (5, &[Words(word_count_out)]),
+    (6, &[Words(other_offset), Words(other_count)]),
+    (7, &[Nodes(other_parent)]),
+    (8, &[Nodes(too_deep)]),
+    (9, &[Nodes(bad_name)]),
+    (10, &[Nodes(bad_label)]),
+    (11, &[Nodes(twin_name)]),
+    (12, &[Nodes(link)]),
+    (13, &[Nodes(unknown_type)]),
+    (14, &[Nodes(dimension_count_out), Nodes(dimension_count_word)]),
+    (15, &[Nodes(other_first_word), Nodes(words_missing), Nodes(one_word_more)]),
+    (
+        16,
+        &[
+            Nodes(zero_dimension),
+            Nodes(other_dimension),
+            Nodes(wrapping_product),
+            Nodes(data_under_mt),
+            Nodes(other_data_length),
+        ],
+    ),
+    (17, &[Nodes(other_data_offset), Nodes(data_missing)]),
+    (18, &[Nodes(trailing)]),
+    (20, &[Nodes(misplaced), Nodes(misplaced), Nodes(misplaced), Nodes(misplaced), Nodes(section_in_structured_zone)]),
+    (21, &[Nodes(renamed), Nodes(second_under_other_name)]),
+    (23, &[Nodes(required_removed), Nodes(required_broken), Nodes(no_base)]),
+    (24, &[Nodes(other_type), Nodes(other_shape), Nodes(section_array_type), Nodes(rind_to_default)]),
+    (25, &[Nodes(other_values), Nodes(other_values), Nodes(rind_to_default)]),
+    (26, &[Nodes(other_array_size), Nodes(other_rind), Nodes(other_location), Nodes(rind_broken)]),
+    (27, &[Nodes(other_element_type)]),
+    (28, &[Nodes(meeting_ranges)]),
+    (29, &[Nodes(other_range_length), Nodes(other_array_length), Nodes(no_offsets)]),
+    (30, &[Nodes(first_offset)]),
+    (31, &[Nodes(offset_not_rising)]),
+    (32, &[Nodes(last_offset), Nodes(connectivity_longer)]),
+    (34, &[Nodes(other_node_reference)]),
+    (35, &[Nodes(other_face_reference), Nodes(other_face_reference), Nodes(face_section_lost)]),
+];
+
+/// The damages of a rule.
+pub fn damages_of(rule: u32) -> &'static [Damage] {
+    DAMAGES.iter().find(|(known, _)| *known == rule).map_or(&[], |&(_, damages)| damages)
+}

@@ -1,0 +1,192 @@
+//! Damage to sections (rules 27 to 35).
+
+use super::pick::{change, section, section_child};
+use super::values::break_type;
+use crate::build::Image;
+use crate::lawful::FIXED_TYPES;
+use crate::random::Random;
+use crate::sizes::MAX_NUMBER;
+use crate::text::padded;
+
+/// An element type that is not taken (rule 27).
+pub fn other_element_type(image: &mut Image, random: &mut Random) {
+    if let Some(node) = section(image, random) {
+        let types = [0, 1, 20, 20, 24, 25, 39, 56, 57, -1, -22, 278, 65_558, MAX_NUMBER, i64::from(i32::MIN)];
+        let mut numbers = image.nodes[node].numbers();
+        numbers[0] = *random.pick(&types);
+        image.nodes[node].set_numbers(&numbers);
+    }
+}
+
+/// A range that meets that of another section (rule 28).
+pub fn meeting_ranges(image: &mut Image, random: &mut Random) {
+    let Some(moved) = section(image, random) else {
+        return;
+    };
+    let zone = image.nodes[moved].parent as usize;
+    let others: Vec<usize> =
+        image.children(zone).into_iter().filter(|&n| n != moved && image.nodes[n].is_labelled("Elements_t")).collect();
+    if others.is_empty() {
+        return;
+    }
+    let other = *random.pick(&others);
+    let (Some(from), Some(to)) = (image.child(moved, "ElementRange"), image.child(other, "ElementRange")) else {
+        return;
+    };
+    let (old, target) = (image.nodes[from].numbers(), image.nodes[to].numbers());
+    let count = old[1] - old[0];
+    let first = if random.one_in(2) { target[1] } else { target[0] - count };
+    let first = first.clamp(1, MAX_NUMBER - count);
+    image.nodes[from].set_numbers(&[first, first + count]);
+}
+
+/// A range with more or fewer elements (rule 29).
+pub fn other_range_length(image: &mut Image, random: &mut Random) {
+    let Some(section) = section(image, random) else {
+        return;
+    };
+    if let Some(range) = image.child(section, "ElementRange") {
+        let mut numbers = image.nodes[range].numbers();
+        match random.below(4) {
+            0 => numbers[1] = (numbers[1] + 1).min(MAX_NUMBER),
+            1 => numbers[0] = (numbers[0] - 1).max(1),
+            2 => numbers[0] = (numbers[0] + 1).min(numbers[1]),
+            _ => numbers = vec![1, MAX_NUMBER],
+        }
+        image.nodes[range].set_numbers(&numbers);
+    }
+}
+
+/// Connectivity or start offsets one longer or shorter (rules 29 and 32).
+pub fn other_array_length(image: &mut Image, random: &mut Random) {
+    let Some(section) = section(image, random) else {
+        return;
+    };
+    let name = *random.pick(&["ElementConnectivity", "ElementStartOffset"]);
+    if let Some(array) = image.child(section, name) {
+        let mut numbers = image.nodes[array].numbers();
+        if random.one_in(2) || numbers.len() < 2 {
+            numbers.push(numbers.last().map_or(1, |last| last + 1));
+        } else {
+            numbers.pop();
+        }
+        image.nodes[array].set_list(&numbers);
+    }
+}
+
+/// Start offsets absent or not conforming (rule 29).
+pub fn no_offsets(image: &mut Image, random: &mut Random) {
+    if let Some(offsets) = section_child(image, random, &[22, 23], "ElementStartOffset") {
+        match random.below(4) {
+            0 => image.remove(offsets),
+            1 => image.nodes[offsets].name = padded(b"elementStartOffset"),
+            2 => image.nodes[offsets].data_type = if image.nodes[offsets].width() == 4 { *b"U4" } else { *b"U8" },
+            _ => image.nodes[offsets].dimensions.push(1),
+        }
+    }
+}
+
+/// A first start offset other than 0 (rule 30).
+pub fn first_offset(image: &mut Image, random: &mut Random) {
+    if let Some(offsets) = section_child(image, random, &[22, 23], "ElementStartOffset") {
+        let number = *random.pick(&[1, -1, 2, i64::from(i32::MIN), MAX_NUMBER, i64::MIN]);
+        change(image, offsets, 0, number);
+    }
+}
+
+/// A start offset not above its predecessor (rule 31).
+pub fn offset_not_rising(image: &mut Image, random: &mut Random) {
+    if let Some(offsets) = section_child(image, random, &[22, 23], "ElementStartOffset") {
+        let numbers = image.nodes[offsets].numbers();
+        let place = 1 + random.index(numbers.len().max(2) - 1);
+        let before = numbers[place - 1];
+        let choices = [before, before - 1, -1, 0, i64::from(i32::MIN), MAX_NUMBER];
+        change(image, offsets, place, *random.pick(&choices));
+    }
+}
+
+/// Another last start offset (rule 32).
+pub fn last_offset(image: &mut Image, random: &mut Random) {
+    if let Some(offsets) = section_child(image, random, &[22, 23], "ElementStartOffset") {
+        let numbers = image.nodes[offsets].numbers();
+        let last = numbers[numbers.len() - 1];
+        let choices = [last - 1, last + 1, MAX_NUMBER, last + 256, i64::MAX];
+        change(image, offsets, numbers.len() - 1, *random.pick(&choices));
+    }
+}
+
+/// Connectivity one longer or shorter (rule 32).
+pub fn connectivity_longer(image: &mut Image, random: &mut Random) {
+    if let Some(array) = section_child(image, random, &[22, 23], "ElementConnectivity") {
+        let mut numbers = image.nodes[array].numbers();
+        if random.one_in(2) || numbers.len() < 2 {
+            numbers.push(1);
+        } else {
+            numbers.pop();
+        }
+        image.nodes[array].set_list(&numbers);
+    }
+}
+
+/// A node reference out of range (rule 34).
+pub fn other_node_reference(image: &mut Image, random: &mut Random) {
+    let mut types = FIXED_TYPES.to_vec();
+    types.push(22);
+    let Some(array) = section_child(image, random, &types, "ElementConnectivity") else {
+        return;
+    };
+    let section = image.nodes[array].parent as usize;
+    let zone = image.nodes[section].parent as usize;
+    let vertices = image.nodes[zone].numbers()[0];
+    let choices = [0, -1, vertices + 1, -vertices, i64::from(i32::MIN), MAX_NUMBER, i64::MIN, i64::MAX];
+    let place = random.index(image.nodes[array].numbers().len());
+    change(image, array, place, *random.pick(&choices));
+}
+
+/// A face reference that is zero or may be no face (rule 35).
+pub fn other_face_reference(image: &mut Image, random: &mut Random) {
+    let Some(array) = section_child(image, random, &[23], "ElementConnectivity") else {
+        return;
+    };
+    let section = image.nodes[array].parent as usize;
+    let zone = image.nodes[section].parent as usize;
+    let ranges: Vec<Vec<i64>> = image
+        .children(zone)
+        .into_iter()
+        .filter_map(|n| image.child(n, "ElementRange"))
+        .map(|n| image.nodes[n].numbers())
+        .collect();
+    let range = random.pick(&ranges);
+    let sign = *random.pick(&[1, -1]);
+    let choices = [
+        0,
+        0,
+        sign * (range[0] - 1),
+        sign * (range[1] + 1),
+        sign * range[0],
+        i64::from(i32::MIN),
+        i64::from(i32::MIN),
+        sign * MAX_NUMBER,
+        i64::MIN,
+        i64::MAX,
+    ];
+    let place = random.index(image.nodes[array].numbers().len());
+    change(image, array, place, *random.pick(&choices));
+}
+
+/// A face section that is no longer one, or has fewer faces; what else it breaks may come later than the cells.
+pub fn face_section_lost(image: &mut Image, random: &mut Random) {
+    let Some(range) = section_child(image, random, &[22], "ElementRange") else {
+        return;
+    };
+    let section = image.nodes[range].parent as usize;
+    let numbers = image.nodes[range].numbers();
+    match random.below(6) {
+        0 => image.remove(section),
+        1 => change(image, section, 0, 7),
+        2 => change(image, section, 1, -1),
+        3 => change(image, range, 1, (numbers[1] - 1).max(numbers[0])),
+        4 => change(image, range, 0, 0),
+        _ => break_type(random, &mut image.nodes[section]),
+    }
+}

@@ -1,0 +1,198 @@
+//! Element sections (document 01, "Sections"): their element types, ranges, start offsets and connectivity, and rules 27
+//! to 35, each as one test that says whether it holds at a validated node.
+
+use crate::bytes::Integers;
+use crate::face_ranges::Faces;
+use crate::labels::Label;
+use crate::sids::range_of;
+use crate::sizes::zone_sizes;
+use crate::tree::Tree;
+
+/// The element type of a section of faces, each a list of nodes.
+pub const NGON_N: i64 = 22;
+/// The element type of a section of cells, each a list of faces.
+pub const NFACE_N: i64 = 23;
+
+/// How the elements of a type lie in the connectivity.
+#[derive(Clone, Copy, Debug, PartialEq, Eq)]
+pub enum Shape {
+    /// Each element has this many nodes.
+    Fixed(u64),
+    /// ElementStartOffset says where each element begins.
+    Offsets,
+}
+
+/// The shape of an element type; nothing for a type that is not taken (rule 27).
+pub fn shape_of(element_type: i64) -> Option<Shape> {
+    let nodes = match element_type {
+        2 => 1,
+        3 => 2,
+        4 => 3,
+        5 => 3,
+        6 => 6,
+        7 => 4,
+        8 => 8,
+        9 => 9,
+        10 => 4,
+        11 => 10,
+        12 => 5,
+        13 => 14,
+        14 => 6,
+        15 => 15,
+        16 => 18,
+        17 => 8,
+        18 => 20,
+        19 => 27,
+        21 => 13,
+        NGON_N | NFACE_N => return Some(Shape::Offsets),
+        _ => return None,
+    };
+    Some(Shape::Fixed(nodes))
+}
+
+/// A section's own data and its conforming children, as the rules read them.
+#[derive(Clone, Copy, Debug)]
+pub struct SectionData<'a> {
+    pub element_type: i64,
+    pub range: (i64, i64),
+    pub offsets_node: Option<usize>,
+    pub offsets: Integers<'a>,
+    pub connectivity_node: usize,
+    pub connectivity: Integers<'a>,
+}
+
+impl<'a> SectionData<'a> {
+    /// The data of an Elements_t node that meets rules 23 to 25; nothing for another node.
+    pub fn read(tree: &Tree<'a>, node: usize) -> Option<SectionData<'a>> {
+        let array = |name| tree.conforming_child(node, name, Label::DataArray);
+        let element_type = element_type_of(tree, node)?;
+        let range = element_range(tree, node)?;
+        let connectivity_node = array("ElementConnectivity")?;
+        let offsets_node = array("ElementStartOffset");
+        Some(SectionData {
+            element_type,
+            range,
+            offsets_node,
+            offsets: offsets_node.map_or(Integers::NONE, |n| tree.table.integers(n)),
+            connectivity_node,
+            connectivity: tree.table.integers(connectivity_node),
+        })
+    }
+
+    /// The number of elements: last − first + 1.
+    fn element_count(&self) -> u64 {
+        (self.range.1 - self.range.0 + 1) as u64
+    }
+
+    /// The shape of its elements.
+    fn shape(&self) -> Option<Shape> {
+        shape_of(self.element_type)
+    }
+
+    /// Whether its elements have start offsets (types 22 and 23).
+    fn has_offsets(&self) -> bool {
+        self.shape() == Some(Shape::Offsets)
+    }
+
+    /// Whether connectivity (fixed types) or start offsets (types 22 and 23) have the length that the range asks for.
+    fn lengths_fit(&self) -> bool {
+        let count = u128::from(self.element_count());
+        match self.shape() {
+            Some(Shape::Fixed(nodes)) => self.connectivity.len() as u128 == count * u128::from(nodes),
+            Some(Shape::Offsets) => self.offsets.len() as u128 == count + 1,
+            None => true,
+        }
+    }
+
+    /// Whether each start offset is above its predecessor.
+    fn offsets_rise(&self) -> bool {
+        let mut before: Option<i64> = None;
+        self.offsets.all(|offset| {
+            let rises = before.is_none_or(|b| b < offset);
+            before = Some(offset);
+            rises
+        })
+    }
+}
+
+/// The element type of a node that is an Elements_t and itself meets rules 24 and 25.
+pub fn element_type_of(tree: &Tree, node: usize) -> Option<i64> {
+    if tree.label(node) != Some(Label::Elements) || !tree.conforms(node) {
+        return None;
+    }
+    tree.table.integers(node).get(0)
+}
+
+/// The element range of a section whose ElementRange conforms.
+pub fn element_range(tree: &Tree, node: usize) -> Option<(i64, i64)> {
+    let child = tree.conforming_child(node, "ElementRange", Label::IndexRange)?;
+    range_of(tree.table.integers(child))
+}
+
+/// Whether `holds` is true of the section at a node, or the node is no section that meets rules 23 to 25.
+fn of_section(tree: &Tree, node: usize, holds: impl Fn(&SectionData) -> bool) -> bool {
+    SectionData::read(tree, node).is_none_or(|section| holds(&section))
+}
+
+/// Rule 27: the element type is taken.
+pub fn type_taken(tree: &Tree, node: usize) -> bool {
+    of_section(tree, node, |s| s.shape().is_some())
+}
+
+/// Rule 28: the range meets that of no earlier section of the zone.
+pub fn range_free(tree: &Tree, node: usize) -> bool {
+    let Some(zone) = tree.parent_labelled(node, Label::Zone) else {
+        return true;
+    };
+    of_section(tree, node, |s| {
+        tree.children_labelled(zone, Label::Elements)
+            .take_while(|&earlier| earlier < node)
+            .filter_map(|earlier| element_range(tree, earlier))
+            .all(|(first, last)| last < s.range.0 || s.range.1 < first)
+    })
+}
+
+/// Rule 29: the lengths fit the range.
+pub fn lengths_fit(tree: &Tree, node: usize) -> bool {
+    of_section(tree, node, |s| s.lengths_fit())
+}
+
+/// Rule 30: the first start offset is 0.
+pub fn first_offset_zero(tree: &Tree, node: usize) -> bool {
+    of_section(tree, node, |s| !s.has_offsets() || s.offsets.get(0) == Some(0))
+}
+
+/// Rule 31: each start offset is above its predecessor.
+pub fn offsets_rise(tree: &Tree, node: usize) -> bool {
+    of_section(tree, node, |s| !s.has_offsets() || s.offsets_rise())
+}
+
+/// Rule 32: the last start offset is the connectivity length.
+pub fn last_offset_is_length(tree: &Tree, node: usize) -> bool {
+    of_section(tree, node, |s| !s.has_offsets() || s.offsets.last() == Some(s.connectivity.len() as i64))
+}
+
+/// Rule 34: every reference of a section that is not of type 23 is a node from 1 to VertexSize.
+pub fn nodes_in_zone(tree: &Tree, node: usize) -> bool {
+    let Some(zone) = tree.parent_labelled(node, Label::Zone) else {
+        return true;
+    };
+    of_section(tree, node, |s| {
+        let vertex_size = zone_sizes(tree, zone).vertex_size[0];
+        s.element_type == NFACE_N || s.connectivity.all(|n| 1 <= n && n <= vertex_size)
+    })
+}
+
+/// Rule 35: every reference of a section of type 23 is, by magnitude, a face of the zone.
+pub fn faces_in_zone(tree: &Tree, node: usize) -> bool {
+    let Some(zone) = tree.parent_labelled(node, Label::Zone) else {
+        return true;
+    };
+    of_section(tree, node, |s| {
+        if s.element_type != NFACE_N {
+            return true;
+        }
+        let faces = Faces::of_zone(tree, zone);
+        s.connectivity.all(|n| faces.index(n).is_some())
+    })
+}

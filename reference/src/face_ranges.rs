@@ -1,0 +1,69 @@
+//! The faces of a zone as rule 35 has them: ranges of element numbers, and the index of a face among them.
+
+use crate::elements::{element_range, element_type_of, NGON_N};
+use crate::labels::Label;
+use crate::tree::Tree;
+
+/// The elements of one face section.
+#[derive(Clone, Copy, Debug, PartialEq, Eq)]
+struct FaceRange {
+    first: u64,
+    last: u64,
+    /// How many faces the sections before it in node order have.
+    before: u64,
+}
+
+/// The faces of a zone: the element numbers in the ranges of its validated sections whose own node meets rules 24 and
+/// 25, has type 22, and whose ElementRange conforms.
+#[derive(Clone, Debug)]
+pub struct Faces {
+    /// Ascending by first number; ranges may meet in an image that is not accepted.
+    ranges: Vec<FaceRange>,
+    /// For each range the greatest last number up to it.
+    reach: Vec<u64>,
+    count: u64,
+}
+
+impl Faces {
+    /// The faces of a validated zone.
+    pub fn of_zone(tree: &Tree, zone: usize) -> Faces {
+        let mut ranges = Vec::new();
+        let mut count = 0;
+        for section in tree.children_labelled(zone, Label::Elements) {
+            if element_type_of(tree, section) != Some(NGON_N) {
+                continue;
+            }
+            if let Some((first, last)) = element_range(tree, section) {
+                let (first, last) = (first as u64, last as u64);
+                ranges.push(FaceRange { first, last, before: count });
+                count += last - first + 1;
+            }
+        }
+        ranges.sort_by_key(|range| range.first);
+        let mut furthest = 0;
+        let reach = ranges
+            .iter()
+            .map(|range| {
+                furthest = range.last.max(furthest);
+                furthest
+            })
+            .collect();
+        Faces { ranges, reach, count }
+    }
+
+    /// F, the number of faces, for an accepted image: its ranges do not meet.
+    pub fn count(&self) -> u64 {
+        self.count
+    }
+
+    /// The index of the face that a reference of either sign names, by section node and then number; nothing where
+    /// there is no such face. Where ranges meet, as they cannot in an accepted image, the index only says that there is
+    /// one.
+    pub fn index(&self, reference: i64) -> Option<u64> {
+        let magnitude = reference.unsigned_abs();
+        let not_after = self.ranges.partition_point(|r| r.first <= magnitude);
+        let place = not_after.checked_sub(1)?;
+        let range = self.ranges[place];
+        (magnitude <= self.reach[place]).then(|| range.before + (magnitude - range.first))
+    }
+}

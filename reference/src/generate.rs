@@ -1,0 +1,129 @@
+//! The seeded generator: each index of a run has a target, a lawful image or a rule to be broken, so that a run of a few
+//! hundred images meets every rule that can occur.
+
+use std::collections::BTreeMap;
+
+use crate::build::Image;
+use crate::damage::{damages_of, flips, Damage, DAMAGES};
+use crate::lawful::{chain, lawful, SizeClass};
+use crate::random::Random;
+use crate::validation::validate;
+
+/// What an index is to show.
+#[derive(Clone, Copy, Debug, PartialEq, Eq)]
+enum Target {
+    Lawful,
+    Rule(u32),
+    /// A lawful image with a few bytes changed.
+    Flips,
+    /// Several damages at once.
+    Several,
+    /// A lawful image that is as deep as may be.
+    Deep,
+}
+
+/// How many indices make a round: each rule once, a lawful image after every second one, and five others.
+const ROUND: u64 = 32 + 18 + 5;
+
+/// The target of an index.
+fn target(index: u64) -> Target {
+    let place = (index % ROUND) as usize;
+    let paired = place / 3;
+    match place {
+        0..48 if place.is_multiple_of(3) => Target::Lawful,
+        0..48 => Target::Rule(DAMAGES[2 * paired + place % 3 - 1].0),
+        48 | 49 => Target::Lawful,
+        50..53 => Target::Flips,
+        53 => Target::Several,
+        _ if (index / ROUND).is_multiple_of(4) => Target::Deep,
+        _ => Target::Several,
+    }
+}
+
+/// How often another image is tried before the target is given up.
+const TRIES: u32 = 300;
+
+/// The image of an index.
+pub fn image(seed: u64, index: u64, class: SizeClass) -> Vec<u8> {
+    let mut random = Random::new(seed, index);
+    match target(index) {
+        Target::Lawful => lawful(&mut random, class).to_bytes(),
+        Target::Deep => chain(&mut random, 32).to_bytes(),
+        Target::Rule(rule) => breaking(&mut random, class, rule),
+        Target::Flips => {
+            let mut bytes = lawful(&mut random, class).to_bytes();
+            flips(&mut bytes, &mut random);
+            bytes
+        }
+        Target::Several => several(&mut random, class),
+    }
+}
+
+/// An image that breaks the rule first.
+fn breaking(random: &mut Random, class: SizeClass, rule: u32) -> Vec<u8> {
+    let mut bytes = Vec::new();
+    for _ in 0..TRIES {
+        let mut image = lawful(random, class);
+        let damage = *random.pick(damages_of(rule));
+        bytes = damaged(&mut image, random, damage);
+        if validate(&bytes).is_err_and(|rejection| rejection.rule == rule) {
+            break;
+        }
+    }
+    bytes
+}
+
+/// The bytes of an image after a damage.
+fn damaged(image: &mut Image, random: &mut Random, damage: Damage) -> Vec<u8> {
+    match damage {
+        Damage::Nodes(change) => {
+            change(image, random);
+            image.to_bytes()
+        }
+        Damage::Words(change) => {
+            let mut bytes = image.to_bytes();
+            change(&mut bytes, random);
+            bytes
+        }
+        Damage::Length(change) => {
+            let mut bytes = image.to_bytes();
+            change(&mut bytes, random);
+            bytes
+        }
+    }
+}
+
+/// An image with two or three damages of records and meaning.
+fn several(random: &mut Random, class: SizeClass) -> Vec<u8> {
+    let mut image = lawful(random, class);
+    for _ in 0..2 + random.below(2) {
+        let (rule, damages) = random.pick(&DAMAGES);
+        if let (20.., Damage::Nodes(change)) = (*rule, random.pick(damages)) {
+            change(&mut image, random);
+        }
+    }
+    image.to_bytes()
+}
+
+/// How many images of a run were accepted, and how many broke each rule.
+#[derive(Clone, Debug, Default, PartialEq, Eq)]
+pub struct Summary {
+    pub accepted: u64,
+    pub by_rule: BTreeMap<u32, u64>,
+}
+
+impl Summary {
+    /// Counts one image.
+    pub fn count(&mut self, image: &[u8]) {
+        match validate(image) {
+            Ok(_) => self.accepted += 1,
+            Err(rejection) => *self.by_rule.entry(rejection.rule).or_default() += 1,
+        }
+    }
+
+    /// `accepted A` and `rule:count` for each rule, in one line.
+    pub fn line(&self) -> String {
+        let rules: Vec<String> = self.by_rule.iter().map(|(rule, count)| format!("{rule}:{count}")).collect();
+        format!("accepted {} rejected {}", self.accepted, rules.join(" "))
+    }
+}

@@ -1,0 +1,148 @@
+//! The command line of the reference program: one line of answer for each call.
+
+use std::fs;
+use std::io::{self, Write};
+use std::path::{Path, PathBuf};
+use std::process::ExitCode;
+
+use reference::answers::*;
+use reference::cases::cases;
+use reference::generate::{image, Summary};
+use reference::lawful::SizeClass;
+use reference::queries::queries;
+
+const USAGE: &str = "\
+reference validate FILE
+reference table FILE
+reference path FILE NODE
+reference sizes FILE NODE
+reference entries FILE ZONE
+reference corner FILE E1 .. E9 ELEMENT CORNER
+reference value FILE NODE K
+reference usage FILE ZONE
+reference path-into FILE NODE ROOM
+reference entries-into FILE ZONE ROOM
+reference usage-into FILE ZONE ROOM
+reference generate SEED COUNT DIR [small|medium|large]
+reference cases DIR
+reference answers DIR
+reference queries SEED FILE";
+
+fn main() -> ExitCode {
+    let arguments: Vec<String> = std::env::args().skip(1).collect();
+    match run(&arguments) {
+        Ok(text) => match io::stdout().write_all(text.as_bytes()) {
+            Ok(()) => ExitCode::SUCCESS,
+            Err(_) => ExitCode::FAILURE,
+        },
+        Err(problem) => {
+            eprintln!("{problem}");
+            ExitCode::from(2)
+        }
+    }
+}
+
+/// The text that a command prints, or what is wrong with it.
+fn run(arguments: &[String]) -> Result<String, String> {
+    let words: Vec<&str> = arguments.iter().map(String::as_str).collect();
+    match words[..] {
+        ["generate", seed, count, folder] => generate(seed, count, folder, "small"),
+        ["generate", seed, count, folder, class] => generate(seed, count, folder, class),
+        ["cases", folder] => write_cases(folder),
+        ["answers", folder] => answers(folder),
+        ["queries", seed, file] => Ok(lines(&queries(number(seed)?, &read(file)?))),
+        [call, file, ref rest @ ..] => {
+            let numbers: Result<Vec<u64>, String> = rest.iter().map(|word| number(word)).collect();
+            answer(call, file, &numbers?).map(|line| line + "\n")
+        }
+        _ => Err(USAGE.to_string()),
+    }
+}
+
+/// The answer of a call on a file.
+fn answer(call: &str, file: &str, numbers: &[u64]) -> Result<String, String> {
+    let image = || read(file);
+    Ok(match (call, numbers) {
+        ("validate", []) => validate_line(&image()?),
+        ("table", []) => table_line(&image()?),
+        ("path", [node]) => path_line(&image()?, *node),
+        ("sizes", [node]) => sizes_line(&image()?, *node),
+        ("entries", [zone]) => entries_line(&image()?, *zone),
+        ("value", [node, k]) => value_line(&image()?, *node, *k),
+        ("usage", [zone]) => usage_line(&image()?, *zone),
+        ("path-into", [node, room]) => path_into_line(&image()?, *node, length(*room)?),
+        ("entries-into", [zone, room]) => entries_into_line(&image()?, *zone, length(*room)?),
+        ("usage-into", [zone, room]) => usage_into_line(&image()?, *zone, length(*room)?),
+        ("corner", [entry @ .., element, corner]) => {
+            let entry = entry.try_into().map_err(|_| USAGE.to_string())?;
+            corner_line(&image()?, &entry, *element, *corner)
+        }
+        _ => return Err(USAGE.to_string()),
+    })
+}
+
+/// Lines of text, each with its end.
+fn lines(lines: &[String]) -> String {
+    lines.iter().map(|line| format!("{line}\n")).collect()
+}
+
+/// The number that a word spells.
+fn number(word: &str) -> Result<u64, String> {
+    word.parse().map_err(|_| format!("{word}: not a number of 64 bits"))
+}
+
+/// A length of memory, of at most 16 MiB of places.
+fn length(room: u64) -> Result<usize, String> {
+    usize::try_from(room).ok().filter(|&room| room <= 1 << 24).ok_or(format!("{room}: too much memory"))
+}
+
+/// The bytes of a file.
+fn read(file: impl AsRef<Path>) -> Result<Vec<u8>, String> {
+    fs::read(&file).map_err(|problem| format!("{}: {problem}", file.as_ref().display()))
+}
+
+/// Writes an image into a folder.
+fn write(folder: &str, name: &str, image: &[u8]) -> Result<(), String> {
+    let place = Path::new(folder).join(format!("{name}.img"));
+    fs::create_dir_all(folder)
+        .and_then(|()| fs::write(&place, image))
+        .map_err(|problem| format!("{}: {problem}", place.display()))
+}
+
+/// Writes the images of a run; one line says what they break.
+fn generate(seed: &str, count: &str, folder: &str, class: &str) -> Result<String, String> {
+    let class = SizeClass::named(class).ok_or(USAGE)?;
+    let (seed, count) = (number(seed)?, number(count)?);
+    let mut summary = Summary::default();
+    for index in 0..count {
+        let bytes = image(seed, index, class);
+        summary.count(&bytes);
+        write(folder, &format!("{index:06}"), &bytes)?;
+    }
+    Ok(summary.line() + "\n")
+}
+
+/// Writes the worked cases; one line says how many.
+fn write_cases(folder: &str) -> Result<String, String> {
+    let all = cases();
+    for (name, image) in &all {
+        write(folder, name, image)?;
+    }
+    Ok(format!("cases {}\n", all.len()))
+}
+
+/// A line `NAME verdict` for every image of a folder, sorted by name.
+fn answers(folder: &str) -> Result<String, String> {
+    let entries = fs::read_dir(folder).map_err(|problem| format!("{folder}: {problem}"))?;
+    let mut files: Vec<PathBuf> = entries
+        .filter_map(|entry| entry.ok().map(|e| e.path()))
+        .filter(|path| path.extension().is_some_and(|e| e == "img"))
+        .collect();
+    files.sort();
+    let mut text = String::new();
+    for file in files {
+        let name = file.file_name().unwrap_or_default().to_string_lossy();
+        text += &format!("{name} {}\n", validate_line(&read(&file)?));
+    }
+    Ok(text)
+}

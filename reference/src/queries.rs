@@ -1,0 +1,184 @@
+//! A list of queries of an image with their answers, for programs that compare another reader with this one.
+
+use crate::answers::*;
+use crate::faces::face_count;
+use crate::path::path;
+use crate::random::Random;
+use crate::reader::{section_entries, Section, ENTRY_LENGTH};
+use crate::table::{check_table, Table};
+
+/// Queries of an image, each as `QUERY = ANSWER`; the same list for the same seed and image.
+pub fn queries(seed: u64, image: &[u8]) -> Vec<String> {
+    let mut asker = Asker { random: Random::new(seed, image.len() as u64), image, lines: Vec::new() };
+    asker.verdicts();
+    for node in asker.nodes() {
+        asker.about_node(node);
+    }
+    asker.absurd_corners();
+    asker.lines
+}
+
+struct Asker<'a> {
+    random: Random,
+    image: &'a [u8],
+    lines: Vec<String>,
+}
+
+impl Asker<'_> {
+    /// Notes a query and its answer.
+    fn note(&mut self, query: String, answer: String) {
+        self.lines.push(format!("{query} = {answer}"));
+    }
+
+    /// The two verdicts.
+    fn verdicts(&mut self) {
+        self.note("validate".into(), validate_line(self.image));
+        self.note("table".into(), table_line(self.image));
+    }
+
+    /// The node numbers to be asked for: all of them, or 40 where there are many, and some past the end.
+    fn nodes(&mut self) -> Vec<u64> {
+        let count = check_table(self.image).unwrap_or(2);
+        let mut nodes: Vec<u64> = (0..count).collect();
+        if nodes.len() > 40 {
+            self.random.shuffle(&mut nodes);
+            nodes.truncate(40);
+            nodes.sort_unstable();
+        }
+        nodes.extend([count, count + 1, u64::from(u32::MAX), 1 << 32, u64::MAX]);
+        nodes
+    }
+
+    /// Everything that is asked about one node.
+    fn about_node(&mut self, node: u64) {
+        let image = self.image;
+        self.note(format!("path {node}"), path_line(image, node));
+        self.short_paths(node);
+        self.note(format!("sizes {node}"), sizes_line(image, node));
+        self.values(node);
+        self.note(format!("entries {node}"), entries_line(image, node));
+        self.note(format!("usage {node}"), usage_line(image, node));
+        if let Ok(entries) = section_entries(image, node) {
+            self.about_zone(node, &entries);
+        }
+    }
+
+    /// The path into memory of fitting and of too little length.
+    fn short_paths(&mut self, node: u64) {
+        let length = path(self.image, node).map_or(3, |path| path.len());
+        let room = match self.random.below(4) {
+            0 => length.saturating_sub(1),
+            1 => length,
+            2 => length + 3,
+            _ => 0,
+        };
+        let answer = path_into_line(self.image, node, room);
+        self.note(format!("path-into {node} {room}"), answer);
+    }
+
+    /// Some values of a node, the ends of the array among them.
+    fn values(&mut self, node: u64) {
+        let count = Table::read(self.image).map_or(1, |table| {
+            let known = usize::try_from(node).ok().filter(|&n| n < table.nodes.len());
+            known.map_or(1, |n| table.dimensions(n).iter().product())
+        });
+        let inside = 1 + self.random.below(count);
+        let mut asked = vec![0, 1, inside, count, count + 1, u64::MAX];
+        asked.sort_unstable();
+        asked.dedup();
+        for k in asked {
+            self.note(format!("value {node} {k}"), value_line(self.image, node, k));
+        }
+    }
+
+    /// What is asked about a zone: memory of several lengths, and corners by its entries.
+    fn about_zone(&mut self, zone: u64, entries: &[Section]) {
+        let image = self.image;
+        let count = entries.len();
+        for room in [count.saturating_sub(1), count + 1] {
+            let answer = entries_into_line(image, zone, room);
+            self.note(format!("entries-into {zone} {room}"), answer);
+        }
+        let faces = face_count(image, zone).unwrap_or(0) as usize;
+        if faces <= 4_096 {
+            for room in [faces.saturating_sub(1), faces + 2] {
+                let answer = usage_into_line(image, zone, room);
+                self.note(format!("usage-into {zone} {room}"), answer);
+            }
+        }
+        for entry in entries {
+            self.corners(entry);
+        }
+    }
+
+    /// Corners of a section: inside, at the ends, out of range, and by an entry with one number changed.
+    fn corners(&mut self, entry: &Section) {
+        let numbers = entry.numbers();
+        for corner in [0, 1, 2, 3, 4, 5, u64::MAX] {
+            self.corner(&numbers, entry.first, corner);
+            self.corner(&numbers, entry.last, corner);
+        }
+        for element in [0, entry.first - 1, entry.last + 1, u64::MAX] {
+            self.corner(&numbers, element, 1);
+        }
+        for _ in 0..4 {
+            let element = entry.first + self.random.below(entry.last - entry.first + 1);
+            let corner = self.random.below(9);
+            self.corner(&numbers, element, corner);
+        }
+        for _ in 0..6 {
+            let mut other = numbers;
+            let place = self.random.index(ENTRY_LENGTH);
+            other[place] = self.odd_number(numbers[place]);
+            let element = self.odd_number(entry.first);
+            let (first, corner) = (entry.first, self.random.below(5));
+            self.corner(&other, first, corner);
+            self.corner(&other, element, corner);
+        }
+    }
+
+    /// A number near another, or at the end of what 64 bits hold.
+    fn odd_number(&mut self, near: u64) -> u64 {
+        let image = self.image.len() as u64;
+        match self.random.below(8) {
+            0 => near.wrapping_add(1),
+            1 => near.wrapping_sub(1),
+            2 => u64::MAX,
+            3 => 0,
+            4 => 1 << 63,
+            5 => image.wrapping_sub(self.random.below(20)),
+            6 => u64::MAX - self.random.below(9),
+            _ => self.random.below(24),
+        }
+    }
+
+    /// One corner query.
+    fn corner(&mut self, entry: &[u64; ENTRY_LENGTH], element: u64, corner: u64) {
+        let query = format!("corner{} {element} {corner}", numbers(entry));
+        let answer = corner_line(self.image, entry, element, corner);
+        self.note(query, answer);
+    }
+
+    /// Corners by entries that no image gave.
+    fn absurd_corners(&mut self) {
+        for _ in 0..12 {
+            let mut entry = [0; ENTRY_LENGTH];
+            for number in entry.iter_mut() {
+                *number = self.odd_number(8);
+            }
+            entry[1] = *self.random.pick(&[2, 5, 17, 20, 22, 23, u64::MAX, 0]);
+            entry[5] = *self.random.pick(&[4, 8, 0, 16, u64::MAX]);
+            entry[7] = *self.random.pick(&[4, 8, 0, u64::MAX]);
+            if self.random.one_in(2) {
+                entry[2] = self.random.below(3);
+                entry[3] = entry[2] + self.random.below(4);
+                entry[4] = self.random.below(64);
+                entry[6] = self.random.below(64);
+                entry[8] = self.random.below(12);
+            }
+            let element = entry[2].wrapping_add(self.random.below(3));
+            let corner = self.random.below(4);
+            self.corner(&entry, element, corner);
+        }
+    }
+}

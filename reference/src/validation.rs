@@ -1,0 +1,89 @@
+//! The whole verdict (document 01, "Rule numbers"): header, records, trailing words or bytes, then the nodes in order, at
+//! a node the lowest rule first.
+
+use crate::elements::{faces_in_zone, nodes_in_zone};
+use crate::elements::{first_offset_zero, last_offset_is_length, offsets_rise};
+use crate::elements::{lengths_fit, range_free, type_taken};
+use crate::labels::Label;
+use crate::rejection::Rejection;
+use crate::sids::{allowed_again, array_sized, contained, fixed_name_used};
+use crate::sids::{required_children, type_lawful, values_lawful};
+use crate::table::Table;
+use crate::tree::Tree;
+
+/// What an acceptance reports: nodes validated, nodes skipped, validated zones, validated sections.
+#[derive(Clone, Copy, Debug, PartialEq, Eq)]
+pub struct Counts {
+    pub validated: u64,
+    pub skipped: u64,
+    pub zones: u64,
+    pub sections: u64,
+}
+
+type NodeRule = (u32, fn(&Tree, usize) -> bool);
+
+/// The rules of a validated node, ascending. This list alone knows their order.
+const NODE_RULES: [NodeRule; 15] = [
+    (20, contained),
+    (21, fixed_name_used),
+    (22, allowed_again),
+    (23, required_children),
+    (24, type_lawful),
+    (25, values_lawful),
+    (26, array_sized),
+    (27, type_taken),
+    (28, range_free),
+    (29, lengths_fit),
+    (30, first_offset_zero),
+    (31, offsets_rise),
+    (32, last_offset_is_length),
+    (34, nodes_in_zone),
+    (35, faces_in_zone),
+];
+
+/// The four counts of an accepted image, or the first broken rule and its node.
+pub fn validate(image: &[u8]) -> Result<Counts, Rejection> {
+    validated_tree(image).map(|tree| counts(&tree))
+}
+
+/// The tree of an accepted image, or the first broken rule and its node.
+pub fn validated_tree(image: &[u8]) -> Result<Tree<'_>, Rejection> {
+    let tree = Tree::new(Table::read(image)?);
+    for node in 0..tree.count() {
+        if tree.is_validated(node) {
+            check_node(&tree, node)?;
+        }
+    }
+    Ok(tree)
+}
+
+/// The lowest broken rule of a validated node.
+fn check_node(tree: &Tree, node: usize) -> Result<(), Rejection> {
+    for (rule, holds) in NODE_RULES {
+        if !holds(tree, node) {
+            return Err(Rejection::at_node(rule, node));
+        }
+    }
+    Ok(())
+}
+
+/// The four counts of a tree.
+fn counts(tree: &Tree) -> Counts {
+    let count = |test: &dyn Fn(usize) -> bool| (0..tree.count()).filter(|&n| test(n)).count() as u64;
+    Counts {
+        validated: count(&|n| tree.is_validated(n)),
+        skipped: count(&|n| !tree.is_validated(n)),
+        zones: count(&|n| tree.is_validated_as(n, Label::Zone)),
+        sections: count(&|n| tree.is_validated_as(n, Label::Elements)),
+    }
+}
+
+/// The validated zone of an accepted image that a caller's number names, or 40.
+pub fn zone_asked_for(tree: &Tree, zone: u64) -> Result<usize, Rejection> {
+    let node = tree.table.node_asked_for(zone)?;
+    if tree.is_validated_as(node, Label::Zone) {
+        Ok(node)
+    } else {
+        Err(Rejection::of_call(40))
+    }
+}

@@ -1,0 +1,53 @@
+//! The command line: one line of answer for each call, images written into a folder.
+
+use std::fs;
+use std::path::PathBuf;
+use std::process::Command;
+
+/// What a command prints.
+fn run(arguments: &[&str]) -> String {
+    let output = Command::new(env!("CARGO_BIN_EXE_reference")).args(arguments).output().unwrap();
+    String::from_utf8(output.stdout).unwrap()
+}
+
+/// A new folder of this name.
+fn folder(name: &str) -> PathBuf {
+    let place = PathBuf::from(env!("CARGO_TARGET_TMPDIR")).join(name);
+    let _ = fs::remove_dir_all(&place);
+    place
+}
+
+#[test]
+fn calls() {
+    let place = folder("cases");
+    assert_eq!(run(&["cases", place.to_str().unwrap()]), "cases 15\n");
+    let file = |name: &str| place.join(format!("{name}.img")).to_str().unwrap().to_string();
+    let (a, l) = (file("a"), file("l"));
+    assert_eq!(run(&["validate", &a]), "accept 17 0 1 2\n");
+    assert_eq!(run(&["table", &file("i")]), "accept 17\n");
+    assert_eq!(run(&["path", &a, "10"]), "/Base/Zone1/Faces/ElementRange\n");
+    assert_eq!(run(&["sizes", &file("m"), "7"]), "sizes 3 17 33 11\n");
+    let entries = "entries 2 9 22 1 4 1736 4 1756 4 12 13 23 5 5 1820 4 1828 4 4\n";
+    assert_eq!(run(&["entries", &a, "3"]), entries);
+    let corner = ["corner", &a, "9", "22", "1", "4", "1736", "4", "1756", "4", "12", "4", "1"];
+    assert_eq!(run(&corner), "corner 3\n");
+    assert_eq!(run(&["value", &a, "2", "1"]), "whole 3\n");
+    assert_eq!(run(&["usage", &file("k"), "3"]), "usage 4 1 1 3 0\n");
+    assert_eq!(run(&["usage", &l, "3"]), "refuse 45 13 5\n");
+    assert_eq!(run(&["usage-into", &l, "3", "5"]), "refuse 45 13 5 room 0 0 0 0 170\n");
+    assert_eq!(run(&["path-into", &a, "0", "2"]), "length 1 room 47 170\n");
+    assert_eq!(run(&["entries-into", &a, "3", "0"]), "refuse 46 0 room\n");
+    assert!(run(&["answers", place.to_str().unwrap()]).starts_with("a.img accept 17 0 1 2\nb.img refuse 1 0\n"));
+    assert!(run(&["queries", "1", &a]).starts_with("validate = accept 17 0 1 2\ntable = accept 17\npath 0 = /\n"));
+    assert_eq!(run(&["corner", &a]), "");
+}
+
+#[test]
+fn generated_images() {
+    let place = folder("generated");
+    let line = run(&["generate", "1", "60", place.to_str().unwrap()]);
+    assert!(line.starts_with("accepted "));
+    let answers = run(&["answers", place.to_str().unwrap()]);
+    assert_eq!(answers.lines().count(), 60);
+    assert!(answers.starts_with("000000.img accept"));
+}

@@ -1,0 +1,70 @@
+//! The worked cases (a) to (m) of document 01, with their face usage and sizes.
+
+use reference::answers::validate_line;
+use reference::bytes::u32_at;
+use reference::cases::{case, RIND_ARRAY};
+
+use reference::{check_table, data_size, face_usage, validate, Counts, Rejection};
+
+/// The cases with their verdicts.
+const VERDICTS: [(&str, &str); 15] = [
+    ("a", "accept 17 0 1 2"),
+    ("b", "refuse 1 0"),
+    ("c", "refuse 4 0"),
+    ("d", "refuse 23 0"),
+    ("e", "refuse 30 9"),
+    ("f", "refuse 31 9"),
+    ("g", "refuse 32 9"),
+    ("h", "refuse 29 9"),
+    ("i", "refuse 34 9"),
+    ("j0", "refuse 35 13"),
+    ("j5", "refuse 35 13"),
+    ("jmin", "refuse 35 13"),
+    ("k", "accept 17 0 1 2"),
+    ("l", "accept 17 0 1 2"),
+    ("m", "accept 8 0 1 0"),
+];
+
+#[test]
+fn verdicts() {
+    for (name, verdict) in VERDICTS {
+        assert_eq!(validate_line(&case(name)), verdict, "case ({name})");
+    }
+}
+
+#[test]
+fn header_of_a() {
+    let image = case("a");
+    let words: Vec<u32> = (0..8).map(|k| u32_at(&image, 4 * k)).collect();
+    assert_eq!(words, [1, 1844, 17, 32, 1460, 16, 1588, 256]);
+    assert_eq!(image.len(), 1844);
+    let counts = Counts { validated: 17, skipped: 0, zones: 1, sections: 2 };
+    assert_eq!(validate(&image), Ok(counts));
+}
+
+#[test]
+fn lengths_of_small_cases() {
+    assert_eq!(case("b").len(), 31);
+    assert_eq!(case("c").len(), 32);
+    assert_eq!(case("d").len(), 116);
+    assert_eq!(check_table(&case("d")), Ok(1));
+}
+
+#[test]
+fn usage_of_a_k_and_l() {
+    let mut out = [9; 6];
+    assert_eq!(face_usage(&case("a"), 3, &mut out), Ok(4));
+    assert_eq!(out, [1, 1, 1, 1, 9, 9]);
+    assert_eq!(face_usage(&case("k"), 3, &mut out), Ok(4));
+    assert_eq!(out, [1, 1, 3, 0, 9, 9]);
+    let mut out = [9; 6];
+    assert_eq!(face_usage(&case("l"), 3, &mut out), Err(Rejection::at_element(45, 13, 5)));
+    assert_eq!(out, [0, 0, 0, 0, 9, 9]);
+}
+
+#[test]
+fn sizes_of_m() {
+    let size = data_size(&case("m"), RIND_ARRAY).unwrap();
+    assert_eq!(size.dimensions(), [17, 33, 11]);
+    assert_eq!(size.directions, 3);
+}
