@@ -1,3 +1,3 @@
 pub mod Same
-pub mod Shapes
+pub mod Held
 pub mod Joins

@@ -77,15 +77,16 @@ bytes-are b s i h sizes e =
 
 -- the data bytes of a node, in the image
 module _ (b : List ℕ) (s : Sound b) (i : ℕ) (h : i < nodeCount b) where
-  pub stored-is : stored (treeOf b) i ≡ take (node (treeOf b) i .dataSize) (drop (dataOffset b + node (treeOf b) i .dataAt) b)
+  stored-is : stored (treeOf b) i ≡ take (node (treeOf b) i .dataSize) (drop (treeOf b .areaAt + node (treeOf b) i .dataAt) b)
   unfolding stored treeOf
   stored-is = ap (take (node (treeOf b) i .dataSize)) (drop-drop (node (treeOf b) i .dataAt) (dataOffset b) b)
 
-  pub stored-fits : dataOffset b + node (treeOf b) i .dataAt + node (treeOf b) i .dataSize ≤ length b
-  stored-fits = let p = node-placed b (s .table) i h in let l = s .laid in omega arith
-
-  pub stored-length : length (stored (treeOf b) i) ≡ node (treeOf b) i .dataSize
-  stored-length = ap length stored-is ∙ part-length b (dataOffset b + node (treeOf b) i .dataAt) (node (treeOf b) i .dataSize) stored-fits
+  stored-length : length (stored (treeOf b) i) ≡ node (treeOf b) i .dataSize
+  unfolding treeOf
+  stored-length =
+      let p = node-placed b (s .table) i h in
+      let l = s .laid in
+      ap length stored-is ∙ part-length b (dataOffset b + node (treeOf b) i .dataAt) (node (treeOf b) i .dataSize) (omega arith)
 
   -- a text of another length; a text of that length
   pub reads-not : (u : List ℕ) → (node (treeOf b) i .dataSize ≡ length u → ⊥) → false ≡ reads (treeOf b) i u
@@ -93,6 +94,6 @@ module _ (b : List ℕ) (s : Sound b) (i : ℕ) (h : i < nodeCount b) where
   reads-not u n = sym (same-not (stored (treeOf b) i) u (λ e. n (sym stored-length ∙ e)))
 
   pub reads-is : (u : List ℕ) → node (treeOf b) i .dataSize ≡ length u
-      → same (take (length u) (drop (dataOffset b + node (treeOf b) i .dataAt) b)) u ≡ reads (treeOf b) i u
+      → same (take (length u) (drop (treeOf b .areaAt + node (treeOf b) i .dataAt) b)) u ≡ reads (treeOf b) i u
   unfolding reads
   reads-is u e = rw (stored-is, e)
