@@ -6,8 +6,20 @@ ghost use lib.ListN.{take};
 ghost use Rattle.model.specs.Image.{treeOf, nodeCount};
 ghost use Rattle.model.specs.Bounds.{Laid};
 ghost use Rattle.model.specs.Given.{Sound};
-ghost use Rattle.model.specs.Values.{typed, shaped, flat};
+ghost use Rattle.model.specs.Values.{typed, shaped, flat, zoneTypeShape};
 use records::Record;
+
+pub const MT: u64 = 1;
+
+pub const C1: u64 = 2;
+
+pub const I4: u64 = 4;
+
+pub const R4: u64 = 6;
+
+pub const I8: u64 = 7;
+
+pub const R8: u64 = 9;
 
 // The data type of node i is a.
 pub fn typed(image: &[u8], i: usize, a: u64) -> bool
@@ -51,4 +63,12 @@ pub fn shaped(image: &[u8], i: usize, n: usize, sizes: [u64; 3]) -> bool
         k += 1;
     }
     true
+}
+
+// A text: C1 with one dimension.
+pub fn text_shape(image: &[u8], i: usize) -> bool
+    requires { ⌜ Laid (now image) × (i < nodeCount (now image)) ⌝ }
+    ensures { λ r. ⌜ r ≡ zoneTypeShape (treeOf (now (image .entry))) i ⌝ }
+{
+    typed(image, i, C1) && flat(image, i)
 }

@@ -5,7 +5,7 @@ ghost use lib.ListN.{length, take, drop};
 ghost use Rattle.model.specs.Bytes.{same};
 ghost use Rattle.model.specs.Image.{treeOf, nodeCount};
 ghost use Rattle.model.specs.Given.{Sound};
-ghost use Rattle.model.specs.Values.{reads, locationValue};
+ghost use Rattle.model.specs.Values.{reads, locationValue, zoneTypeValue};
 use records::Record;
 
 // The bytes from `at` on begin with a text.
@@ -40,4 +40,12 @@ pub fn location_value(image: &[u8], i: usize) -> bool
     ensures { λ r. ⌜ r ≡ locationValue (treeOf (now (image .entry))) i ⌝ }
 {
     reads(image, i, b"Vertex") || reads(image, i, b"CellCenter")
+}
+
+// ZoneType_t: exactly Structured or Unstructured.
+pub fn zone_type_value(image: &[u8], i: usize) -> bool
+    requires { ⌜ Sound (now image) × (i < nodeCount (now image)) ⌝ }
+    ensures { λ r. ⌜ r ≡ zoneTypeValue (treeOf (now (image .entry))) i ⌝ }
+{
+    reads(image, i, b"Structured") || reads(image, i, b"Unstructured")
 }
