@@ -1,8 +1,11 @@
 // Data types, shapes and stored values of a node: what rules 24 and 25 look at.
+mod lawful;
 mod shapes;
 mod stored;
 mod values;
+mod zones;
 
+pub use lawful::type_lawful;
 pub use shapes::flat;
 pub use shapes::shaped;
 pub use shapes::text_shape;
@@ -15,3 +18,4 @@ pub use values::not_negative;
 pub use values::pair_within;
 pub use values::rind_value;
 pub use values::whole;
+pub use zones::index_dimension;
