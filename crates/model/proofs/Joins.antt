@@ -1,6 +1,8 @@
 -- Two tests joined, as code makes them: the second only where the first leaves it open.
+use Prim.Native.Nat.{ℕ}
 use mathlib.Core.Path.{_≡_, refl, sym, _∙_}
-use mathlib.Core.Bool.{Bool, true, false, cond, _&&_, _||_}
+use mathlib.Core.Bool.{Bool, true, false, cond, not, _&&_, _||_}
+use lib.Dec.{eqb}
 
 -- r answers a, s answers b
 module _ {r s a b : Bool} (e : r ≡ a) where
@@ -11,12 +13,8 @@ module _ {r s a b : Bool} (e : r ≡ a) where
   and-on h f = rw (sym e ∙ h) f
 
 module _ {r a : Bool} (b : Bool) (e : r ≡ a) where
-  pub or-done : r ≡ true → r ≡ (a || b)
-  or-done h = rw (sym e ∙ h) h
+  pub or-done : r ≡ true → true ≡ (a || b)
+  or-done h = rw (sym e ∙ h)
 
-  pub and-done : r ≡ false → r ≡ (a && b)
-  and-done h = rw (sym e ∙ h) h
-
-pub or-none : (a : Bool) → (a || false) ≡ a
-or-none true = refl
-or-none false = refl
+  pub and-done : r ≡ false → false ≡ (a && b)
+  and-done h = rw (sym e ∙ h)
