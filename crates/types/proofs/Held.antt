@@ -41,6 +41,16 @@ module _ (t : Tree) (i : ℕ) where
       by-test true e = refl
       by-test false e = e
 
+  -- one of four types is one of the first two or one of the others
+  pub four-types : (a b c d : ℕ) → typed t i (a ∷ b ∷ c ∷ d ∷ []) ≡ (typed t i (a ∷ b ∷ []) || typed t i (c ∷ d ∷ []))
+  unfolding typed among
+  four-types a b c d = by-test (eqb (dataType t i) a) (eqb (dataType t i) b) _
+    where
+      by-test : (x y z : Bool) → (x || (y || z)) ≡ ((x || (y || false)) || z)
+      by-test true y z = refl
+      by-test false true z = refl
+      by-test false false z = refl
+
   -- an I4 is 4 bytes wide, an I4 or I8 is 4 or 8 wide
   pub four-wide : typed t i (I4 ∷ []) ≡ true → width t i ≡ 4
   unfolding width widths

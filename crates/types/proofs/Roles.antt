@@ -9,8 +9,10 @@ use borrow.Author.Tests.{leb-true}
 use Rattle.model.specs.Lists.{row}
 use Rattle.model.specs.Image.{Tree, treeOf, nodeCount, parent, number, I4, I8}
 use Rattle.model.specs.Given.{Sound}
-use Rattle.model.specs.Containment.{role, Base, Zone, Elements, IndexRange, Rind}
+use Rattle.model.specs.Containment.{role, Root, Base, Zone, Elements, IndexRange, Rind}
 use Rattle.model.specs.Values.{typed, shaped, typeLawful, valueLawful, baseValue, zoneValue, indexDimension, cellDimension, structured}
+use Rattle.model.proofs.Parents.{parent-lower, lawful-at}
+use Rattle.model.proofs.Sections.{not-root}
 use Rattle.model.proofs.Logic.{and-first, and-second}
 use Rattle.types.specs.Given.{Has, Based}
 use Rattle.types.proofs.Held.{whole-four, whole-wide, has-pair, has-less}
@@ -43,3 +45,9 @@ module _ (b : List ℕ) (s : Sound b) (z : ℕ) (g : Based b z) where
       let k = leb-true n m (and-second (leb 1 n) (leb n m) (and-first (leb 1 n && leb n m) _ h)) in
       let j = leb-true m 3 (and-second (leb 1 n && leb n m) (leb m 3) h) in
       (l, omega arith)
+
+-- a node that is validated as anything but the root has a parent
+pub held-inside : (b : List ℕ) → Sound b → (i : ℕ) → i < nodeCount b → (r : ℕ) → role (treeOf b) i ≡ r → (r ≡ Root → ⊥) → parent (treeOf b) i < nodeCount b
+held-inside b s i h r e n =
+    let l = parent-lower (treeOf b) i (lawful-at b s i h) (not-root (treeOf b) i r e n) in
+    omega arith

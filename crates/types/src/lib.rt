@@ -1,9 +1,12 @@
 // Data types, shapes and stored values of a node: what rules 24 and 25 look at.
+mod arrays;
+mod lawful;
 mod shapes;
 mod stored;
 mod values;
 mod zones;
 
+pub use lawful::type_lawful;
 pub use shapes::flat;
 pub use shapes::shaped;
 pub use shapes::text_shape;

@@ -11,7 +11,12 @@ pub fn reads(image: &[u8], i: usize, text: &[u8]) -> bool
     requires { ⌜ Sound (now image) × (i < nodeCount (now image)) ⌝ }
     ensures { λ r. ⌜ r ≡ reads (treeOf (now (image .entry))) i (now (text .entry)) ⌝ }
 {
-    labels::same_at(image, records::data_start(image, i), Record::read(image, i).data_size as usize, text)
+    labels::same_at(
+        image,
+        records::data_start(image, i),
+        Record::read(image, i).data_size as usize,
+        text,
+    )
 }
 
 // The same of a child that may be missing: node i, or the node count.
