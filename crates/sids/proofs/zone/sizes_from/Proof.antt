@@ -1,0 +1,9 @@
+use borrow.Author.Needs.{needs}
+use Rattle.sids.proofs.zone.sizes_from.Statement.{statement}
+use Rattle.sids.proofs.zone.sizes_from.Tie as tie
+
+returns : tie.Need-returns
+returns c = ?ret
+
+pub sizes-from-spec : {M : Type 1} → statement M
+sizes-from-spec = tie.close (tie.spec (λ c κs. search needs) (λ c κs. search needs) (λ c κs. search needs) returns)

@@ -1,0 +1,15 @@
+-- What the functions here are given, in place of tests that were made before them.
+use Prim.Native.Nat.{ℕ}
+use mathlib.Core.Path.{_≡_}
+use mathlib.Core.Bool.{true}
+use mathlib.Core.List.{List}
+use Rattle.model.specs.Image.{treeOf}
+use Rattle.model.specs.Containment.{role, Zone}
+use Rattle.model.specs.Values.{typeLawful}
+use Rattle.types.specs.Given.{Based}
+
+-- a Zone_t that meets 24, under a base that meets 24 and 25: its sizes can be read
+pub record Shaped (b : List ℕ) (z : ℕ) : Type 0 where
+  pub based : Based b z
+  pub zone : role (treeOf b) z ≡ Zone
+  pub type : typeLawful (treeOf b) z ≡ true
