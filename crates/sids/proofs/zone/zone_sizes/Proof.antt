@@ -5,7 +5,9 @@ use Rattle.sids.proofs.zone.zone_sizes.Tie as tie
 
 returns : tie.Need-returns
 unfolding vertexSize cellSize boundarySize
-returns c = ?ret
+returns c = 
+    let e = c .before .before .before .index-dimension .ensures .0 in
+    rw (c .before .before .sizes-from .ensures, c .before .sizes-from2 .ensures, c .sizes-from3 .ensures, e)
 
 pub zone-sizes-spec : {M : Type 1} → statement M
-zone-sizes-spec = tie.close (tie.spec (λ c κs. search needs) (search needs) (λ c κs. search needs) (λ c κs. search needs) (search needs) (λ c κs. search needs) returns)
+zone-sizes-spec = tie.close (tie.spec (λ c κs. search needs) (λ c κs. search needs) (λ c κs. search needs) (search needs) (λ c κs. search needs) returns)
