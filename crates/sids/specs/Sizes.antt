@@ -1,10 +1,11 @@
 -- A zone's sizes as three rows of three numbers: a direction that the zone lacks is 0.
-use Prim.Native.Nat.{ℕ}
-use mathlib.Core.Bool.{cond}
+use Prim.Native.Nat.{ℕ, _+_}
+use mathlib.Core.Bool.{Bool, cond, _&&_}
 use mathlib.Core.List.{List, [], _∷_}
-use lib.Dec.{ltb}
+use lib.ListN.{getD}
+use lib.Dec.{ltb, leb, eqb}
 use Rattle.model.specs.Image.{Tree}
-use Rattle.model.specs.Values.{indexDimension, vertexSize, cellSize, boundarySize}
+use Rattle.model.specs.Values.{maxNumber, structured, indexDimension, vertexSize, cellSize, boundarySize, structuredSizes, unstructuredSizes}
 
 -- f in direction d of n
 abbrev pub direction : (ℕ → ℕ) → ℕ → ℕ → ℕ
@@ -20,3 +21,17 @@ zoneSizes t z =
     ∷ directions (cellSize t z) (indexDimension t z)
     ∷ directions (boundarySize t z) (indexDimension t z)
     ∷ []
+
+-- row k of sizes, in direction d
+abbrev pub sizeIn : List (List ℕ) → ℕ → ℕ → ℕ
+sizeIn sizes k d = getD (getD sizes k []) d 0
+
+-- the sizes of one direction are permitted
+abbrev pub structuredIn : ℕ → ℕ → ℕ → Bool
+structuredIn v c w = leb 2 v && leb v maxNumber && eqb (c + 1) v && eqb w 0
+
+abbrev pub unstructuredIn : ℕ → ℕ → ℕ → Bool
+unstructuredIn v c w = leb 1 v && leb v maxNumber && leb c maxNumber && leb w v
+
+abbrev pub permittedIn : Tree → ℕ → ℕ → Bool
+permittedIn t z d = cond (structured t z) (structuredSizes t z d) (unstructuredSizes t z d)

@@ -2,3 +2,4 @@
 pub mod zone; // zone.rt: a zone's sizes
 
 pub use zone::zone_sizes;
+pub use zone::zone_value;

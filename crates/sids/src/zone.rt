@@ -3,9 +3,10 @@ ghost use mathlib.Core.Path.{_≡_};
 ghost use Prim.Native.Nat.{_+_, _*_, _≤_, _<_};
 ghost use Rattle.model.specs.Image.{treeOf, number};
 ghost use Rattle.model.specs.Given.{Sound};
-ghost use Rattle.model.specs.Values.{indexDimension};
+ghost use mathlib.Core.Bool.{cond};
+ghost use Rattle.model.specs.Values.{indexDimension, zoneValue};
 ghost use Rattle.sids.specs.Given.{Shaped};
-ghost use Rattle.sids.specs.Sizes.{direction, directions, zoneSizes};
+ghost use Rattle.sids.specs.Sizes.{direction, directions, zoneSizes, sizeIn, structuredIn, unstructuredIn};
 
 // The size in direction d of n, of those that stand from `from` on; 0 where the zone lacks it.
 fn size_at(image: &[u8], z: usize, n: usize, from: usize, d: usize) -> u64
@@ -41,4 +42,68 @@ pub fn zone_sizes(image: &[u8], z: usize) -> [[u64; 3]; 3]
     let cells = sizes_from(image, z, n, n);
     let boundary = sizes_from(image, z, n, 2 * n);
     [vertices, cells, boundary]
+}
+
+// Structured, in one direction: VertexSize at least 2, CellSize = VertexSize − 1, boundary 0.
+fn structured_sizes(vertices: u64, cells: u64, boundary: u64) -> bool
+    ensures { λ r. ⌜ r ≡ structuredIn vertices cells boundary ⌝ }
+{
+    if vertices < 2 {
+        return false;
+    }
+    if types::MAX_NUMBER < vertices {
+        return false;
+    }
+    if cells != vertices - 1 {
+        return false;
+    }
+    boundary == 0
+}
+
+// Unstructured: VertexSize at least 1, CellSize at least 0, boundary 0 to VertexSize.
+fn unstructured_sizes(vertices: u64, cells: u64, boundary: u64) -> bool
+    ensures { λ r. ⌜ r ≡ unstructuredIn vertices cells boundary ⌝ }
+{
+    if vertices < 1 {
+        return false;
+    }
+    if types::MAX_NUMBER < vertices {
+        return false;
+    }
+    if types::MAX_NUMBER < cells {
+        return false;
+    }
+    boundary <= vertices
+}
+
+// The sizes in direction d are permitted.
+fn sizes_permitted(structured: bool, sizes: [[u64; 3]; 3], d: usize) -> bool
+    requires { ⌜ d < 3 ⌝ }
+    ensures { λ r. ⌜ r ≡ cond structured (structuredIn (sizeIn sizes 0 d) (sizeIn sizes 1 d) (sizeIn sizes 2 d)) (unstructuredIn (sizeIn sizes 0 d) (sizeIn sizes 1 d) (sizeIn sizes 2 d)) ⌝ }
+{
+    let vertices = sizes[0][d];
+    let cells = sizes[1][d];
+    let boundary = sizes[2][d];
+    if structured {
+        return structured_sizes(vertices, cells, boundary);
+    }
+    unstructured_sizes(vertices, cells, boundary)
+}
+
+// Rule 25 of Zone_t, direction by direction.
+pub fn zone_value(image: &[u8], z: usize) -> bool
+    requires { ⌜ Sound (now image) × Shaped (now image) z ⌝ }
+    ensures { λ r. ⌜ r ≡ zoneValue (treeOf (now (image .entry))) z ⌝ }
+{
+    let n = types::index_dimension(image, z) as usize;
+    let structured = types::structured(image, z);
+    let sizes = zone_sizes(image, z);
+    let mut d = 0;
+    while d < n {
+        if !sizes_permitted(structured, sizes, d) {
+            return false;
+        }
+        d += 1;
+    }
+    true
 }

@@ -16,6 +16,7 @@ pub use stored::location_value;
 pub use stored::reads;
 pub use stored::reads_if_found;
 pub use stored::zone_type_value;
+pub use values::MAX_NUMBER;
 pub use values::not_negative;
 pub use values::pair_within;
 pub use values::rind_value;
