@@ -1,1 +1,2 @@
 pub mod Zones
+pub mod Found

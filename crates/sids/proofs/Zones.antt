@@ -51,7 +51,7 @@ zone-value-is t z = by-test (structured t z)
 
 pub permitted-is : (t : Tree) (z d : ℕ) → d < indexDimension t z → indexDimension t z ≤ 3
     → cond (structured t z) (structuredIn (sizeIn (zoneSizes t z) 0 d) (sizeIn (zoneSizes t z) 1 d) (sizeIn (zoneSizes t z) 2 d))
-      (unstructuredIn (sizeIn (zoneSizes t z) 0 d) (sizeIn (zoneSizes t z) 1 d) (sizeIn (zoneSizes t z) 2 d))
+    (unstructuredIn (sizeIn (zoneSizes t z) 0 d) (sizeIn (zoneSizes t z) 1 d) (sizeIn (zoneSizes t z) 2 d))
     ≡ permittedIn t z d
 unfolding structuredSizes unstructuredSizes
 permitted-is t z d h l =

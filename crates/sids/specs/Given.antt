@@ -1,10 +1,10 @@
 -- What the functions here are given, in place of tests that were made before them.
-use Prim.Native.Nat.{ℕ}
+use Prim.Native.Nat.{ℕ, _<_}
 use mathlib.Core.Path.{_≡_}
 use mathlib.Core.Bool.{true}
 use mathlib.Core.List.{List}
-use Rattle.model.specs.Image.{treeOf}
-use Rattle.model.specs.Containment.{role, Zone}
+use Rattle.model.specs.Image.{treeOf, nodeCount, parent}
+use Rattle.model.specs.Containment.{role, Zone, Rind}
 use Rattle.model.specs.Values.{typeLawful}
 use Rattle.types.specs.Given.{Based}
 
@@ -13,3 +13,9 @@ pub record Shaped (b : List ℕ) (z : ℕ) : Type 0 where
   pub based : Based b z
   pub zone : role (treeOf b) z ≡ Zone
   pub type : typeLawful (treeOf b) z ≡ true
+
+-- a child of node i that is validated as r can be judged
+pub record Asked (b : List ℕ) (i r : ℕ) : Type 0 where
+  pub inside : i < nodeCount b
+  pub zone : r ≡ Zone → ⊥
+  pub rind : r ≡ Rind → Based b (parent (treeOf b) i)

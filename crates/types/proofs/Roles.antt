@@ -7,15 +7,15 @@ use native.Mathlib.Omega.{arith}
 use lib.Dec.{eqb, leb}
 use borrow.Author.Tests.{leb-true}
 use Rattle.model.specs.Lists.{row}
-use Rattle.model.specs.Image.{Tree, treeOf, nodeCount, parent, number, I4, I8}
+use Rattle.model.specs.Image.{Tree, treeOf, nodeCount, parent, dimensions, number, I4, I8}
 use Rattle.model.specs.Given.{Sound}
 use Rattle.model.specs.Containment.{role, Root, Base, Zone, Elements, IndexRange, Rind}
-use Rattle.model.specs.Values.{typed, shaped, typeLawful, valueLawful, baseValue, zoneValue, indexDimension, cellDimension, structured}
+use Rattle.model.specs.Values.{typed, shaped, flat, typeLawful, valueLawful, baseValue, indexDimension, cellDimension, zoneAbove}
 use Rattle.model.proofs.Parents.{parent-lower, lawful-at}
 use Rattle.model.proofs.Sections.{not-root}
 use Rattle.model.proofs.Logic.{and-first, and-second}
 use Rattle.types.specs.Given.{Has, Based}
-use Rattle.types.proofs.Held.{whole-four, whole-wide, has-pair, has-less}
+use Rattle.types.proofs.Held.{whole-four, whole-wide, shaped-is, has-pair, has-less}
 
 module _ (t : Tree) (i : ℕ) where
   pub base-type : role t i ≡ Base → typeLawful t i ≡ true → (typed t i (I4 ∷ []) && shaped t i (2 ∷ [])) ≡ true
@@ -26,13 +26,51 @@ module _ (t : Tree) (i : ℕ) where
   unfolding valueLawful row baseValue
   base-value e h = rw e at h
 
+  pub elements-type : role t i ≡ Elements → typeLawful t i ≡ true → (typed t i (I4 ∷ []) && shaped t i (2 ∷ [])) ≡ true
+  unfolding typeLawful row
+  elements-type e h = rw e at h
+
+  pub range-type : role t i ≡ IndexRange → typeLawful t i ≡ true → (typed t i (I4 ∷ I8 ∷ []) && shaped t i (2 ∷ [])) ≡ true
+  unfolding typeLawful row
+  range-type e h = rw e at h
+
+  pub rind-type : role t i ≡ Rind → typeLawful t i ≡ true → (typed t i (I4 ∷ []) && shaped t i (2 * indexDimension t (zoneAbove t i) ∷ [])) ≡ true
+  unfolding typeLawful row
+  rind-type e h = rw e at h
+
+-- a pair of numbers can be read
+module _ (b : List ℕ) (s : Sound b) (i : ℕ) (h : i < nodeCount b) where
+  pair-has : (typed (treeOf b) i (I4 ∷ []) && shaped (treeOf b) i (2 ∷ [])) ≡ true → Has b i 1
+  pair-has e =
+      has-pair b s i h (whole-four (treeOf b) i (and-first (typed (treeOf b) i (I4 ∷ [])) _ e)) (and-second (typed (treeOf b) i (I4 ∷ [])) _ e)
+
+  pub base-has : role (treeOf b) i ≡ Base → typeLawful (treeOf b) i ≡ true → Has b i 1
+  base-has r e = pair-has (base-type (treeOf b) i r e)
+
+  pub elements-has : role (treeOf b) i ≡ Elements → typeLawful (treeOf b) i ≡ true → Has b i 1
+  elements-has r e = pair-has (elements-type (treeOf b) i r e)
+
+  pub range-has : role (treeOf b) i ≡ IndexRange → typeLawful (treeOf b) i ≡ true → Has b i 1
+  range-has r e =
+      let g = range-type (treeOf b) i r e in
+      has-pair b s i h (whole-wide (treeOf b) i (and-first (typed (treeOf b) i (I4 ∷ I8 ∷ [])) _ g)) (and-second (typed (treeOf b) i (I4 ∷ I8 ∷ [])) _ g)
+
+-- a Rind_t is I4 with one dimension
+module _ (t : Tree) (i : ℕ) (r : role t i ≡ Rind) (e : typeLawful t i ≡ true) where
+  pub rind-four : typed t i (I4 ∷ []) ≡ true
+  rind-four = and-first (typed t i (I4 ∷ [])) _ (rind-type t i r e)
+
+  pub rind-dimensions : dimensions t i ≡ 2 * indexDimension t (zoneAbove t i) ∷ []
+  rind-dimensions = shaped-is t i _ (and-second (typed t i (I4 ∷ [])) _ (rind-type t i r e))
+
+  pub rind-flat : flat t i ≡ true
+  unfolding flat
+  rind-flat = rw rind-dimensions
+
 module _ (b : List ℕ) (s : Sound b) (z : ℕ) (g : Based b z) where
   pub based-has : Has b (parent (treeOf b) z) 0
   based-has =
-      let h = base-type (treeOf b) (parent (treeOf b) z) (g .base) (g .type) in
-      has-less b (parent (treeOf b) z) 1 0
-      (has-pair b s (parent (treeOf b) z) (g .above) (whole-four (treeOf b) (parent (treeOf b) z) (and-first _ _ h)) (and-second (typed (treeOf b) (parent (treeOf b) z) (I4 ∷ [])) _ h))
-      (omega arith)
+      has-less b (parent (treeOf b) z) 1 0 (base-has b s (parent (treeOf b) z) (g .above) (g .base) (g .type)) (omega arith)
 
   -- CellDimension is 1 to 3
   pub cell-dimension : (1 ≤ cellDimension (treeOf b) (parent (treeOf b) z)) × (cellDimension (treeOf b) (parent (treeOf b) z) ≤ 3)

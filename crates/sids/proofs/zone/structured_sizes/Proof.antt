@@ -13,13 +13,13 @@ returns-2 : tie.Need-returns-2
 returns-2 c = rw (le-leb _ _ (c .before .if1 .left), lt-leb _ _ (c .if2 .taken))
 
 returns-3 : tie.Need-returns-3
-returns-3 c = 
+returns-3 c =
     let a = c .before .before .before .args in
     let n : a .cells + 1 ≡ a .vertices → ⊥ = λ e. c .if3 .taken (omega arith) in
     rw (le-leb _ _ (c .before .before .if1 .left), le-leb _ _ (c .before .if2 .left), ne-eqb (a .cells + 1) (a .vertices) n)
 
 returns-4 : tie.Need-returns-4
-returns-4 c = 
+returns-4 c =
     let a = c .before .before .before .args in
     let e : a .cells + 1 ≡ a .vertices = omega arith in
     rw (le-leb _ _ (c .before .before .if1 .left), le-leb _ _ (c .before .if2 .left), eq-eqb (a .cells + 1) (a .vertices) e)

@@ -5,7 +5,7 @@ use Rattle.sids.proofs.zone.zone_sizes.Tie as tie
 
 returns : tie.Need-returns
 unfolding vertexSize cellSize boundarySize
-returns c = 
+returns c =
     let e = c .before .before .before .index-dimension .ensures .0 in
     rw (c .before .before .sizes-from .ensures, c .before .sizes-from2 .ensures, c .sizes-from3 .ensures, e)
 
