@@ -51,3 +51,11 @@ plain b i r h e =
       zone = λ z. untrue (sym e ∙ or-left (eqb r Zone) (eqb r Rind) (eq-eqb r Zone z));
       rind = λ z. untrue (sym e ∙ or-right (eqb r Zone) (eqb r Rind) (eq-eqb r Rind z));
     }
+
+pub plain-ready : (b : List ℕ) (i r : ℕ) → i < nodeCount b → role (treeOf b) i ≡ r → (eqb r Zone || eqb r Rind) ≡ false → Ready b i
+plain-ready b i r h q e =
+    record {
+      inside = h;
+      zone = λ z. untrue (sym e ∙ or-left (eqb r Zone) (eqb r Rind) (eq-eqb r Zone (sym q ∙ z)));
+      rind = λ z. untrue (sym e ∙ or-right (eqb r Zone) (eqb r Rind) (eq-eqb r Rind (sym q ∙ z)));
+    }

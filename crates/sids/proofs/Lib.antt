@@ -1,2 +1,3 @@
 pub mod Zones
 pub mod Found
+pub mod Rinds

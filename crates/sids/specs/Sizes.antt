@@ -4,8 +4,8 @@ use mathlib.Core.Bool.{Bool, cond, _&&_}
 use mathlib.Core.List.{List, [], _∷_}
 use lib.ListN.{getD}
 use lib.Dec.{ltb, leb, eqb}
-use Rattle.model.specs.Image.{Tree}
-use Rattle.model.specs.Values.{maxNumber, structured, indexDimension, vertexSize, cellSize, boundarySize, structuredSizes, unstructuredSizes}
+use Rattle.model.specs.Image.{Tree, parent}
+use Rattle.model.specs.Values.{maxNumber, structured, indexDimension, vertexSize, cellSize, boundarySize, cellCentred, structuredSizes, unstructuredSizes}
 
 -- f in direction d of n
 abbrev pub direction : (ℕ → ℕ) → ℕ → ℕ → ℕ
@@ -35,3 +35,7 @@ unstructuredIn v c w = leb 1 v && leb v maxNumber && leb c maxNumber && leb w v
 
 abbrev pub permittedIn : Tree → ℕ → ℕ → Bool
 permittedIn t z d = cond (structured t z) (structuredSizes t z d) (unstructuredSizes t z d)
+
+-- VertexSize, or CellSize for CellCenter, of what stands under node p
+abbrev pub innerSize : Tree → ℕ → ℕ → ℕ
+innerSize t p d = cond (cellCentred t p) (cellSize t (parent t p) d) (vertexSize t (parent t p) d)
