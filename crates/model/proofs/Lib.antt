@@ -15,3 +15,5 @@ pub mod Children
 pub mod Validated
 pub mod Sections
 pub mod Above
+pub mod Staging
+pub mod Parents
