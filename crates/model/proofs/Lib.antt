@@ -16,4 +16,3 @@ pub mod Validated
 pub mod Sections
 pub mod Above
 pub mod Staging
-pub mod Parents
