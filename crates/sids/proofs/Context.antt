@@ -2,22 +2,25 @@
 use Prim.Native.Nat.{ℕ, _≤_, _<_}
 use mathlib.Core.Path.{_≡_, refl, sym, ap, _∙_}
 use mathlib.Core.Bool.{Bool, true, false, _&&_, _||_}
-use mathlib.Core.List.{List, [], _∷_}
+use mathlib.Core.List.{List, [], _∷_, _++_}
 use native.Mathlib.Omega.{arith}
 use lib.Dec.{eqb}
 use borrow.Author.Tests.{eqb-true, ne-eqb}
 use Rattle.model.specs.Lists.{_⊃_, row, among}
+use Rattle.model.specs.Rules.{check, passed, Check, _then_}
 use Rattle.model.specs.Image.{Tree, treeOf, nodeCount, parent}
 use Rattle.model.specs.Given.{NodesTo}
 use Rattle.model.specs.Containment.{role, validated, mayHold, containment, Root, Base, Zone, Elements, Rind, GridCoordinates, FlowSolution, DataArray}
 use Rattle.model.specs.Values.{placed, unstructured, typeLawful, valueLawful, zoneAbove, sidsRules, sizedArray}
 use Rattle.model.proofs.Logic.{untrue, and-first, and-second}
 use Rattle.model.proofs.Parents.{parent-lower, lawful-at}
+use Rattle.model.proofs.Staging.{check-append}
 use Rattle.model.proofs.Sections.{not-root}
 use Rattle.model.proofs.Above.{validated-above, earlier-rule, held-by}
 use Rattle.types.specs.Given.{Based, Ready}
 use Rattle.types.proofs.Held.{or-none}
 use Rattle.sids.specs.Given.{Shaped, Held}
+use Rattle.sids.specs.Groups.{placeRules, contentRules, sizeRules}
 
 -- a list of one; what may hold a zone; what holds the three kinds of nodes under a zone
 among-one : (x y : ℕ) → among x (y ∷ []) ≡ true → x ≡ y
@@ -134,3 +137,15 @@ module _ (b : List ℕ) (i : ℕ) (g : NodesTo b i) where
         three true y z h = refl
         three false true z h = refl
         three false false z h = untrue h
+
+-- no rule is left
+pub no-rule : (node : ℕ) → check node [] ≡ passed
+unfolding check
+no-rule node = refl
+
+-- the groups are the whole
+pub sids-groups : (t : Tree) (i : ℕ) → check i (sidsRules t i) ≡ (check i (placeRules t i) then (check i (contentRules t i) then check i (sizeRules t i)))
+unfolding sidsRules
+sids-groups t i =
+    check-append i (placeRules t i) (contentRules t i ++ sizeRules t i)
+    ∙ ap (λ (c : Check). check i (placeRules t i) then c) (check-append i (contentRules t i) (sizeRules t i))

@@ -4,7 +4,7 @@ use mathlib.Core.Path.{_≡_, refl, sym, ap, _∙_}
 use mathlib.Core.Bool.{Bool, true, false, cond, _&&_}
 use mathlib.Core.List.{List, [], _∷_}
 use native.Mathlib.Omega.{arith}
-use lib.ListN.{getD}
+use lib.ListN.{getD, take}
 use lib.Dec.{ltb, leb, eqb}
 use borrow.Author.Tests.{lt-ltb, leb-true, eqb-true}
 use Rattle.model.specs.Lists.{row, everyFrom}
@@ -12,7 +12,7 @@ use Rattle.model.specs.Image.{Tree, treeOf, parent, I4, I8}
 use Rattle.model.specs.Given.{Sound}
 use Rattle.model.specs.Records.{product}
 use Rattle.model.specs.Containment.{role, Zone}
-use Rattle.model.specs.Values.{typed, shaped, typeLawful, valueLawful, indexDimension, structured, vertexSize, cellSize, boundarySize, cellCentred, structuredSizes, unstructuredSizes, zoneValue}
+use Rattle.model.specs.Values.{typed, shaped, typeLawful, valueLawful, indexDimension, structured, vertexSize, cellSize, boundarySize, cellCentred, dataSize, dataSizesFrom, dataSizes, structuredSizes, unstructuredSizes, zoneValue}
 use Rattle.model.proofs.Walks.{every-at}
 use Rattle.model.proofs.Logic.{and-first, and-second}
 use Rattle.types.specs.Given.{Has}
@@ -95,3 +95,16 @@ inner-small t p e v d h = by-test (cellCentred t p) (size-bounds t (parent t p) 
     by-test : (a : Bool) → (vertexSize t (parent t p) d ≤ 2147483647) × (cellSize t (parent t p) d ≤ 2147483647) → cond a (cellSize t (parent t p) d) (vertexSize t (parent t p) d) ≤ 2147483647
     by-test true l = l .1
     by-test false l = l .0
+
+-- the sizes in the directions that the zone has are DataSize
+pub data-sizes-are : (t : Tree) (p : ℕ) → indexDimension t (parent t p) ≤ 3
+    → take (indexDimension t (parent t p)) (directions (dataSize t p) (indexDimension t (parent t p))) ≡ dataSizes t p
+unfolding dataSizes dataSizesFrom
+data-sizes-are t p l = of (indexDimension t (parent t p)) l
+  where
+    of : (n : ℕ) → n ≤ 3 → take n (directions (dataSize t p) n) ≡ dataSizesFrom t p n 0
+    of zero h = refl
+    of (suc zero) h = refl
+    of (suc (suc zero)) h = refl
+    of (suc (suc (suc zero))) h = refl
+    of (suc (suc (suc (suc n)))) h = absurd (omega arith)

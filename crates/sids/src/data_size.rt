@@ -19,7 +19,11 @@ fn cell_centred(image: &[u8], p: usize) -> bool
     if labels::role_of(image, p) != 6 {
         return false;
     }
-    types::reads_if_found(image, conforming(image, p, 10, b"GridLocation"), b"CellCenter")
+    types::reads_if_found(
+        image,
+        conforming(image, p, 10, b"GridLocation"),
+        b"CellCenter",
+    )
 }
 
 // VertexSize, or CellSize for CellCenter, in each direction.

@@ -12,13 +12,13 @@ unfolding cellCentred
 returns c = rw (← c .before .role-of .ensures .0, ne-eqb _ _ (c .if1 .taken))
 
 conforming-requires : tie.Need-conforming-requires
-conforming-requires c κs = 
+conforming-requires c κs =
     let s = c .before .before .before .before in
     ((s .pre .0, plain (s .args .image .now) (s .args .p) 10 (s .pre .1) refl), search needs)
 
 returns-2 : tie.Need-returns-2
 unfolding cellCentred text
-returns-2 c = 
+returns-2 c =
     let d = c .before .before in
     let e = d .before .before in
     rw (sym (e .before .role-of .ensures .0) ∙ e .if1 .left) (rw (d .conforming .ensures .0) at (c .reads-if-found .ensures))

@@ -21,7 +21,7 @@ rind-sum-requires c κs =
     (p .0, ((p .1 .0 .0, search needs), (search needs, search needs)))
 
 add-result : tie.Need-add-result
-add-result c = 
+add-result c =
     let s = c .before .before .before in
     let t = treeOf (s .args .image .now) in
     let p = s .args .p in
@@ -34,7 +34,7 @@ add-result c =
 
 returns-2 : tie.Need-returns-2
 unfolding dataSize
-returns-2 c = 
+returns-2 c =
     let s = c .before .before .before in
     let t = treeOf (s .args .image .now) in
     let p = s .args .p in

@@ -21,27 +21,30 @@ unfolding text
 data-size-at-requires c κs =
     let d = c in
     let j = d .before .before .conforming .ensures in
-    let n = d .index-dimension .ensures in
-    (d .before .before .before .before .before .before .pre,
-     ((j .0, n .0 ∙ ap (indexDimension _) (d .before .parent-of .ensures .0)), ((j .1, (n .2, search needs)), d .before .before .before .before .inner-sizes .ensures)))
+    let n = d .index-dimension .ensures in (
+      d .before .before .before .before .before .before .pre,
+      ((j .0, n .0 ∙ ap (indexDimension _) (d .before .parent-of .ensures .0)), ((j .1, (n .2, search needs)), d .before .before .before .before .inner-sizes .ensures)),
+    )
 
 data-size-at-requires-2 : tie.Need-data-size-at-requires-2
 unfolding text
 data-size-at-requires-2 c κs =
     let d = c .before in
     let j = d .before .before .conforming .ensures in
-    let n = d .index-dimension .ensures in
-    (d .before .before .before .before .before .before .pre,
-     ((j .0, n .0 ∙ ap (indexDimension _) (d .before .parent-of .ensures .0)), ((j .1, (n .2, search needs)), d .before .before .before .before .inner-sizes .ensures)))
+    let n = d .index-dimension .ensures in (
+      d .before .before .before .before .before .before .pre,
+      ((j .0, n .0 ∙ ap (indexDimension _) (d .before .parent-of .ensures .0)), ((j .1, (n .2, search needs)), d .before .before .before .before .inner-sizes .ensures)),
+    )
 
 data-size-at-requires-3 : tie.Need-data-size-at-requires-3
 unfolding text
 data-size-at-requires-3 c κs =
     let d = c .before .before in
     let j = d .before .before .conforming .ensures in
-    let n = d .index-dimension .ensures in
-    (d .before .before .before .before .before .before .pre,
-     ((j .0, n .0 ∙ ap (indexDimension _) (d .before .parent-of .ensures .0)), ((j .1, (n .2, search needs)), d .before .before .before .before .inner-sizes .ensures)))
+    let n = d .index-dimension .ensures in (
+      d .before .before .before .before .before .before .pre,
+      ((j .0, n .0 ∙ ap (indexDimension _) (d .before .parent-of .ensures .0)), ((j .1, (n .2, search needs)), d .before .before .before .before .inner-sizes .ensures)),
+    )
 
 returns : tie.Need-returns
 returns c =

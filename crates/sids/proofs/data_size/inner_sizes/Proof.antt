@@ -8,12 +8,12 @@ zone-sizes-requires : tie.Need-zone-sizes-requires
 zone-sizes-requires c κs = let s = c .before .before in (s .pre .0, rw (c .parent-of .ensures .0) (s .pre .1 .zone))
 
 returns : tie.Need-returns
-returns c = 
+returns c =
     let d = c .before .before .before in
     rw (d .zone-sizes .ensures, d .before .parent-of .ensures .0) (row-second _ _ (sym (c .before .before .cell-centred .ensures) ∙ c .before .if1 .taken))
 
 returns-2 : tie.Need-returns-2
-returns-2 c = 
+returns-2 c =
     let d = c .before .before .before in
     rw (d .zone-sizes .ensures, d .before .parent-of .ensures .0) (row-first _ _ (sym (c .before .before .cell-centred .ensures) ∙ c .before .if1 .left))
 
