@@ -9,11 +9,15 @@ use borrow.Author.Tests.{eqb-true, ne-eqb}
 use Rattle.model.specs.Lists.{_⊃_, row, among}
 use Rattle.model.specs.Rules.{check, passed, Check, _then_}
 use Rattle.model.specs.Image.{Tree, treeOf, nodeCount, parent}
-use Rattle.model.specs.Given.{NodesTo}
+use Rattle.model.specs.Given.{NodesTo, Accepted}
+use Rattle.model.specs.Records.{tableCheck}
+use Rattle.model.specs.Validation.{imageCheck, nodeCheck, nodeCheckAt}
 use Rattle.model.specs.Containment.{role, validated, mayHold, containment, Root, Base, Zone, Elements, Rind, GridCoordinates, FlowSolution, DataArray}
 use Rattle.model.specs.Values.{placed, unstructured, typeLawful, valueLawful, zoneAbove, sidsRules, sizedArray}
 use Rattle.model.proofs.Logic.{untrue, and-first, and-second}
 use Rattle.model.proofs.Parents.{parent-lower, lawful-at}
+use Rattle.model.proofs.Passed.{then-second, checkFrom-at}
+use Rattle.model.proofs.Accepted.{sids-rule}
 use Rattle.model.proofs.Staging.{check-append}
 use Rattle.model.proofs.Sections.{not-root}
 use Rattle.model.proofs.Above.{validated-above, earlier-rule, held-by}
@@ -96,14 +100,13 @@ module _ (b : List ℕ) (i : ℕ) (g : NodesTo b i) where
         value = a .value;
       }
 
-  -- what stands two above a node whose parent is one of those three
-  zone-over : (j : ℕ) → Placed j → (j ≡ 0 → ⊥) → among (role (treeOf b) (parent (treeOf b) j)) (GridCoordinates ∷ FlowSolution ∷ Elements ∷ []) ≡ true → Held b (parent (treeOf b) j)
-  zone-over j p n k =
+  -- one of those three kinds stands under a zone that meets 24 and 25
+  held : (j : ℕ) → Placed j → among (role (treeOf b) j) (GridCoordinates ∷ FlowSolution ∷ Elements ∷ []) ≡ true → Held b j
+  held j p k =
       let t = treeOf b in
-      let a = above j p n in
-      let q = above (parent t j) (a .upper) (no-root t (parent t j) (role t (parent t j)) k refl) in
-      let z = zone-holds (role t (parent t (parent t j))) (role t (parent t j)) k (q .holds) in
-      record { inside = a .inside; zone = record { based = based (parent t (parent t j)) (q .upper) z; zone = z; type = q .type }; value = q .value }
+      let a = above j p (no-root t j (role t j) k refl) in
+      let z = zone-holds (role t (parent t j)) (role t j) k (a .holds) in
+      record { inside = omega arith; zone = record { based = based (parent t j) (a .upper) z; zone = z; type = a .type }; value = a .value }
 
   module _ (v : validated (treeOf b) i ≡ true) (q : placed (treeOf b) i ≡ true) where
     here : Placed i
@@ -122,7 +125,12 @@ module _ (b : List ℕ) (i : ℕ) (g : NodesTo b i) where
         rind-based e =
             let n = not-root (treeOf b) i Rind e (λ (z : _≡_ {A = ℕ} 9 14). absurd (omega arith)) in
             let a = above i here n in
-            zone-over i here n (rind-under (role (treeOf b) (parent (treeOf b) i)) (rw e at (a .holds))) .zone .based
+            held (parent (treeOf b) i) (a .upper) (rind-under (role (treeOf b) (parent (treeOf b) i)) (rw e at (a .holds))) .zone .based
+
+    -- the zone of a section
+    pub section-held : role (treeOf b) i ≡ Elements → Held b i
+    unfolding among
+    section-held e = held i here (rw e)
 
     -- the zone of a coordinate or flow array
     pub sized-held : sizedArray (treeOf b) i ≡ true → Held b (parent (treeOf b) i)
@@ -131,7 +139,7 @@ module _ (b : List ℕ) (i : ℕ) (g : NodesTo b i) where
         let t = treeOf b in
         let d = eqb-true (role t i) DataArray (and-first (eqb (role t i) DataArray) _ e) in
         let n = not-root t i DataArray d (λ (z : _≡_ {A = ℕ} 11 14). absurd (omega arith)) in
-        zone-over i here n (three (eqb (role t (parent t i)) 5) (eqb (role t (parent t i)) 6) _ (and-second (eqb (role t i) DataArray) _ e))
+        held (parent t i) (above i here n .upper) (three (eqb (role t (parent t i)) 5) (eqb (role t (parent t i)) 6) _ (and-second (eqb (role t i) DataArray) _ e))
       where
         three : (x y z : Bool) → (x || (y || false)) ≡ true → (x || (y || z)) ≡ true
         three true y z h = refl
@@ -149,3 +157,26 @@ unfolding sidsRules
 sids-groups t i =
     check-append i (placeRules t i) (contentRules t i ++ sizeRules t i)
     ∙ ap (λ (c : Check). check i (placeRules t i) then c) (check-append i (contentRules t i) (sizeRules t i))
+
+-- an accepted image: validation has come to every node
+pub accepted-to : (b : List ℕ) → Accepted b → (i : ℕ) → i < nodeCount b → NodesTo b i
+unfolding imageCheck nodeCheck treeOf
+accepted-to b a i h =
+    record {
+      sound = a .sound;
+      inside = h;
+      before = λ j l. checkFrom-at (nodeCheckAt (treeOf b)) (nodeCount b) 0 j (then-second (tableCheck b) _ (a .image)) (omega arith) (omega arith);
+    }
+
+module _ (b : List ℕ) (a : Accepted b) (i : ℕ) (h : i < nodeCount b) (v : validated (treeOf b) i ≡ true) where
+  place : placed (treeOf b) i ≡ true
+  unfolding sidsRules
+  place = sids-rule b (a .image) 20 i h v
+
+  -- the zone of a coordinate or flow array, and a zone itself
+  pub accepted-held : sizedArray (treeOf b) i ≡ true → Held b (parent (treeOf b) i)
+  accepted-held = sized-held b i (accepted-to b a i h) v place
+
+  pub accepted-zone : role (treeOf b) i ≡ Zone → Shaped b i
+  unfolding sidsRules
+  accepted-zone e = record { based = ready b i (accepted-to b a i h) v place .zone e; zone = e; type = sids-rule b (a .image) 24 i h v }
