@@ -7,6 +7,7 @@ ghost use Rattle.model.specs.Given.{Sound};
 ghost use Rattle.model.specs.Values.{conforming, rangeOf, offsetsOf, connectivityOf};
 ghost use Rattle.sids.specs.Given.{Asked};
 use super::values::value_lawful;
+use labels::roles;
 
 // The conforming child of node i with this role and name.
 pub fn conforming(image: &[u8], i: usize, role: u64, name: &[u8]) -> usize
@@ -32,7 +33,7 @@ pub fn range_of(image: &[u8], s: usize) -> usize
     requires { ⌜ Sound (now image) × (s < nodeCount (now image)) ⌝ }
     ensures { λ r. ⌜ (r ≡ rangeOf (treeOf (now (image .entry))) s) × (r ≤ nodeCount (now (image .entry))) ⌝ }
 {
-    conforming(image, s, 8, b"ElementRange")
+    conforming(image, s, roles::INDEX_RANGE, b"ElementRange")
 }
 
 // Its ElementStartOffset.
@@ -40,7 +41,7 @@ pub fn offsets_of(image: &[u8], s: usize) -> usize
     requires { ⌜ Sound (now image) × (s < nodeCount (now image)) ⌝ }
     ensures { λ r. ⌜ (r ≡ offsetsOf (treeOf (now (image .entry))) s) × (r ≤ nodeCount (now (image .entry))) ⌝ }
 {
-    conforming(image, s, 11, b"ElementStartOffset")
+    conforming(image, s, roles::DATA_ARRAY, b"ElementStartOffset")
 }
 
 // Its ElementConnectivity.
@@ -48,5 +49,5 @@ pub fn connectivity_of(image: &[u8], s: usize) -> usize
     requires { ⌜ Sound (now image) × (s < nodeCount (now image)) ⌝ }
     ensures { λ r. ⌜ (r ≡ connectivityOf (treeOf (now (image .entry))) s) × (r ≤ nodeCount (now (image .entry))) ⌝ }
 {
-    conforming(image, s, 11, b"ElementConnectivity")
+    conforming(image, s, roles::DATA_ARRAY, b"ElementConnectivity")
 }

@@ -10,18 +10,22 @@ ghost use Rattle.sids.specs.Given.{Held};
 ghost use Rattle.sids.specs.Sizes.{direction, directions, innerSize};
 use super::children::conforming;
 use super::zone::zone_sizes;
+use labels::roles;
+
+// What a direction without rind adds.
+const NO_RIND: u64 = 0;
 
 // The arrays under p stand at CellCenter.
 fn cell_centred(image: &[u8], p: usize) -> bool
     requires { ⌜ Sound (now image) × (p < nodeCount (now image)) ⌝ }
     ensures { λ r. ⌜ r ≡ cellCentred (treeOf (now (image .entry))) p ⌝ }
 {
-    if labels::role_of(image, p) != 6 {
+    if labels::role_of(image, p) != roles::FLOW_SOLUTION {
         return false;
     }
     types::reads_if_found(
         image,
-        conforming(image, p, 10, b"GridLocation"),
+        conforming(image, p, roles::GRID_LOCATION, b"GridLocation"),
         b"CellCenter",
     )
 }
@@ -46,7 +50,7 @@ fn rind_sum(image: &[u8], p: usize, rind: usize, d: usize) -> u64
     ensures { λ r. ⌜ (r ≡ rindNumber (treeOf (now (image .entry))) p (2 * d) + rindNumber (treeOf (now (image .entry))) p (2 * d + 1)) × (r ≤ 4294967294) ⌝ }
 {
     if rind == labels::node_count(image) {
-        return 0;
+        return NO_RIND;
     }
     types::whole(image, rind, 2 * d) + types::whole(image, rind, 2 * d + 1)
 }
@@ -71,7 +75,7 @@ pub fn data_sizes(image: &[u8], p: usize) -> [u64; 3]
     ensures { λ r. ⌜ r ≡ directions (dataSize (treeOf (now (image .entry))) p) (indexDimension (treeOf (now (image .entry))) (parent (treeOf (now (image .entry))) p)) ⌝ }
 {
     let inner = inner_sizes(image, p);
-    let rind = conforming(image, p, 9, b"Rind");
+    let rind = conforming(image, p, roles::RIND, b"Rind");
     let n = types::index_dimension(image, records::parent_of(image, p)) as usize;
     let i = data_size_at(image, p, rind, n, inner, 0);
     let j = data_size_at(image, p, rind, n, inner, 1);

@@ -70,9 +70,9 @@ pub fn complete(image: &[u8], i: usize) -> bool
 {
     let role = labels::role_of(image, i);
     match role {
-        14 => has_base(image),
-        3 => types::zone_type_of(image, i) < labels::node_count(image),
-        7 => section_complete(image, i),
+        roles::ROOT => has_base(image),
+        roles::ZONE => types::zone_type_of(image, i) < labels::node_count(image),
+        roles::ELEMENTS => section_complete(image, i),
         _ => true,
     }
 }

@@ -6,6 +6,7 @@ ghost use Rattle.model.specs.Given.{Sound};
 ghost use Rattle.model.specs.Values.{typeLawful, valueLawful};
 ghost use Rattle.types.specs.Given.{Ready};
 use super::zone::zone_value;
+use labels::roles;
 
 // Rule 25 at a node that meets 24.
 pub fn value_lawful(image: &[u8], i: usize) -> bool
@@ -14,13 +15,13 @@ pub fn value_lawful(image: &[u8], i: usize) -> bool
 {
     let role = labels::role_of(image, i);
     match role {
-        2 => types::pair_within(image, i, 3),
-        3 => zone_value(image, i),
-        4 => types::zone_type_value(image, i),
-        7 => types::not_negative(image, i, 1),
-        8 => types::pair_within(image, i, types::MAX_NUMBER),
-        9 => types::rind_value(image, i),
-        10 => types::location_value(image, i),
+        roles::BASE => types::pair_within(image, i, 3),
+        roles::ZONE => zone_value(image, i),
+        roles::ZONE_TYPE => types::zone_type_value(image, i),
+        roles::ELEMENTS => types::not_negative(image, i, 1),
+        roles::INDEX_RANGE => types::pair_within(image, i, types::MAX_NUMBER),
+        roles::RIND => types::rind_value(image, i),
+        roles::GRID_LOCATION => types::location_value(image, i),
         _ => true,
     }
 }

@@ -9,6 +9,7 @@ use super::shapes;
 use super::shapes::flat;
 use super::shapes::typed;
 use super::shapes::typed_either;
+use labels::roles;
 use records::Record;
 
 // The name is ElementConnectivity or ElementStartOffset.
@@ -47,9 +48,9 @@ pub fn array_type(image: &[u8], i: usize) -> bool
 {
     let role = labels::role_of(image, records::parent_of(image, i));
     match role {
-        5 => typed_either(image, i, shapes::R4, shapes::R8),
-        6 => number_type(image, i),
-        7 => section_array_type(image, i),
+        roles::GRID_COORDINATES => typed_either(image, i, shapes::R4, shapes::R8),
+        roles::FLOW_SOLUTION => number_type(image, i),
+        roles::ELEMENTS => section_array_type(image, i),
         _ => false,
     }
 }

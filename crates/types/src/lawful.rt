@@ -15,6 +15,7 @@ use super::shapes::text_shape;
 use super::shapes::typed;
 use super::shapes::typed_either;
 use super::zones::index_dimension;
+use labels::roles;
 
 // The data type is a, and the dimensions are the first n of these sizes.
 fn typed_shaped(image: &[u8], i: usize, a: u64, n: usize, sizes: [u64; 3]) -> bool
@@ -62,15 +63,15 @@ pub fn type_lawful(image: &[u8], i: usize) -> bool
 {
     let role = labels::role_of(image, i);
     match role {
-        1 => typed_shaped(image, i, shapes::R4, 1, [1, 0, 0]),
-        2 | 7 => typed_shaped(image, i, shapes::I4, 1, [2, 0, 0]),
-        3 => zone_shape(image, i),
-        4 | 10 | 12 => text_shape(image, i),
-        5 | 13 => typed(image, i, shapes::MT),
-        6 | 14 => typed(image, i, shapes::MT),
-        8 => whole_shaped(image, i, 1, [2, 0, 0]),
-        9 => rind_shape(image, i),
-        11 => array_type(image, i),
+        roles::LIBRARY_VERSION => typed_shaped(image, i, shapes::R4, 1, [1, 0, 0]),
+        roles::BASE | roles::ELEMENTS => typed_shaped(image, i, shapes::I4, 1, [2, 0, 0]),
+        roles::ZONE => zone_shape(image, i),
+        roles::ZONE_TYPE | roles::GRID_LOCATION | roles::DESCRIPTOR => text_shape(image, i),
+        roles::GRID_COORDINATES | roles::USER_DEFINED_DATA => typed(image, i, shapes::MT),
+        roles::FLOW_SOLUTION | roles::ROOT => typed(image, i, shapes::MT),
+        roles::INDEX_RANGE => whole_shaped(image, i, 1, [2, 0, 0]),
+        roles::RIND => rind_shape(image, i),
+        roles::DATA_ARRAY => array_type(image, i),
         _ => false,
     }
 }

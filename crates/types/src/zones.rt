@@ -9,6 +9,7 @@ use super::shapes::text_shape;
 use super::stored::reads_if_found;
 use super::stored::zone_type_value;
 use super::values::whole;
+use labels::roles;
 
 // The zone's conforming ZoneType; the node count where there is none.
 pub fn zone_type_of(image: &[u8], z: usize) -> usize
@@ -16,7 +17,7 @@ pub fn zone_type_of(image: &[u8], z: usize) -> usize
     ensures { λ r. ⌜ (r ≡ zoneTypeOf (treeOf (now (image .entry))) z) × (r ≤ nodeCount (now (image .entry))) ⌝ }
 {
     let n = labels::node_count(image);
-    let j = labels::child(image, z, 4, b"ZoneType");
+    let j = labels::child(image, z, roles::ZONE_TYPE, b"ZoneType");
     if j == n {
         return n;
     }
