@@ -27,3 +27,5 @@ pub mod Loops
 pub mod Children
 pub mod Validated
 pub mod Sections
+pub mod Above
+pub mod Staging
