@@ -1,0 +1,33 @@
+-- Rows of numbers in bytes, and what rules 31, 34 and 35 ask of each number of a row.
+use Prim.Native.Nat.{ℕ, suc, _+_, _*_, _≤_}
+use mathlib.Core.Bool.{Bool, _&&_}
+use mathlib.Core.List.{List}
+use lib.ListN.{length, getD}
+use lib.Dec.{T, leb}
+use Rattle.words.specs.Width.{isWidth}
+use Rattle.model.specs.Lists.{someFrom}
+use Rattle.model.specs.Bytes.{below, magnitude}
+use Rattle.model.specs.Corner.{numberAt}
+
+-- n numbers of 4 or 8 bytes from a place on lie inside the bytes
+pub record Numbers (b : List ℕ) (at w n : ℕ) : Type 0 where
+  pub wide : T (isWidth w)
+  pub inside : at + w * n ≤ length b
+
+-- 31: number k is below the next
+unfoldable pub risesAt : List ℕ → ℕ → ℕ → ℕ → Bool
+risesAt b at w k = below w (numberAt b at w k) (numberAt b at w (suc k))
+
+-- 34: number k lies in 1 to limit
+unfoldable pub isWithin : List ℕ → ℕ → ℕ → ℕ → ℕ → Bool
+isWithin b at w limit k = leb 1 (numberAt b at w k) && leb (numberAt b at w k) limit
+
+-- 35: range j holds f; one of the first n ranges does; the magnitude of number k is in one of them
+unfoldable pub holds : List ℕ → List ℕ → ℕ → ℕ → Bool
+holds firsts lasts f j = leb (getD firsts j 0) f && leb f (getD lasts j 0)
+
+unfoldable pub inRanges : List ℕ → List ℕ → ℕ → ℕ → Bool
+inRanges firsts lasts n f = someFrom (holds firsts lasts f) n 0
+
+unfoldable pub refersTo : List ℕ → List ℕ → ℕ → List ℕ → ℕ → ℕ → ℕ → Bool
+refersTo firsts lasts m b at w k = inRanges firsts lasts m (magnitude w (numberAt b at w k))
