@@ -1,24 +1,36 @@
 -- Laws of rows of numbers, over the width.
-use Prim.Native.Nat.{ℕ, zero, suc, _+_, _*_, _-_, _≤_, _<_}
+use Prim.Native.Nat.{ℕ, zero, suc, _+_, _*_, _-_, _^_, _≤_, _<_}
 use mathlib.Core.Path.{_≡_, refl, sym, _∙_}
 use mathlib.Core.Bool.{Bool, true, false, not, _&&_}
 use mathlib.Core.List.{List}
-use native.Mathlib.Nat.{mul-suc, mul-le-mul-left, one-le-pow}
+use native.Mathlib.Nat.{mul-suc, mul-le-mul-left, one-le-pow, pow-succ'}
 use native.Mathlib.Numerals.{add-one}
 use native.Mathlib.Omega.{arith}
-use lib.Dec.{ltb, leb}
-use lib.ListN.{length}
+use lib.Dec.{ltb, leb, lit<}
+use lib.ListN.{length, getD, drop}
+use mir.Syntax.{w8}
+use mir.Val.{Fits}
 use borrow.Author.Tests.{lt-leb, leb-false, not-true}
 use Rattle.model.specs.Lists.{everyFrom}
-use Rattle.model.specs.Bytes.{half, negative, below}
+use Rattle.model.specs.Bytes.{le, half, negative, below}
 use Rattle.model.specs.Corner.{numberAt}
 use Rattle.model.proofs.Logic.{and-first, and-second}
+use Rattle.model.proofs.Reading.{le-step}
 use Rattle.model.proofs.Walks.{everyFrom-step, everyFrom-end}
 use Rattle.elements.specs.Arrays.{Numbers, risesAt}
 
 -- number k of a row lies inside the bytes
 pub room : {b : List ℕ} {at w n v : ℕ} (k : ℕ) → Numbers b at w n → w ≡ v → k < n → at + v * k + v ≤ length b
 room {w = w} k x e h = let s = rw mul-suc at (mul-le-mul-left w h) in rw (← e) (omega arith)
+
+-- a number of w bytes, of bytes that are bytes
+pub le-bound : (b : List ℕ) → ((i : ℕ) → Fits w8 (getD b i 0)) → (w p : ℕ) → le w (drop p b) < 256 ^ w
+unfolding le
+le-bound b g zero p = lit< tt
+le-bound b g (suc w) p =
+    let r = le-bound b g w (p + 1) in
+    let h = g p .fits in
+    rw (le-step w b p, pow-succ') (omega arith)
 
 -- a loop that tests every number of a row, number k next: the whole is the rest from here
 pub record Left (p : ℕ → Bool) (n k : ℕ) : Type 0 where

@@ -8,17 +8,36 @@ pub const NGON: u64 = 22;
 pub const NFACE: u64 = 23;
 
 // Nodes per element, at the type's number.
-const NODES: [u64; 22] = [0, 0, 1, 2, 3, 3, 6, 4, 8, 9, 4, 10, 5, 14, 6, 15, 18, 8, 20, 27, 0, 13];
+const NODES: [u64; 22] = [
+    0,
+    0,
+    1,
+    2,
+    3,
+    3,
+    6,
+    4,
+    8,
+    9,
+    4,
+    10,
+    5,
+    14,
+    6,
+    15,
+    18,
+    8,
+    20,
+    27,
+    0,
+    13,
+];
 
 // Nodes per element of a type, 0 where it has no fixed number.
 pub fn nodes_per(e: u64) -> u64
     ensures { λ r. ⌜ (r ≡ nodesPer e) × (r ≤ 27) ⌝ }
 {
-    if e < 22 {
-        NODES[e as usize]
-    } else {
-        0
-    }
+    if e < 22 { NODES[e as usize] } else { 0 }
 }
 
 // Are a type's elements found by start offsets?
