@@ -8,3 +8,4 @@ pub mod Conforming
 pub mod Counting
 pub mod Uses
 pub mod Reading
+pub mod Staging
