@@ -9,3 +9,4 @@ pub mod Counting
 pub mod Uses
 pub mod Reading
 pub mod Staging
+pub mod Above
