@@ -2,8 +2,8 @@ use native.Mathlib.Omega.{arith}
 use borrow.Author.Needs.{needs}
 use borrow.Author.Tests.{lt-ltb, le-ltb}
 use Rattle.model.specs.Elements.{taken}
-use Rattle.elements.proofs.types.taken.Statement.{statement}
-use Rattle.elements.proofs.types.taken.Tie as tie
+use Rattle.elements.proofs.element_types.taken.Statement.{statement}
+use Rattle.elements.proofs.element_types.taken.Tie as tie
 
 returns : tie.Need-returns
 unfolding taken

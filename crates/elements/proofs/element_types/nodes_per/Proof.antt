@@ -12,8 +12,8 @@ use Rattle.model.specs.Lists.{row}
 use Rattle.model.specs.Elements.{nodesPer}
 use Rattle.model.proofs.Logic.{and-first, and-second}
 use Rattle.elements.proofs.Tables.{at, row-past}
-use Rattle.elements.proofs.types.nodes_per.Statement.{statement}
-use Rattle.elements.proofs.types.nodes_per.Tie as tie
+use Rattle.elements.proofs.element_types.nodes_per.Statement.{statement}
+use Rattle.elements.proofs.element_types.nodes_per.Tie as tie
 
 abbrev nodes : List ℕ
 nodes = 0 ∷ 0 ∷ 1 ∷ 2 ∷ 3 ∷ 3 ∷ 6 ∷ 4 ∷ 8 ∷ 9 ∷ 4 ∷ 10 ∷ 5 ∷ 14 ∷ 6 ∷ 15 ∷ 18 ∷ 8 ∷ 20 ∷ 27 ∷ 0 ∷ 13 ∷ []

@@ -2,8 +2,8 @@ use native.Mathlib.Omega.{arith}
 use borrow.Author.Needs.{needs}
 use borrow.Author.Tests.{eq-eqb, ne-eqb}
 use Rattle.model.specs.Elements.{hasOffsets}
-use Rattle.elements.proofs.types.has_offsets.Statement.{statement}
-use Rattle.elements.proofs.types.has_offsets.Tie as tie
+use Rattle.elements.proofs.element_types.has_offsets.Statement.{statement}
+use Rattle.elements.proofs.element_types.has_offsets.Tie as tie
 
 returns : tie.Need-returns
 unfolding hasOffsets
