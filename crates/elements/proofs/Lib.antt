@@ -2,3 +2,4 @@ pub mod Tables
 pub mod Rows
 pub mod Seeks
 pub mod Stages
+pub mod Pushes

@@ -1,6 +1,7 @@
 -- Rows of numbers in bytes, and what rules 31, 34 and 35 ask of each number of a row.
 use Prim.Native.Nat.{ℕ, suc, _+_, _*_, _≤_}
-use mathlib.Core.Bool.{Bool, _&&_}
+use mathlib.Core.Path.{_≡_}
+use mathlib.Core.Bool.{Bool, _&&_, _||_}
 use mathlib.Core.List.{List, [], _∷_}
 use lib.ListN.{length, getD}
 use lib.Dec.{T, eqb, leb}
@@ -40,3 +41,10 @@ inRanges firsts lasts n f = someFrom (holds firsts lasts f) n 0
 
 unfoldable pub refersTo : List ℕ → List ℕ → ℕ → List ℕ → ℕ → ℕ → ℕ → Bool
 refersTo firsts lasts m b at w k = inRanges firsts lasts m (magnitude w (numberAt b at w k))
+
+-- one range more among the first n: r ranges hold what n held, and the numbers from first to last
+pub record Pushed (firsts lasts : List ℕ) (n first last : ℕ) (firsts′ lasts′ : List ℕ) (r : ℕ) : Type 0 where
+  pub few : r ≤ n + 1
+  pub firsts-long : length firsts′ ≡ length firsts
+  pub lasts-long : length lasts′ ≡ length lasts
+  pub in-ranges : (f : ℕ) → inRanges firsts′ lasts′ r f ≡ (inRanges firsts lasts n f || (leb first f && leb f last))

@@ -4,7 +4,7 @@ ghost use Prim.Native.Nat.{_≤_, _<_};
 ghost use lib.Dec.{ltb};
 ghost use lib.ListN.{length};
 ghost use Rattle.model.specs.Lists.{everyFrom, seekFrom};
-ghost use Rattle.elements.specs.Arrays.{Numbers, holds, inRanges, refersTo};
+ghost use Rattle.elements.specs.Arrays.{Numbers, holds, inRanges, refersTo, Pushed};
 
 // Does range j hold f?
 fn holds(firsts: &[u64], lasts: &[u64], f: u64, j: usize) -> bool
@@ -73,4 +73,23 @@ pub fn all_faces(
         k += 1;
     }
     true
+}
+
+// One range more, after the first `count`: a range that follows the last one makes it longer. It answers how many there are.
+fn push(firsts: &mut [u64], lasts: &mut [u64], count: usize, first: u64, last: u64) -> usize
+    requires { ⌜ (count < length (now firsts)) × (count < length (now lasts)) ⌝ }
+    requires { ⌜ (1 ≤ first) × (first ≤ last) ⌝ }
+    ensures { λ r. ⌜ Pushed (now (firsts .entry)) (now (lasts .entry)) count first last (now (firsts .exit)) (now (lasts .exit)) r ⌝ }
+{
+    if 0 < count {
+        if firsts[count - 1] <= first {
+            if lasts[count - 1] == first - 1 {
+                lasts[count - 1] = last;
+                return count;
+            }
+        }
+    }
+    firsts[count] = first;
+    lasts[count] = last;
+    count + 1
 }
