@@ -1,5 +1,5 @@
 -- Two tests joined, as code makes them: the second only where the first leaves it open.
-use mathlib.Core.Path.{_≡_, sym, _∙_}
+use mathlib.Core.Path.{_≡_, refl, sym, _∙_}
 use mathlib.Core.Bool.{Bool, true, false, cond, _&&_, _||_}
 
 -- r answers a, s answers b
@@ -16,3 +16,7 @@ module _ {r a : Bool} (b : Bool) (e : r ≡ a) where
 
   pub and-done : r ≡ false → r ≡ (a && b)
   and-done h = rw (sym e ∙ h) h
+
+pub or-none : (a : Bool) → (a || false) ≡ a
+or-none true = refl
+or-none false = refl

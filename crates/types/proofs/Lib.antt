@@ -1,3 +1,4 @@
 pub mod Same
-pub mod Shapes
+pub mod Held
 pub mod Joins
+pub mod Loops

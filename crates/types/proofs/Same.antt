@@ -68,3 +68,14 @@ module _ (b u : List ℕ) (at k : ℕ) (fits : at + length u ≤ length b) where
 
   pub text-end : length u ≤ k → true ≡ same (drop k (take (length u) (drop at b))) (drop k u)
   text-end h = same-end (take (length u) (drop at b)) u k (rw (part-length b at (length u) fits) h) h
+
+-- the first n of some numbers
+module _ (s u : List ℕ) (n k : ℕ) (e : length s ≡ n) (l : n ≤ length u) where
+  pub first-on : k < n → getD s k 0 ≡ getD u k 0 → same (drop (k + 1) s) (drop (k + 1) (take n u)) ≡ same (drop k s) (drop k (take n u))
+  first-on h f = same-on s (take n u) k (rw e h) (rw (length-take-le n u l) h) (f ∙ sym (getD-take n u k 0 h))
+
+  pub first-off : k < n → (getD s k 0 ≡ getD u k 0 → ⊥) → false ≡ same (drop k s) (drop k (take n u))
+  first-off h f = same-off s (take n u) k (rw e h) (rw (length-take-le n u l) h) (λ g. f (g ∙ getD-take n u k 0 h))
+
+  pub first-end : n ≤ k → true ≡ same (drop k s) (drop k (take n u))
+  first-end h = same-end s (take n u) k (rw e h) (rw (length-take-le n u l) h)

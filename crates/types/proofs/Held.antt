@@ -4,6 +4,7 @@ use mathlib.Core.Path.{_≡_, refl, sym, ap, _∙_}
 use mathlib.Core.Bool.{Bool, true, false, cond, not, _&&_, _||_}
 use mathlib.Core.List.{List, [], _∷_}
 use native.Mathlib.Omega.{arith}
+use native.Mathlib.Nat.{mul-suc, mul-comm, mul-le-mul-left}
 use lib.ListN.{length, getD, take, drop}
 use lib.Seq.{drop-drop}
 use lib.Dec.{T, eqb}
@@ -18,6 +19,7 @@ use Rattle.model.proofs.Logic.{and-second}
 use Rattle.model.proofs.Accepted.{record-rule}
 use Rattle.model.proofs.Bounds.{node-placed}
 use Rattle.words.specs.Width.{isWidth}
+use Rattle.types.specs.Given.{Has}
 use Rattle.types.proofs.Same.{same-is, same-not, part-length}
 
 numbers-length : (w n : ℕ) (s : List ℕ) → length (numbers w n s) ≡ n
@@ -54,6 +56,9 @@ module _ (t : Tree) (i : ℕ) where
       by-test false p true q h = rw (eqb-true (dataType t i) 7 q) tt
       by-test false p false q h = absurd (let z : _≡_ {A = ℕ} 0 1 = cc in omega arith)
 
+  pub whole-four : typed t i (I4 ∷ []) ≡ true → T (isWidth (width t i))
+  whole-four e = rw (four-wide e) tt
+
   pub shaped-is : (sizes : List ℕ) → shaped t i sizes ≡ true → dimensions t i ≡ sizes
   unfolding shaped
   shaped-is sizes e = same-is (dimensions t i) sizes e
@@ -77,15 +82,16 @@ bytes-are b s i h sizes e =
 
 -- the data bytes of a node, in the image
 module _ (b : List ℕ) (s : Sound b) (i : ℕ) (h : i < nodeCount b) where
-  pub stored-is : stored (treeOf b) i ≡ take (node (treeOf b) i .dataSize) (drop (dataOffset b + node (treeOf b) i .dataAt) b)
+  stored-is : stored (treeOf b) i ≡ take (node (treeOf b) i .dataSize) (drop (treeOf b .areaAt + node (treeOf b) i .dataAt) b)
   unfolding stored treeOf
   stored-is = ap (take (node (treeOf b) i .dataSize)) (drop-drop (node (treeOf b) i .dataAt) (dataOffset b) b)
 
-  pub stored-fits : dataOffset b + node (treeOf b) i .dataAt + node (treeOf b) i .dataSize ≤ length b
-  stored-fits = let p = node-placed b (s .table) i h in let l = s .laid in omega arith
-
-  pub stored-length : length (stored (treeOf b) i) ≡ node (treeOf b) i .dataSize
-  stored-length = ap length stored-is ∙ part-length b (dataOffset b + node (treeOf b) i .dataAt) (node (treeOf b) i .dataSize) stored-fits
+  stored-length : length (stored (treeOf b) i) ≡ node (treeOf b) i .dataSize
+  unfolding treeOf
+  stored-length =
+      let p = node-placed b (s .table) i h in
+      let l = s .laid in
+      ap length stored-is ∙ part-length b (dataOffset b + node (treeOf b) i .dataAt) (node (treeOf b) i .dataSize) (omega arith)
 
   -- a text of another length; a text of that length
   pub reads-not : (u : List ℕ) → (node (treeOf b) i .dataSize ≡ length u → ⊥) → false ≡ reads (treeOf b) i u
@@ -93,6 +99,28 @@ module _ (b : List ℕ) (s : Sound b) (i : ℕ) (h : i < nodeCount b) where
   reads-not u n = sym (same-not (stored (treeOf b) i) u (λ e. n (sym stored-length ∙ e)))
 
   pub reads-is : (u : List ℕ) → node (treeOf b) i .dataSize ≡ length u
-      → same (take (length u) (drop (dataOffset b + node (treeOf b) i .dataAt) b)) u ≡ reads (treeOf b) i u
+      → same (take (length u) (drop (treeOf b .areaAt + node (treeOf b) i .dataAt) b)) u ≡ reads (treeOf b) i u
   unfolding reads
   reads-is u e = rw (stored-is, e)
+
+-- which numbers can be read
+scaled : (w k n : ℕ) → k < n → w * k + w ≤ n * w
+scaled w k n h = rw (← mul-suc w k, mul-comm n w) (mul-le-mul-left w h)
+
+module _ (b : List ℕ) (s : Sound b) (i : ℕ) (h : i < nodeCount b) where
+  pub has-by : T (isWidth (width (treeOf b) i)) → (sizes : List ℕ) → dimensions (treeOf b) i ≡ sizes → (k : ℕ) → k < product sizes → Has b i k
+  has-by w sizes e k l =
+      record { inside = h; wide = w; room = rw (bytes-are b s i h sizes e) (scaled (width (treeOf b) i) k (product sizes) l) }
+
+  -- of one dimension; of a pair
+  pub has-flat : T (isWidth (width (treeOf b) i)) → flat (treeOf b) i ≡ true → (k : ℕ) → k < size (treeOf b) i → Has b i k
+  unfolding product
+  has-flat w e k l = has-by w (size (treeOf b) i ∷ []) (flat-is (treeOf b) i e) k (omega arith)
+
+  pub has-pair : T (isWidth (width (treeOf b) i)) → shaped (treeOf b) i (2 ∷ []) ≡ true → Has b i 1
+  unfolding product
+  has-pair w e = has-by w (2 ∷ []) (shaped-is (treeOf b) i (2 ∷ []) e) 1 (omega arith)
+
+pub has-less : (b : List ℕ) (i k j : ℕ) → Has b i k → j ≤ k → Has b i j
+has-less b i k j a l =
+    record { inside = a .inside; wide = a .wide; room = omega (arith, mul-le-mul-left {m = j} {n = k} (width (treeOf b) i) l) }

@@ -2,9 +2,9 @@ use mathlib.Core.Path.{ap}
 use lib.Dec.{eqb}
 use borrow.Author.Needs.{needs}
 use Rattle.model.specs.Values.{flat}
-use Rattle.types.proofs.Shapes.{rank-is}
-use Rattle.types.proofs.flat.Statement.{statement}
-use Rattle.types.proofs.flat.Tie as tie
+use Rattle.types.proofs.Held.{rank-is}
+use Rattle.types.proofs.shapes.flat.Statement.{statement}
+use Rattle.types.proofs.shapes.flat.Tie as tie
 
 returns : tie.Need-returns
 unfolding flat

@@ -6,8 +6,8 @@ use lib.ListN.{length, take, drop}
 use borrow.Author.Needs.{needs}
 use Rattle.model.specs.Bytes.{same}
 use Rattle.types.proofs.Same.{text-on, text-off, text-end}
-use Rattle.types.proofs.starts.Statement.{statement}
-use Rattle.types.proofs.starts.Tie as tie
+use Rattle.types.proofs.stored.starts.Statement.{statement}
+use Rattle.types.proofs.stored.starts.Tie as tie
 
 abbrev Inv-loop : tie.InvT-loop
 Inv-loop image at text k₀ k =

@@ -2,8 +2,8 @@ use borrow.Author.Needs.{needs}
 use Rattle.model.specs.Bytes.{text}
 use Rattle.model.specs.Values.{locationValue}
 use Rattle.types.proofs.Joins.{or-done, or-on}
-use Rattle.types.proofs.location_value.Statement.{statement}
-use Rattle.types.proofs.location_value.Tie as tie
+use Rattle.types.proofs.stored.location_value.Statement.{statement}
+use Rattle.types.proofs.stored.location_value.Tie as tie
 
 returns : tie.Need-returns
 unfolding locationValue text
