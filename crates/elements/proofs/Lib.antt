@@ -3,3 +3,4 @@ pub mod Rows
 pub mod Seeks
 pub mod Stages
 pub mod Pushes
+pub mod Stored
