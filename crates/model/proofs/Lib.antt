@@ -10,3 +10,9 @@ pub mod Uses
 pub mod Reading
 pub mod Staging
 pub mod Above
+pub mod Joins
+pub mod Loops
+pub mod Parents
+pub mod Children
+pub mod Validated
+pub mod Sections
