@@ -4,3 +4,4 @@ pub mod Seeks
 pub mod Stages
 pub mod Pushes
 pub mod Stored
+pub mod Ready

@@ -62,7 +62,7 @@ stores-flat {b} s j h e =
     subst (λ (n : ℕ). Stores b j n) (mul-one (size t j))
     (stores-by s j h (whole-wide t j (and-first (typed t j (I4 ∷ I8 ∷ [])) _ e)) (size t j ∷ []) (flat-is t j (and-second (typed t j (I4 ∷ I8 ∷ [])) _ e)))
 
-stores-pair : {b : List ℕ} → Sound b → (j : ℕ) → j < nodeCount b → T (isWidth (width (treeOf b) j)) → shaped (treeOf b) j (2 ∷ []) ≡ true → Stores b j 2
+pub stores-pair : {b : List ℕ} → Sound b → (j : ℕ) → j < nodeCount b → T (isWidth (width (treeOf b) j)) → shaped (treeOf b) j (2 ∷ []) ≡ true → Stores b j 2
 unfolding product
 stores-pair {b} s j h w e = stores-by s j h w (2 ∷ []) (shaped-is (treeOf b) j (2 ∷ []) e)
 
@@ -72,7 +72,7 @@ module _ (t : Tree) (j : ℕ) where
   unfolding typeLawful row
   type-range e = rw e
 
-  type-section : role t j ≡ Elements → typeLawful t j ≡ (typed t j (I4 ∷ []) && shaped t j (2 ∷ []))
+  pub type-section : role t j ≡ Elements → typeLawful t j ≡ (typed t j (I4 ∷ []) && shaped t j (2 ∷ []))
   unfolding typeLawful row
   type-section e = rw e
 

@@ -10,6 +10,7 @@ use Rattle.model.specs.Containment.{role, found, Elements}
 use Rattle.model.specs.Values.{rangeOf, offsetsOf, connectivityOf, size, maxNumber}
 use Rattle.model.specs.Elements.{firstElement, lastElement, connectivityLength}
 use Rattle.words.specs.Width.{isWidth}
+use Rattle.types.specs.Given.{Has}
 
 -- node j stores n numbers of 4 or 8 bytes
 pub record Stores (b : List ℕ) (j n : ℕ) : Type 0 where
@@ -24,11 +25,13 @@ pub record Ranged (b : List ℕ) (s : ℕ) : Type 0 where
   pub up : firstElement (treeOf b) s ≤ lastElement (treeOf b) s
   pub most : lastElement (treeOf b) s ≤ maxNumber
 
--- section s meets rules 20 to 26
+-- section s meets rules 20 to 26, and its zone does
 pub record SectionReady (b : List ℕ) (s : ℕ) : Type 0 where
   pub inside : s < nodeCount b
   pub elements : role (treeOf b) s ≡ Elements
   pub own : Stores b s 2
+  pub below : parent (treeOf b) s < s
+  pub zone : Has b (parent (treeOf b) s) 0
   pub ranged : Ranged b s
   pub connectivity : Stores b (connectivityOf (treeOf b) s) (connectivityLength (treeOf b) s)
   pub offsets : found (treeOf b) (offsetsOf (treeOf b) s) ≡ true → Stores b (offsetsOf (treeOf b) s) (size (treeOf b) (offsetsOf (treeOf b) s))
