@@ -5,3 +5,4 @@ pub mod Stages
 pub mod Pushes
 pub mod Stored
 pub mod Ready
+pub mod Lookups

@@ -68,7 +68,7 @@ stores-pair {b} s j h w e = stores-by s j h w (2 ∷ []) (shaped-is (treeOf b) j
 
 -- rule 24 of an ElementRange, of a section, of an array under a section
 module _ (t : Tree) (j : ℕ) where
-  type-range : role t j ≡ IndexRange → typeLawful t j ≡ (typed t j (I4 ∷ I8 ∷ []) && shaped t j (2 ∷ []))
+  pub type-range : role t j ≡ IndexRange → typeLawful t j ≡ (typed t j (I4 ∷ I8 ∷ []) && shaped t j (2 ∷ []))
   unfolding typeLawful row
   type-range e = rw e
 
@@ -76,11 +76,11 @@ module _ (t : Tree) (j : ℕ) where
   unfolding typeLawful row
   type-section e = rw e
 
-  value-range : role t j ≡ IndexRange → valueLawful t j ≡ rangeValue t j
+  pub value-range : role t j ≡ IndexRange → valueLawful t j ≡ rangeValue t j
   unfolding valueLawful row
   value-range e = rw e
 
-  type-array : role t j ≡ DataArray → role t (parent t j) ≡ Elements → indexArray t j ≡ true → typeLawful t j ≡ (typed t j (I4 ∷ I8 ∷ []) && flat t j)
+  pub type-array : role t j ≡ DataArray → role t (parent t j) ≡ Elements → indexArray t j ≡ true → typeLawful t j ≡ (typed t j (I4 ∷ I8 ∷ []) && flat t j)
   unfolding typeLawful row arrayType sectionArrayType
   type-array e p n = rw (e, p, n)
 

@@ -1,16 +1,23 @@
 -- What the functions here are given, in place of tests that were made before them.
 use Prim.Native.Nat.{ℕ, _*_, _≤_, _<_}
 use mathlib.Core.Path.{_≡_}
-use mathlib.Core.Bool.{true}
-use mathlib.Core.List.{List}
+use mathlib.Core.Bool.{Bool, true, _&&_}
+use mathlib.Core.List.{List, [], _∷_}
 use lib.Dec.{T}
-use Rattle.model.specs.Image.{treeOf, nodeCount, node, parent, width}
+use Rattle.model.specs.Image.{Tree, I4, I8, treeOf, nodeCount, node, parent, width}
 use Rattle.model.specs.Given.{Sound}
 use Rattle.model.specs.Containment.{role, found, Elements}
-use Rattle.model.specs.Values.{rangeOf, offsetsOf, connectivityOf, size, maxNumber}
+use Rattle.model.specs.Values.{typed, shaped, flat, rangeValue, rangeOf, offsetsOf, connectivityOf, size, maxNumber}
 use Rattle.model.specs.Elements.{firstElement, lastElement, connectivityLength}
 use Rattle.words.specs.Width.{isWidth}
 use Rattle.types.specs.Given.{Has}
+
+-- what rules 24 and 25 come to at an index array and at an ElementRange
+abbrev pub indexShape : Tree → ℕ → Bool
+indexShape t j = typed t j (I4 ∷ I8 ∷ []) && flat t j
+
+abbrev pub rangeLawful : Tree → ℕ → Bool
+rangeLawful t j = typed t j (I4 ∷ I8 ∷ []) && shaped t j (2 ∷ []) && rangeValue t j
 
 -- node j stores n numbers of 4 or 8 bytes
 pub record Stores (b : List ℕ) (j n : ℕ) : Type 0 where
