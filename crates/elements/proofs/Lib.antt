@@ -6,3 +6,4 @@ pub mod Pushes
 pub mod Stored
 pub mod Ready
 pub mod Lookups
+pub mod Searches

@@ -43,7 +43,7 @@ module _ (t : Tree) (s : ℕ) (e : role t s ≡ Elements) where
   unfolding placed _⊃_
   placed-is = rw (ne-eqb s 0 (not-root t s e), e)
 
-  complete-is : complete t s ≡ (found t (rangeOf t s) && found t (connectivityOf t s))
+  pub complete-is : complete t s ≡ (found t (rangeOf t s) && found t (connectivityOf t s))
   unfolding complete row
   complete-is = rw e
 

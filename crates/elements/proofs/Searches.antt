@@ -1,0 +1,53 @@
+-- How the searches among a zone's sections meet the definitions.
+use Prim.Native.Nat.{ℕ, zero, suc, _+_, _-_, _≤_, _<_}
+use mathlib.Core.Path.{_≡_, refl, sym, ap, _∙_}
+use mathlib.Core.Bool.{Bool, true, false, cond, _&&_, _||_}
+use mathlib.Core.List.{List}
+use native.Mathlib.Omega.{arith}
+use lib.Dec.{eqb, leb, ltb}
+use Rattle.model.specs.Lists.{someFrom}
+use Rattle.model.specs.Image.{Tree, treeOf, nodeCount, parent}
+use Rattle.model.specs.Given.{Sound, NodesTo}
+use Rattle.model.specs.Containment.{role, found, sectionOf, Elements}
+use Rattle.model.specs.Values.{complete, rangeOf, connectivityOf, sidsRules}
+use Rattle.model.specs.Elements.{firstElement, lastElement, meets, overlap, overlaps}
+use Rattle.model.proofs.Logic.{and-first}
+use Rattle.model.proofs.Conforming.{section-is}
+use Rattle.model.proofs.Above.{earlier-rule}
+use Rattle.model.proofs.Children.{no-child}
+use Rattle.model.proofs.Loops.{SomeLeft, some-start}
+use borrow.Author.Tests.{eqb-true}
+use Rattle.elements.specs.Given.{InZone, Ranged}
+use Rattle.elements.proofs.Stored.{range-ready}
+use Rattle.elements.proofs.Ready.{complete-is}
+
+-- an earlier section has a range: it passed rule 23
+pub earlier-ranged : {b : List ℕ} {s : ℕ} → NodesTo b s → (z i : ℕ) → i < s → sectionOf (treeOf b) z i ≡ true → Ranged b i
+unfolding sidsRules
+earlier-ranged {b} {s} g z i h e =
+    let t = treeOf b in
+    let q = section-is t z i e in
+    let full = sym (complete-is t i (eqb-true _ _ (q .elements))) ∙ earlier-rule b s g 23 i h (q .is-validated) in
+    range-ready (g .sound) i (and-first (found t (rangeOf t i)) (found t (connectivityOf t i)) full)
+
+-- no node up to a zone is a section of it
+pub section-after : {b : List ℕ} {z i : ℕ} → InZone b z i → (j : ℕ) → j ≤ z → sectionOf (treeOf b) z j ≡ false
+unfolding sectionOf
+section-after {b} {z} g j h = rw (no-child b (g .sound) z (g .zone-inside) j h)
+
+module _ {b : List ℕ} {s z : ℕ} (g : InZone b z s) (e : sectionOf (treeOf b) z s ≡ true) where
+  parent-is : parent (treeOf b) s ≡ z
+  parent-is = section-is (treeOf b) z s e .parent-is
+
+  zone-before : z < s
+  zone-before = absurd ?
+
+  pub overlaps-start : SomeLeft (overlap (treeOf b) s) s (z + 1) (overlaps (treeOf b) s)
+  unfolding overlaps overlap
+  overlaps-start = some-start (overlap (treeOf b) s) s (z + 1) (omega (arith, zone-before)) (λ j h. rw (parent-is, section-after g j (omega arith)))
+
+  -- what the test of node i tells
+  pub overlap-is : (i first last : ℕ) → first ≡ firstElement (treeOf b) s → last ≡ lastElement (treeOf b) s
+      → overlap (treeOf b) s i ≡ (sectionOf (treeOf b) z i && (leb first (lastElement (treeOf b) i) && leb (firstElement (treeOf b) i) last))
+  unfolding overlap meets
+  overlap-is i first last p q = rw (parent-is, p, q)
