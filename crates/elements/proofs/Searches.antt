@@ -17,7 +17,7 @@ use Rattle.model.proofs.Above.{earlier-rule}
 use Rattle.model.proofs.Children.{no-child}
 use Rattle.model.proofs.Loops.{SomeLeft, some-start}
 use borrow.Author.Tests.{eqb-true}
-use Rattle.elements.specs.Given.{InZone, Ranged}
+use Rattle.elements.specs.Given.{Ranged}
 use Rattle.elements.proofs.Stored.{range-ready}
 use Rattle.elements.proofs.Ready.{complete-is}
 
@@ -31,23 +31,16 @@ earlier-ranged {b} {s} g z i h e =
     range-ready (g .sound) i (and-first (found t (rangeOf t i)) (found t (connectivityOf t i)) full)
 
 -- no node up to a zone is a section of it
-pub section-after : {b : List ℕ} {z i : ℕ} → InZone b z i → (j : ℕ) → j ≤ z → sectionOf (treeOf b) z j ≡ false
+pub section-after : (b : List ℕ) → Sound b → (z : ℕ) → z < nodeCount b → (j : ℕ) → j ≤ z → sectionOf (treeOf b) z j ≡ false
 unfolding sectionOf
-section-after {b} {z} g j h = rw (no-child b (g .sound) z (g .zone-inside) j h)
+section-after b s z l j h = rw (no-child b s z l j h)
 
-module _ {b : List ℕ} {s z : ℕ} (g : InZone b z s) (e : sectionOf (treeOf b) z s ≡ true) where
-  parent-is : parent (treeOf b) s ≡ z
-  parent-is = section-is (treeOf b) z s e .parent-is
+pub overlaps-start : (b : List ℕ) → Sound b → (s z : ℕ) → s < nodeCount b → z < s → z ≡ parent (treeOf b) s → SomeLeft (overlap (treeOf b) s) s (z + 1) (overlaps (treeOf b) s)
+unfolding overlaps overlap
+overlaps-start b g s z i l e = some-start (overlap (treeOf b) s) s (z + 1) (omega arith) (λ j h. rw (← e, section-after b g z (omega arith) j (omega arith)))
 
-  zone-before : z < s
-  zone-before = absurd ?
-
-  pub overlaps-start : SomeLeft (overlap (treeOf b) s) s (z + 1) (overlaps (treeOf b) s)
-  unfolding overlaps overlap
-  overlaps-start = some-start (overlap (treeOf b) s) s (z + 1) (omega (arith, zone-before)) (λ j h. rw (parent-is, section-after g j (omega arith)))
-
-  -- what the test of node i tells
-  pub overlap-is : (i first last : ℕ) → first ≡ firstElement (treeOf b) s → last ≡ lastElement (treeOf b) s
-      → overlap (treeOf b) s i ≡ (sectionOf (treeOf b) z i && (leb first (lastElement (treeOf b) i) && leb (firstElement (treeOf b) i) last))
-  unfolding overlap meets
-  overlap-is i first last p q = rw (parent-is, p, q)
+-- what the test of node i tells
+pub overlap-is : (t : Tree) (s z i first last : ℕ) → z ≡ parent t s → first ≡ firstElement t s → last ≡ lastElement t s
+    → (sectionOf t z i && (leb first (lastElement t i) && leb (firstElement t i) last)) ≡ overlap t s i
+unfolding overlap meets
+overlap-is t s z i first last e p q = rw (e, p, q)

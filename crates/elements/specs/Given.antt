@@ -6,7 +6,7 @@ use mathlib.Core.List.{List, [], _∷_}
 use lib.Dec.{T}
 use Rattle.model.specs.Image.{Tree, I4, I8, treeOf, nodeCount, node, parent, width}
 use Rattle.model.specs.Given.{Sound}
-use Rattle.model.specs.Containment.{role, validated, found, Zone, Elements}
+use Rattle.model.specs.Containment.{role, found, Elements}
 use Rattle.model.specs.Values.{typed, shaped, flat, rangeValue, rangeOf, offsetsOf, connectivityOf, size, maxNumber}
 use Rattle.model.specs.Elements.{firstElement, lastElement, connectivityLength}
 use Rattle.words.specs.Width.{isWidth}
@@ -31,14 +31,6 @@ pub record Ranged (b : List ℕ) (s : ℕ) : Type 0 where
   pub one : 1 ≤ firstElement (treeOf b) s
   pub up : firstElement (treeOf b) s ≤ lastElement (treeOf b) s
   pub most : lastElement (treeOf b) s ≤ maxNumber
-
--- z is a validated zone, i a node
-pub record InZone (b : List ℕ) (z i : ℕ) : Type 0 where
-  pub sound : Sound b
-  pub inside : i < nodeCount b
-  pub zone-inside : z < nodeCount b
-  pub zone : role (treeOf b) z ≡ Zone
-  pub is-validated : validated (treeOf b) z ≡ true
 
 -- section s meets rules 20 to 26, and its zone does
 pub record SectionReady (b : List ℕ) (s : ℕ) : Type 0 where

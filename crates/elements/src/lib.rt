@@ -4,4 +4,4 @@ pub mod arrays; // arrays.rt: rows of numbers of 4 or 8 bytes; start offsets and
 pub mod ranges; // ranges.rt: face references against the ranges of faces
 pub mod offsets; // offsets.rt: rules 30 to 32
 pub mod parts; // parts.rt: the nodes of a section
-pub mod sections; // sections.rt: the sections of a zone; rule 28
+pub mod sections; // sections.rt: rule 28

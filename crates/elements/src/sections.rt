@@ -1,4 +1,4 @@
-// The sections of a zone, and rule 28.
+// Rule 28: the ranges of a zone's sections.
 ghost use mathlib.Core.Path.{_≡_};
 ghost use mathlib.Core.Bool.{true, _&&_};
 ghost use Prim.Native.Nat.{_<_};
@@ -7,29 +7,16 @@ ghost use Rattle.model.specs.Image.{treeOf, nodeCount, parent};
 ghost use Rattle.model.specs.Given.{Sound, NodesTo};
 ghost use Rattle.model.specs.Containment.{sectionOf};
 ghost use Rattle.model.specs.Elements.{firstElement, lastElement, overlaps};
-ghost use Rattle.elements.specs.Given.{InZone, Ranged};
+ghost use Rattle.elements.specs.Given.{Ranged, SectionReady};
 use super::parts::range_of;
-
-const ELEMENTS: u64 = 7;
-
-// Is node i a section of zone z?
-pub fn is_section(image: &[u8], z: usize, i: usize) -> bool
-    requires { ⌜ InZone (now image) z i ⌝ }
-    ensures { λ r. ⌜ r ≡ sectionOf (treeOf (now (image .entry))) z i ⌝ }
-{
-    if records::parent_of(image, i) != z {
-        return false;
-    }
-    labels::role_of(image, i) == ELEMENTS
-}
 
 // Is node i a section of zone z whose range meets first to last?
 fn meets(image: &[u8], z: usize, first: u64, last: u64, i: usize) -> bool
-    requires { ⌜ InZone (now image) z i ⌝ }
-    requires { ⌜ sectionOf (treeOf (now image)) z i ≡ true → Ranged (now image) i ⌝ }
+    requires { ⌜ Sound (now image) × (i < nodeCount (now image)) ⌝ }
+    requires { ⌜ (sectionOf (treeOf (now image)) z i ≡ true → Ranged (now image) i) ⌝ }
     ensures { λ r. ⌜ r ≡ (sectionOf (treeOf (now (image .entry))) z i && (leb first (lastElement (treeOf (now (image .entry))) i) && leb (firstElement (treeOf (now (image .entry))) i) last)) ⌝ }
 {
-    if !is_section(image, z, i) {
+    if !labels::section_of(image, z, i) {
         return false;
     }
     let range = range_of(image, i);
@@ -41,8 +28,8 @@ fn meets(image: &[u8], z: usize, first: u64, last: u64, i: usize) -> bool
 
 // Rule 28: does the range of section s, first to last, meet that of an earlier section of its zone?
 pub fn overlaps(image: &[u8], s: usize, z: usize, first: u64, last: u64) -> bool
-    requires { ⌜ NodesTo (now image) s × InZone (now image) z s ⌝ }
-    requires { ⌜ sectionOf (treeOf (now image)) z s ≡ true ⌝ }
+    requires { ⌜ NodesTo (now image) s × SectionReady (now image) s ⌝ }
+    requires { ⌜ z ≡ parent (treeOf (now image)) s ⌝ }
     requires { ⌜ (first ≡ firstElement (treeOf (now image)) s) × (last ≡ lastElement (treeOf (now image)) s) ⌝ }
     ensures { λ r. ⌜ r ≡ overlaps (treeOf (now (image .entry))) s ⌝ }
 {
