@@ -6,7 +6,7 @@ use mathlib.Core.List.{List}
 use native.Mathlib.Omega.{arith}
 use lib.Dec.{eqb, leb, ltb}
 use Rattle.model.specs.Lists.{someFrom}
-use Rattle.model.specs.Image.{Tree, treeOf, nodeCount, parent}
+use Rattle.model.specs.Image.{Tree, treeOf, nodeCount, parent, number}
 use Rattle.model.specs.Given.{Sound, NodesTo}
 use Rattle.model.specs.Containment.{role, found, sectionOf, Elements}
 use Rattle.model.specs.Values.{complete, rangeOf, connectivityOf, sidsRules}
@@ -40,7 +40,17 @@ unfolding overlaps overlap
 overlaps-start b g s z i l e = some-start (overlap (treeOf b) s) s (z + 1) (omega arith) (λ j h. rw (← e, section-after b g z (omega arith) j (omega arith)))
 
 -- what the test of node i tells
-pub overlap-is : (t : Tree) (s z i first last : ℕ) → z ≡ parent t s → first ≡ firstElement t s → last ≡ lastElement t s
-    → (sectionOf t z i && (leb first (lastElement t i) && leb (firstElement t i) last)) ≡ overlap t s i
+pub overlap-is : (t : Tree) (s z i first last : ℕ) {r v : Bool} → z ≡ parent t s → first ≡ firstElement t s → last ≡ lastElement t s
+    → r ≡ (sectionOf t z i && (leb first (lastElement t i) && leb (firstElement t i) last)) → r ≡ v → overlap t s i ≡ v
 unfolding overlap meets
-overlap-is t s z i first last e p q = rw (e, p, q)
+overlap-is t s z i first last e p q h k = rw (← e, ← p, ← q) (sym h ∙ k)
+
+-- the numbers of a range, read at its node
+module _ (t : Tree) (s j w : ℕ) (e : j ≡ rangeOf t s) where
+  pub first-by : w ≡ number t j 0 → w ≡ firstElement t s
+  unfolding firstElement
+  first-by h = rw (← e) h
+
+  pub last-by : w ≡ number t j 1 → w ≡ lastElement t s
+  unfolding lastElement
+  last-by h = rw (← e) h

@@ -1,16 +1,18 @@
 -- What the functions here are given, in place of tests that were made before them.
-use Prim.Native.Nat.{ℕ, _*_, _≤_, _<_}
+use Prim.Native.Nat.{ℕ, _+_, _*_, _≤_, _<_}
 use mathlib.Core.Path.{_≡_}
-use mathlib.Core.Bool.{Bool, true, _&&_}
+use mathlib.Core.Bool.{Bool, true, cond, _&&_, _||_}
 use mathlib.Core.List.{List, [], _∷_}
-use lib.Dec.{T}
+use lib.Dec.{T, eqb}
+use lib.ListN.{length}
 use Rattle.model.specs.Image.{Tree, I4, I8, treeOf, nodeCount, node, parent, width}
 use Rattle.model.specs.Given.{Sound}
-use Rattle.model.specs.Containment.{role, found, Elements}
-use Rattle.model.specs.Values.{typed, shaped, flat, rangeValue, rangeOf, offsetsOf, connectivityOf, size, maxNumber}
-use Rattle.model.specs.Elements.{firstElement, lastElement, connectivityLength}
+use Rattle.model.specs.Containment.{role, found, sectionOf, Elements}
+use Rattle.model.specs.Values.{typed, shaped, flat, rangeValue, typeLawful, valueLawful, rangeOf, offsetsOf, connectivityOf, size, maxNumber}
+use Rattle.model.specs.Elements.{NGON, elementType, firstElement, lastElement, connectivityLength, hasFace, faceOf}
 use Rattle.words.specs.Width.{isWidth}
 use Rattle.types.specs.Given.{Has}
+use Rattle.elements.specs.Arrays.{inRanges}
 
 -- what rules 24 and 25 come to at an index array and at an ElementRange
 abbrev pub indexShape : Tree → ℕ → Bool
@@ -42,3 +44,21 @@ pub record SectionReady (b : List ℕ) (s : ℕ) : Type 0 where
   pub ranged : Ranged b s
   pub connectivity : Stores b (connectivityOf (treeOf b) s) (connectivityLength (treeOf b) s)
   pub offsets : found (treeOf b) (offsetsOf (treeOf b) s) ≡ true → Stores b (offsetsOf (treeOf b) s) (size (treeOf b) (offsetsOf (treeOf b) s))
+
+-- the ElementRange of node i where it is a face section of zone z; the node count where it is none
+unfoldable pub faceRange : Tree → ℕ → ℕ → ℕ
+faceRange t z i =
+    cond (sectionOf t z i) (cond (typeLawful t i && valueLawful t i && eqb (elementType t i) NGON) (rangeOf t i) (t .count)) (t .count)
+
+-- node i was asked for faces: r ranges hold what n held, and the faces that the node brings to zone z
+pub record Gathered (t : Tree) (z i : ℕ) (firsts lasts : List ℕ) (n : ℕ) (firsts′ lasts′ : List ℕ) (r : ℕ) : Type 0 where
+  pub few : r ≤ n + 1
+  pub firsts-long : length firsts′ ≡ length firsts
+  pub lasts-long : length lasts′ ≡ length lasts
+  pub in-ranges : (f : ℕ) → inRanges firsts′ lasts′ r f ≡ (inRanges firsts lasts n f || hasFace t z f i)
+
+-- r ranges hold the faces of zone z
+pub record Faces (t : Tree) (z : ℕ) (firsts lasts : List ℕ) (r : ℕ) : Type 0 where
+  pub firsts-room : r ≤ length firsts
+  pub lasts-room : r ≤ length lasts
+  pub in-ranges : (f : ℕ) → inRanges firsts lasts r f ≡ faceOf t z f

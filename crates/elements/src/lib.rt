@@ -5,3 +5,4 @@ pub mod ranges; // ranges.rt: face references against the ranges of faces
 pub mod offsets; // offsets.rt: rules 30 to 32
 pub mod parts; // parts.rt: the nodes of a section
 pub mod sections; // sections.rt: rule 28
+pub mod faces; // faces.rt: rule 35
