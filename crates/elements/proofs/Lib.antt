@@ -7,3 +7,4 @@ pub mod Stored
 pub mod Ready
 pub mod Lookups
 pub mod Searches
+pub mod FaceLaws

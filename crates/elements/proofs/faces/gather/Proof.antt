@@ -1,51 +1,52 @@
 use native.Mathlib.Omega.{arith}
+use mathlib.Core.Path.{_≡_, sym, _∙_}
 use borrow.Author.Needs.{needs}
+use Rattle.model.specs.Image.{treeOf}
+use Rattle.elements.proofs.Stored.{stores-has}
+use Rattle.elements.proofs.Searches.{first-by, last-by}
+use Rattle.elements.proofs.FaceLaws.{face-ranged, gathered-none, gathered-some}
 use Rattle.elements.proofs.faces.gather.Statement.{statement}
 use Rattle.elements.proofs.faces.gather.Tie as tie
-use Rattle.elements.proofs.faces.gather.Reads as reads
-use Rattle.elements.proofs.faces.gather.Lts as lts
-use Rattle.elements.proofs.faces.face_range.Reads as face-range-reads
-use Rattle.elements.proofs.ranges.push.Reads as push-reads
-use Rattle.labels.proofs.node_count.Reads as node-count-reads
-use Rattle.types.proofs.whole.Reads as whole-reads
-
-face-range-requires : tie.Need-face-range-requires
-face-range-requires c κs = search needs
-
-node-count-requires : tie.Need-node-count-requires
-node-count-requires c κs = search needs
 
 returns : tie.Need-returns
-returns c = search needs
+unfolding treeOf
+returns c = gathered-none _ _ _ _ _ _ (rw (← c .before .before .face-range .ensures .0) (omega arith))
 
 whole-requires : tie.Need-whole-requires
-whole-requires c κs = search needs
+whole-requires c κs =
+    let a = c .before .before .before .before .before .before in
+    let p = a .pre .0 .0 in
+    let g = face-ranged p (a .args .z) (a .args .i) (c .before .before .face-range .ensures .0) (omega arith) in
+    (p, rw (g .here) (stores-has p (g .ranged .range) 0 (omega arith)))
 
 whole-requires-2 : tie.Need-whole-requires-2
-whole-requires-2 c κs = search needs
+whole-requires-2 c κs =
+    let d = c .before .before .before in
+    let a = d .before .before .before .before in
+    let p = a .pre .0 .0 in
+    let g = face-ranged p (a .args .z) (a .args .i) (d .face-range .ensures .0) (omega arith) in
+    (p, rw (g .here) (stores-has p (g .ranged .range) 1 (omega arith)))
 
 push-requires : tie.Need-push-requires
-push-requires c κs = search needs
-
-same-length : tie.Need-same-length
-same-length c = search needs
-
-same-length-2 : tie.Need-same-length-2
-same-length-2 c = search needs
+push-requires c κs =
+    let w = c .before .before .before in
+    let d = w .before .before .before in
+    let a = d .before .before .before .before in
+    let g = face-ranged (a .pre .0 .0) (a .args .z) (a .args .i) (d .face-range .ensures .0) (omega arith) in
+    let f = first-by _ _ _ _ (g .here) (w .whole .ensures) in
+    let l = last-by _ _ _ _ (g .here) (c .before .before .whole2 .ensures) in
+    let r = g .ranged in
+    (search needs, omega arith)
 
 returns-2 : tie.Need-returns-2
-returns-2 c = search needs
+unfolding treeOf
+returns-2 c =
+    let k = c .before .before .before .before in
+    let w = k .before .before .before .before in
+    let d = w .before .before .before in
+    let a = d .before .before .before .before in
+    let g = face-ranged (a .pre .0 .0) (a .args .z) (a .args .i) (d .face-range .ensures .0) (omega arith) in
+    gathered-some _ _ _ _ _ _ (rw (← d .face-range .ensures .0) (omega arith)) (first-by _ _ _ _ (g .here) (w .whole .ensures)) (last-by _ _ _ _ (g .here) (k .before .before .before .whole2 .ensures)) (k .push .ensures)
 
 pub gather-spec : {M : Type 1} → statement M
-gather-spec =
-    tie.close
-    (tie.spec
-    face-range-requires
-    node-count-requires
-    returns
-    whole-requires
-    whole-requires-2
-    push-requires
-    same-length
-    same-length-2
-    returns-2)
+gather-spec = tie.close (tie.spec (λ c κs. search needs) (search needs) returns whole-requires whole-requires-2 push-requires (search needs) (search needs) returns-2)
