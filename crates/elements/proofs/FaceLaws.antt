@@ -7,7 +7,9 @@ use native.Mathlib.Omega.{arith}
 use lib.Dec.{eqb, leb, ltb}
 use lib.ListN.{length}
 use borrow.Author.Tests.{lt-ltb, le-ltb, eqb-true}
-use Rattle.model.specs.Lists.{row, someFrom}
+use Rattle.model.specs.Lists.{row, someFrom, everyFrom}
+use Rattle.model.specs.Bytes.{magnitude}
+use Rattle.model.specs.Corner.{numberAt}
 use Rattle.model.specs.Image.{Tree, treeOf, nodeCount, number, I4}
 use Rattle.model.specs.Given.{Sound}
 use Rattle.model.specs.Containment.{role, found, sectionOf, Elements}
@@ -15,9 +17,13 @@ use Rattle.model.specs.Values.{typed, shaped, notNegative, typeLawful, valueLaw
 use Rattle.model.specs.Elements.{NGON, elementType, firstElement, lastElement, inRange, faceSection, hasFace, faceOf}
 use Rattle.model.proofs.Logic.{and-second}
 use Rattle.model.proofs.Conforming.{section-is}
-use Rattle.elements.specs.Arrays.{inRanges, Pushed}
-use Rattle.elements.specs.Given.{Ranged, faceRange, Gathered}
+use Rattle.model.proofs.Walks.{someFrom-step, someFrom-end}
+use Rattle.model.proofs.Loops.{some-start}
+use Rattle.elements.specs.Arrays.{inRanges, refersTo, Pushed}
+use Rattle.elements.specs.Given.{Ranged, faceRange, Gathered, Faces, refersFace}
 use Rattle.elements.proofs.Stored.{type-section, range-ready}
+use Rattle.elements.proofs.Searches.{section-after}
+use Rattle.elements.proofs.Pushes.{or-assoc, every-same}
 
 -- rules 24 and 25 of a section, and its type
 module _ (t : Tree) (i : ℕ) (e : role t i ≡ Elements) where
@@ -101,3 +107,50 @@ unfolding treeOf
 face-ranged {b} s z i e h =
     let l : faceRange (treeOf b) z i < nodeCount b = omega arith in
     record { here = e ∙ range-there (treeOf b) z i l; ranged = range-ready s i (range-found (treeOf b) z i l) }
+
+-- the nodes before node i were asked for the faces of zone z: the ranges gathered hold theirs, and the rest decides
+pub record Gathering (b : List ℕ) (z i : ℕ) (firsts lasts : List ℕ) (n : ℕ) (firsts-length lasts-length : ℕ) : Type 0 where
+  pub upto : i ≤ nodeCount b
+  pub few : n ≤ i
+  pub firsts-long : length firsts ≡ firsts-length
+  pub lasts-long : length lasts ≡ lasts-length
+  pub faces : (f : ℕ) → (inRanges firsts lasts n f || someFrom (hasFace (treeOf b) z f) (nodeCount b - i) i) ≡ faceOf (treeOf b) z f
+
+pub gathering-start : (b : List ℕ) → Sound b → (z : ℕ) → z < nodeCount b → (firsts lasts : List ℕ) → Gathering b z (z + 1) firsts lasts 0 (length firsts) (length lasts)
+unfolding inRanges someFrom faceOf hasFace faceSection treeOf
+gathering-start b s z h firsts lasts =
+    record {
+      upto = omega arith;
+      few = omega arith;
+      firsts-long = refl;
+      lasts-long = refl;
+      faces = λ f. some-start (hasFace (treeOf b) z f) (nodeCount b) (z + 1) (omega arith) (λ j l. rw (section-after b s z h j (omega arith))) .rest;
+    }
+
+module _ {b : List ℕ} {z i : ℕ} {firsts lasts : List ℕ} {n p q : ℕ} (g : Gathering b z i firsts lasts n p q) where
+  pub gathering-on : i < nodeCount b → {firsts′ lasts′ : List ℕ} {r : ℕ} → Gathered (treeOf b) z i firsts lasts n firsts′ lasts′ r → Gathering b z (i + 1) firsts′ lasts′ r p q
+  gathering-on h {firsts′} {lasts′} {r} k =
+      record {
+        upto = omega arith;
+        few = omega (arith, k .few, g .few);
+        firsts-long = k .firsts-long ∙ g .firsts-long;
+        lasts-long = k .lasts-long ∙ g .lasts-long;
+        faces =
+          λ f.
+          rw (k .in-ranges f) (or-assoc (inRanges firsts lasts n f) (hasFace (treeOf b) z f i) _
+          ∙ (ap (λ (x : Bool). inRanges firsts lasts n f || x) (sym (someFrom-step (hasFace (treeOf b) z f) (nodeCount b) i h)) ∙ g .faces f));
+      }
+
+  pub gathering-done : nodeCount b ≤ i → n ≤ p → n ≤ q → Faces (treeOf b) z firsts lasts n
+  gathering-done h l m =
+      record {
+        firsts-room = rw (g .firsts-long) l;
+        lasts-room = rw (g .lasts-long) m;
+        in-ranges = λ f. or-none (inRanges firsts lasts n f) ∙ (rw (someFrom-end (hasFace (treeOf b) z f) (nodeCount b) i h) at (g .faces f));
+      }
+
+-- references to one of the ranges are references to a face
+pub refers-same : (t : Tree) (z : ℕ) (firsts lasts : List ℕ) (m : ℕ) (b : List ℕ) (at w n : ℕ) → Faces t z firsts lasts m
+    → everyFrom (refersTo firsts lasts m b at w) n 0 ≡ everyFrom (refersFace t z b at w) n 0
+unfolding refersTo refersFace
+refers-same t z firsts lasts m b at w n g = every-same (refersTo firsts lasts m b at w) (refersFace t z b at w) n 0 (λ k l h. g .in-ranges (magnitude w (numberAt b at w k)))

@@ -6,6 +6,8 @@ use mathlib.Core.List.{List, [], _∷_}
 use lib.Dec.{T, eqb}
 use lib.ListN.{length}
 use Rattle.model.specs.Image.{Tree, I4, I8, treeOf, nodeCount, node, parent, width}
+use Rattle.model.specs.Bytes.{magnitude}
+use Rattle.model.specs.Corner.{numberAt}
 use Rattle.model.specs.Given.{Sound}
 use Rattle.model.specs.Containment.{role, found, sectionOf, Elements}
 use Rattle.model.specs.Values.{typed, shaped, flat, rangeValue, typeLawful, valueLawful, rangeOf, offsetsOf, connectivityOf, size, maxNumber}
@@ -62,3 +64,7 @@ pub record Faces (t : Tree) (z : ℕ) (firsts lasts : List ℕ) (r : ℕ) : Type
   pub firsts-room : r ≤ length firsts
   pub lasts-room : r ≤ length lasts
   pub in-ranges : (f : ℕ) → inRanges firsts lasts r f ≡ faceOf t z f
+
+-- the magnitude of number k of a row is a face of zone z
+unfoldable pub refersFace : Tree → ℕ → List ℕ → ℕ → ℕ → ℕ → Bool
+refersFace t z b at w k = faceOf t z (magnitude w (numberAt b at w k))

@@ -9,10 +9,12 @@ ghost use Rattle.model.specs.Given.{Sound};
 ghost use Rattle.model.specs.Containment.{role, Elements};
 ghost use Rattle.model.specs.Values.{typeLawful, valueLawful};
 ghost use Rattle.model.specs.Elements.{NGON, elementType};
-ghost use Rattle.elements.specs.Given.{faceRange, Gathered, Faces};
+ghost use Rattle.elements.specs.Given.{faceRange, Gathered, Faces, refersFace};
+ghost use Rattle.elements.specs.Arrays.{Numbers};
+ghost use Rattle.model.specs.Lists.{everyFrom};
 use super::element_types::NGON;
 use super::parts::range_of;
-use super::ranges::push;
+use super::ranges::{all_faces, push};
 
 const I4_TYPE: u64 = 4;
 
@@ -60,4 +62,32 @@ fn gather(image: &[u8], z: usize, i: usize, firsts: &mut [u64], lasts: &mut [u64
     let first = types::whole(image, j, 0);
     let last = types::whole(image, j, 1);
     push(firsts, lasts, count, first, last)
+}
+
+// The ranges of the faces of zone z, in node order. It answers how many there are.
+pub fn face_ranges(image: &[u8], z: usize, firsts: &mut [u64], lasts: &mut [u64]) -> usize
+    requires { ⌜ Sound (now image) × (z < nodeCount (now image)) ⌝ }
+    requires { ⌜ (4096 ≤ length (now firsts)) × (4096 ≤ length (now lasts)) ⌝ }
+    ensures { λ r. ⌜ Faces (treeOf (now (image .entry))) z (now (firsts .exit)) (now (lasts .exit)) r ⌝ }
+{
+    let n = labels::node_count(image);
+    let mut count: usize = 0;
+    let mut i = z + 1;
+    while i < n {
+        count = gather(image, z, i, firsts, lasts, count);
+        i += 1;
+    }
+    count
+}
+
+// Rule 35: does every number of a row refer to a face of zone z? A zone has no more ranges of faces than there are nodes.
+pub fn all_refer(image: &[u8], z: usize, at: usize, width: usize, n: usize) -> bool
+    requires { ⌜ Sound (now image) × (z < nodeCount (now image)) ⌝ }
+    requires { ⌜ Numbers (now image) at width n ⌝ }
+    ensures { λ r. ⌜ r ≡ everyFrom (refersFace (treeOf (now (image .entry))) z (now (image .entry)) at width) n 0 ⌝ }
+{
+    let mut firsts: [u64; 4096] = [0; 4096];
+    let mut lasts: [u64; 4096] = [0; 4096];
+    let count = face_ranges(image, z, &mut firsts, &mut lasts);
+    all_faces(image, at, width, n, &firsts, &lasts, count)
 }
