@@ -8,3 +8,4 @@ pub mod Ready
 pub mod Lookups
 pub mod Searches
 pub mod FaceLaws
+pub mod RuleLaws

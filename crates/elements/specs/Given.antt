@@ -11,7 +11,7 @@ use Rattle.model.specs.Corner.{numberAt}
 use Rattle.model.specs.Given.{Sound}
 use Rattle.model.specs.Containment.{role, found, sectionOf, Elements}
 use Rattle.model.specs.Values.{typed, shaped, flat, rangeValue, typeLawful, valueLawful, rangeOf, offsetsOf, connectivityOf, size, maxNumber}
-use Rattle.model.specs.Elements.{NGON, elementType, firstElement, lastElement, connectivityLength, hasFace, faceOf}
+use Rattle.model.specs.Elements.{NGON, elementType, firstElement, lastElement, hasFace, faceOf}
 use Rattle.words.specs.Width.{isWidth}
 use Rattle.types.specs.Given.{Has}
 use Rattle.elements.specs.Arrays.{inRanges}
@@ -29,6 +29,11 @@ pub record Stores (b : List ℕ) (j n : ℕ) : Type 0 where
   pub wide : T (isWidth (width (treeOf b) j))
   pub bytes : node (treeOf b) j .dataSize ≡ n * width (treeOf b) j
 
+-- node j stores whole numbers in one dimension
+pub record Indexed (b : List ℕ) (j : ℕ) : Type 0 where
+  pub numbers : Stores b j (size (treeOf b) j)
+  pub one-dimension : flat (treeOf b) j ≡ true
+
 -- the ElementRange of section s conforms
 pub record Ranged (b : List ℕ) (s : ℕ) : Type 0 where
   pub range : Stores b (rangeOf (treeOf b) s) 2
@@ -44,8 +49,8 @@ pub record SectionReady (b : List ℕ) (s : ℕ) : Type 0 where
   pub below : parent (treeOf b) s < s
   pub zone : Has b (parent (treeOf b) s) 0
   pub ranged : Ranged b s
-  pub connectivity : Stores b (connectivityOf (treeOf b) s) (connectivityLength (treeOf b) s)
-  pub offsets : found (treeOf b) (offsetsOf (treeOf b) s) ≡ true → Stores b (offsetsOf (treeOf b) s) (size (treeOf b) (offsetsOf (treeOf b) s))
+  pub connectivity : Indexed b (connectivityOf (treeOf b) s)
+  pub offsets : found (treeOf b) (offsetsOf (treeOf b) s) ≡ true → Indexed b (offsetsOf (treeOf b) s)
 
 -- the ElementRange of node i where it is a face section of zone z; the node count where it is none
 unfoldable pub faceRange : Tree → ℕ → ℕ → ℕ

@@ -6,3 +6,4 @@ pub mod offsets; // offsets.rt: rules 30 to 32
 pub mod parts; // parts.rt: the nodes of a section
 pub mod sections; // sections.rt: rule 28
 pub mod faces; // faces.rt: rule 35
+pub mod references; // references.rt: rules 34 and 35

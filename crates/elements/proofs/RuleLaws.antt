@@ -1,0 +1,54 @@
+-- The rules of a section against rows of the image's bytes.
+use Prim.Native.Nat.{ℕ, zero, suc, _+_, _*_, _-_, _≤_, _<_}
+use mathlib.Core.Path.{_≡_, refl, sym, ap, _∙_}
+use mathlib.Core.Bool.{Bool, true, false, not, _&&_}
+use mathlib.Core.List.{List, [], _∷_}
+use native.Mathlib.Omega.{arith}
+use lib.Dec.{eqb, leb}
+use Rattle.model.specs.Lists.{_⊃_, everyFrom}
+use Rattle.model.specs.Bytes.{magnitude}
+use Rattle.model.specs.Rules.{check, Rule, _unless_}
+use Rattle.model.specs.Image.{Tree, treeOf, nodeCount, node, parent, width, number}
+use Rattle.model.specs.Given.{Sound}
+use Rattle.model.specs.Values.{size, vertexSize, connectivityOf}
+use Rattle.model.specs.Elements.{NFACE, elementType, reference, connectivityLength, isNode, allNodes, faceNumber, isFace, allFaces}
+use Rattle.model.specs.Corner.{numberAt}
+use Rattle.elements.specs.Arrays.{Numbers, isWithin}
+use Rattle.elements.specs.Given.{Stores, Indexed, SectionReady, refersFace}
+use Rattle.elements.proofs.Stored.{startOf, stores-row, stores-number}
+use Rattle.elements.proofs.Pushes.{every-same}
+
+-- the row of a node's numbers, by what was read of it
+module _ {b : List ℕ} (s : Sound b) {j at w n : ℕ} (a : Indexed b j) (p : at ≡ startOf b j) (q : w ≡ width (treeOf b) j) (r : n ≡ size (treeOf b) j) where
+  pub row-of : Numbers b at w n
+  row-of = rw (p, q, r) (stores-row s (a .numbers))
+
+  pub number-of : (k : ℕ) → k < n → number (treeOf b) j k ≡ numberAt b at w k
+  number-of k h = rw (p, q) (stores-number s (a .numbers) k (rw (← r) h))
+
+module _ {b : List ℕ} (g : Sound b) {s j at w n : ℕ} (d : SectionReady b s) (e : j ≡ connectivityOf (treeOf b) s) (p : at ≡ startOf b j) (q : w ≡ width (treeOf b) j) (r : n ≡ connectivityLength (treeOf b) s) where
+  indexed : Indexed b j
+  indexed = rw e (d .connectivity)
+
+  pub size-is : n ≡ size (treeOf b) j
+  unfolding connectivityLength
+  size-is = rw e r
+
+  pub connectivity-row : Numbers b at w n
+  connectivity-row = row-of g indexed p q size-is
+
+  reference-is : (k : ℕ) → k < n → reference (treeOf b) s k ≡ numberAt b at w k
+  unfolding reference
+  reference-is k h = rw (← e) (number-of g indexed p q size-is k h)
+
+  -- 34
+  pub all-nodes : (limit : ℕ) → limit ≡ number (treeOf b) (parent (treeOf b) s) 0 → everyFrom (isWithin b at w limit) n 0 ≡ allNodes (treeOf b) s
+  unfolding allNodes isNode isWithin vertexSize
+  all-nodes limit m =
+      rw (← r) (every-same (isWithin b at w limit) (isNode (treeOf b) s) n 0 (λ k l h. rw (reference-is k (omega arith), ← m)))
+
+  -- 35
+  pub all-faces : (z : ℕ) → z ≡ parent (treeOf b) s → everyFrom (refersFace (treeOf b) z b at w) n 0 ≡ allFaces (treeOf b) s
+  unfolding allFaces isFace faceNumber refersFace
+  all-faces z m =
+      rw (← r) (every-same (refersFace (treeOf b) z b at w) (isFace (treeOf b) s) n 0 (λ k l h. rw (reference-is k (omega arith), ← m, ← e, ← q)))
