@@ -7,13 +7,15 @@ use native.Mathlib.Omega.{arith}
 use lib.Dec.{eqb, leb}
 use Rattle.model.specs.Lists.{_⊃_, everyFrom}
 use Rattle.model.specs.Bytes.{magnitude}
-use Rattle.model.specs.Rules.{check, Rule, _unless_}
+use borrow.Author.Tests.{ne-eqb}
+use Rattle.model.specs.Rules.{check, Rule, _unless_, passed, rejected, rejection}
 use Rattle.model.specs.Image.{Tree, treeOf, nodeCount, node, parent, width, number}
 use Rattle.model.specs.Given.{Sound}
 use Rattle.model.specs.Values.{size, vertexSize, connectivityOf}
 use Rattle.model.specs.Elements.{NFACE, elementType, reference, connectivityLength, isNode, allNodes, faceNumber, isFace, allFaces}
 use Rattle.model.specs.Corner.{numberAt}
 use Rattle.elements.specs.Arrays.{Numbers, isWithin}
+use Rattle.elements.specs.Groups.{referenceRules}
 use Rattle.elements.specs.Given.{Stores, Indexed, SectionReady, refersFace}
 use Rattle.elements.proofs.Stored.{startOf, stores-row, stores-number}
 use Rattle.elements.proofs.Pushes.{every-same}
@@ -52,3 +54,23 @@ module _ {b : List ℕ} (g : Sound b) {s j at w n : ℕ} (d : SectionReady b s) 
   unfolding allFaces isFace faceNumber refersFace
   all-faces z m =
       rw (← r) (every-same (refersFace (treeOf b) z b at w) (isFace (treeOf b) s) n 0 (λ k l h. rw (reference-is k (omega arith), ← m, ← e, ← q)))
+
+-- 34 and 35 by the type
+module _ (t : Tree) (s : ℕ) {r : Bool} where
+  module _ (e : elementType t s ≡ NFACE) (q : r ≡ allFaces t s) where
+    pub faces-kept : r ≡ true → passed ≡ check s (referenceRules t s)
+    unfolding referenceRules check _⊃_
+    faces-kept h = rw (e, sym q ∙ h)
+
+    pub faces-broken : r ≡ false → rejected (rejection 35 s) ≡ check s (referenceRules t s)
+    unfolding referenceRules check _⊃_
+    faces-broken h = rw (e, sym q ∙ h)
+
+  module _ (e : elementType t s ≡ NFACE → ⊥) (q : r ≡ allNodes t s) where
+    pub nodes-kept : r ≡ true → passed ≡ check s (referenceRules t s)
+    unfolding referenceRules check _⊃_
+    nodes-kept h = rw (ne-eqb (elementType t s) NFACE e, sym q ∙ h)
+
+    pub nodes-broken : r ≡ false → rejected (rejection 34 s) ≡ check s (referenceRules t s)
+    unfolding referenceRules check _⊃_
+    nodes-broken h = rw (ne-eqb (elementType t s) NFACE e, sym q ∙ h)

@@ -1,40 +1,36 @@
+-- The connectivity is a row of the bytes, and VertexSize the first number of the zone.
 use native.Mathlib.Omega.{arith}
+use mathlib.Core.Path.{_≡_, sym, _∙_, ap}
 use borrow.Author.Needs.{needs}
+use Prim.Native.Nat.{ℕ}
+use Rattle.model.specs.Image.{treeOf, number}
+use Rattle.elements.proofs.RuleLaws.{connectivity-row, all-nodes}
 use Rattle.elements.proofs.references.nodes_lawful.Statement.{statement}
 use Rattle.elements.proofs.references.nodes_lawful.Tie as tie
-use Rattle.elements.proofs.references.nodes_lawful.Reads as reads
-use Rattle.elements.proofs.references.nodes_lawful.Lts as lts
-use Rattle.elements.proofs.arrays.all_within.Reads as all-within-reads
-use Rattle.elements.proofs.references.width_at.Reads as width-at-reads
-use Rattle.records.proofs.data_start.Reads as data-start-reads
-use Rattle.records.proofs.parent_of.Reads as parent-of-reads
-use Rattle.types.proofs.whole.Reads as whole-reads
 
 data-start-requires : tie.Need-data-start-requires
-data-start-requires c κs = search needs
+data-start-requires c κs = let p = c .before .pre in (p .0 .0, rw (p .1 .0) (p .0 .1 .connectivity .numbers .inside))
 
 width-at-requires : tie.Need-width-at-requires
-width-at-requires c κs = search needs
-
-parent-of-requires : tie.Need-parent-of-requires
-parent-of-requires c κs = search needs
+width-at-requires c κs = let p = c .before .before .pre in (p .0 .0 .laid, rw (p .1 .0) (p .0 .1 .connectivity .numbers .inside))
 
 whole-requires : tie.Need-whole-requires
-whole-requires c κs = search needs
+whole-requires c κs = let p = c .before .before .before .before .pre in (p .0 .0, rw (c .parent-of .ensures .0) (p .0 .1 .zone))
 
 all-within-requires : tie.Need-all-within-requires
-all-within-requires c κs = search needs
+all-within-requires c κs =
+    let w = c .before .before in
+    let p = w .before .before .before .pre in
+    connectivity-row (p .0 .0) (p .0 .1) (p .1 .0) (w .before .data-start .ensures .0) (w .width-at .ensures .0) (p .1 .1)
 
 returns : tie.Need-returns
-returns c = search needs
+returns c =
+    let v = c .before in
+    let w = v .before .before in
+    let d = w .before .before .before in
+    let p = d .pre in
+    c .all-within .ensures
+    ∙ all-nodes (p .0 .0) (p .0 .1) (p .1 .0) (w .before .data-start .ensures .0) (w .width-at .ensures .0) (p .1 .1) _ (v .whole .ensures ∙ ap (λ (z : ℕ). number (treeOf (d .args .image .now)) z 0) (v .before .parent-of .ensures .0))
 
 pub nodes-lawful-spec : {M : Type 1} → statement M
-nodes-lawful-spec =
-    tie.close
-    (tie.spec
-    data-start-requires
-    width-at-requires
-    parent-of-requires
-    whole-requires
-    all-within-requires
-    returns)
+nodes-lawful-spec = tie.close (tie.spec data-start-requires width-at-requires (λ c κs. search needs) whole-requires all-within-requires returns)

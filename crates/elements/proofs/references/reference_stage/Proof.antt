@@ -1,46 +1,32 @@
 use native.Mathlib.Omega.{arith}
+use mathlib.Core.Path.{_≡_, sym, ap, _∙_}
 use borrow.Author.Needs.{needs}
+use Rattle.model.specs.Rules.{rejected}
+use Rattle.elements.proofs.RuleLaws.{faces-kept, faces-broken, nodes-kept, nodes-broken}
 use Rattle.elements.proofs.references.reference_stage.Statement.{statement}
 use Rattle.elements.proofs.references.reference_stage.Tie as tie
-use Rattle.elements.proofs.references.reference_stage.Reads as reads
-use Rattle.elements.proofs.references.reference_stage.Lts as lts
-use Rattle.elements.proofs.references.faces_lawful.Reads as faces-lawful-reads
-use Rattle.elements.proofs.references.nodes_lawful.Reads as nodes-lawful-reads
-use Rattle.model.proofs.Rejection.at.Reads as at-reads
-
-faces-lawful-requires : tie.Need-faces-lawful-requires
-faces-lawful-requires c κs = search needs
 
 returns : tie.Need-returns
-returns c = search needs
-
-at-requires : tie.Need-at-requires
-at-requires c κs = search needs
+returns c =
+    let d = c .before .before in
+    faces-kept _ _ (sym (d .before .before .pre .1 .1) ∙ d .if1 .taken) (c .before .faces-lawful .ensures) (c .if2 .taken)
 
 returns-2 : tie.Need-returns-2
-returns-2 c = search needs
-
-nodes-lawful-requires : tie.Need-nodes-lawful-requires
-nodes-lawful-requires c κs = search needs
+returns-2 c =
+    let f = c .before in
+    let d = f .before .before in
+    ap rejected (c .at .ensures) ∙ faces-broken _ _ (sym (d .before .before .pre .1 .1) ∙ d .if1 .taken) (f .before .faces-lawful .ensures) (f .if2 .left)
 
 returns-3 : tie.Need-returns-3
-returns-3 c = search needs
-
-at-requires-2 : tie.Need-at-requires-2
-at-requires-2 c κs = search needs
+returns-3 c =
+    let d = c .before .before in
+    nodes-kept _ _ (λ e. d .if1 .left (d .before .before .pre .1 .1 ∙ e)) (c .before .nodes-lawful .ensures) (c .if3 .taken)
 
 returns-4 : tie.Need-returns-4
-returns-4 c = search needs
+returns-4 c =
+    let f = c .before in
+    let d = f .before .before in
+    ap rejected (c .at2 .ensures) ∙ nodes-broken _ _ (λ e. d .if1 .left (d .before .before .pre .1 .1 ∙ e)) (f .before .nodes-lawful .ensures) (f .if3 .left)
 
 pub reference-stage-spec : {M : Type 1} → statement M
-reference-stage-spec =
-    tie.close
-    (tie.spec
-    faces-lawful-requires
-    returns
-    at-requires
-    returns-2
-    nodes-lawful-requires
-    returns-3
-    at-requires-2
-    returns-4)
+reference-stage-spec = tie.close (tie.spec (λ c κs. search needs) returns (search needs) returns-2 (λ c κs. search needs) returns-3 (search needs) returns-4)

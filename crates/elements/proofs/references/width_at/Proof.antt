@@ -1,20 +1,15 @@
 use native.Mathlib.Omega.{arith}
+use mathlib.Core.Path.{_∙_, ap}
 use borrow.Author.Needs.{needs}
+use lib.ListN.{getD}
+use Prim.Native.Nat.{ℕ}
+use Rattle.model.specs.Image.{width, widths}
 use Rattle.elements.proofs.references.width_at.Statement.{statement}
 use Rattle.elements.proofs.references.width_at.Tie as tie
-use Rattle.elements.proofs.references.width_at.Reads as reads
-use Rattle.elements.proofs.references.width_at.Lts as lts
-use Rattle.records.proofs.data_type_of.Reads as data-type-of-reads
-use Rattle.records.proofs.width_of.Reads as width-of-reads
-
-data-type-of-requires : tie.Need-data-type-of-requires
-data-type-of-requires c κs = search needs
-
-width-of-requires : tie.Need-width-of-requires
-width-of-requires c κs = search needs
 
 returns : tie.Need-returns
-returns c = search needs
+unfolding width
+returns c = (c .width-of .ensures .0 ∙ ap (λ (d : ℕ). getD widths d 0) (c .before .data-type-of .ensures .0), c .width-of .ensures .1)
 
 pub width-at-spec : {M : Type 1} → statement M
-width-at-spec = tie.close (tie.spec data-type-of-requires width-of-requires returns)
+width-at-spec = tie.close (tie.spec (search needs) (search needs) returns)
