@@ -9,3 +9,4 @@ pub mod Lookups
 pub mod Searches
 pub mod FaceLaws
 pub mod RuleLaws
+pub mod ShapeLaws

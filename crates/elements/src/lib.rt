@@ -7,3 +7,7 @@ pub mod parts; // parts.rt: the nodes of a section
 pub mod sections; // sections.rt: rule 28
 pub mod faces; // faces.rt: rule 35
 pub mod references; // references.rt: rules 34 and 35
+pub mod lengths; // lengths.rt: rules 29 to 32
+pub mod stage; // stage.rt: rules 27 to 35 together
+
+pub use stage::element_stage;
