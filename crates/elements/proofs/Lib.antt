@@ -10,3 +10,4 @@ pub mod Searches
 pub mod FaceLaws
 pub mod RuleLaws
 pub mod ShapeLaws
+pub mod StageLaws
