@@ -8,11 +8,11 @@ pub mod Conforming
 pub mod Counting
 pub mod Uses
 pub mod Reading
-pub mod Staging
-pub mod Above
 pub mod Joins
 pub mod Loops
 pub mod Parents
 pub mod Children
 pub mod Validated
 pub mod Sections
+pub mod Above
+pub mod Staging

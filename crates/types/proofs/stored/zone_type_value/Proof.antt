@@ -1,13 +1,14 @@
+use mathlib.Core.Path.{_∙_}
 use borrow.Author.Needs.{needs}
 use Rattle.model.specs.Bytes.{text}
 use Rattle.model.specs.Values.{zoneTypeValue}
-use Rattle.types.proofs.Joins.{or-done, or-on}
+use Rattle.model.proofs.Joins.{or-done, or-on}
 use Rattle.types.proofs.stored.zone_type_value.Statement.{statement}
 use Rattle.types.proofs.stored.zone_type_value.Tie as tie
 
 returns : tie.Need-returns
 unfolding zoneTypeValue text
-returns c = or-done _ (c .before .reads .ensures) (c .if1 .taken)
+returns c = (c .if1 .taken) ∙ or-done _ (c .before .reads .ensures) (c .if1 .taken)
 
 returns-2 : tie.Need-returns-2
 unfolding zoneTypeValue text
