@@ -5,7 +5,6 @@ pub mod Stages
 pub mod Pushes
 pub mod Stored
 pub mod Ready
-pub mod Lookups
 pub mod Searches
 pub mod FaceLaws
 pub mod RuleLaws

@@ -16,7 +16,8 @@ use Rattle.model.specs.Values.{typed, shaped, indexDimension, unstructured, typ
 use Rattle.model.proofs.Logic.{untrue, and-first, and-second}
 use Rattle.model.proofs.Passed.{Hold, claim, check-pass}
 use Rattle.model.proofs.Accepted.{record-rule}
-use Rattle.model.proofs.Above.{parent-lower, validated-above, earlier-rule, held-by}
+use Rattle.model.proofs.Parents.{parent-lower, lawful-at}
+use Rattle.model.proofs.Above.{validated-above, earlier-rule, held-by}
 use Rattle.types.specs.Given.{Has}
 use Rattle.types.proofs.Held.{whole-wide, whole-four, shaped-is, has-by}
 use Rattle.elements.specs.Given.{SectionReady}
@@ -76,7 +77,7 @@ section-ready {b} {s} g v e c =
     let full = sym (complete-is t s e) ∙ held .1 .1 .1 .0 in
     let own = sym (type-section t s e) ∙ held .1 .1 .1 .1 .0 in
     let z = zone-holds (role t (parent t s)) (and-first (mayHold (role t (parent t s)) Elements) _ p) in
-    let low = parent-lower b (g .sound) s (g .inside) (not-root t s e) in
+    let low = parent-lower t s (lawful-at b (g .sound) s (g .inside)) (not-root t s e) in
     let vz = validated-above b (g .sound) s (g .inside) (not-root t s e) v in
     record {
       inside = g .inside;

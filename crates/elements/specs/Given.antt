@@ -2,26 +2,19 @@
 use Prim.Native.Nat.{ℕ, _+_, _*_, _≤_, _<_}
 use mathlib.Core.Path.{_≡_}
 use mathlib.Core.Bool.{Bool, true, cond, _&&_, _||_}
-use mathlib.Core.List.{List, [], _∷_}
+use mathlib.Core.List.{List}
 use lib.Dec.{T, eqb}
 use lib.ListN.{length}
-use Rattle.model.specs.Image.{Tree, I4, I8, treeOf, nodeCount, node, parent, width}
+use Rattle.model.specs.Image.{Tree, treeOf, nodeCount, node, parent, width}
 use Rattle.model.specs.Bytes.{magnitude}
 use Rattle.model.specs.Corner.{numberAt}
 use Rattle.model.specs.Given.{Sound}
 use Rattle.model.specs.Containment.{role, found, sectionOf, Elements}
-use Rattle.model.specs.Values.{typed, shaped, flat, rangeValue, typeLawful, valueLawful, rangeOf, offsetsOf, connectivityOf, size, maxNumber}
+use Rattle.model.specs.Values.{flat, typeLawful, valueLawful, rangeOf, offsetsOf, connectivityOf, size, maxNumber}
 use Rattle.model.specs.Elements.{NGON, elementType, firstElement, lastElement, hasFace, faceOf}
 use Rattle.words.specs.Width.{isWidth}
 use Rattle.types.specs.Given.{Has}
 use Rattle.elements.specs.Arrays.{inRanges}
-
--- what rules 24 and 25 come to at an index array and at an ElementRange
-abbrev pub indexShape : Tree → ℕ → Bool
-indexShape t j = typed t j (I4 ∷ I8 ∷ []) && flat t j
-
-abbrev pub rangeLawful : Tree → ℕ → Bool
-rangeLawful t j = typed t j (I4 ∷ I8 ∷ []) && shaped t j (2 ∷ []) && rangeValue t j
 
 -- node j stores n numbers of 4 or 8 bytes
 pub record Stores (b : List ℕ) (j n : ℕ) : Type 0 where

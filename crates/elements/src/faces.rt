@@ -13,7 +13,7 @@ ghost use Rattle.elements.specs.Given.{faceRange, Gathered, Faces, refer
 ghost use Rattle.elements.specs.Arrays.{Numbers};
 ghost use Rattle.model.specs.Lists.{everyFrom};
 use super::element_types::NGON;
-use super::parts::range_of;
+use sids::range_of;
 use super::ranges::{all_faces, push};
 
 const I4_TYPE: u64 = 4;

@@ -12,7 +12,7 @@ ghost use Rattle.elements.specs.Given.{Indexed, SectionReady};
 ghost use Rattle.elements.specs.Groups.{shapeRules};
 use super::element_types::{has_offsets, nodes_per};
 use super::offsets::offsets_stage;
-use super::parts::offsets_of;
+use sids::offsets_of;
 use super::references::width_at;
 use model::Rejection;
 use model::Stage;

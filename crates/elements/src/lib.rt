@@ -3,7 +3,6 @@ pub mod element_types; // element_types.rt: the element types
 pub mod arrays; // arrays.rt: rows of numbers of 4 or 8 bytes; start offsets and node references
 pub mod ranges; // ranges.rt: face references against the ranges of faces
 pub mod offsets; // offsets.rt: rules 30 to 32
-pub mod parts; // parts.rt: the nodes of a section
 pub mod sections; // sections.rt: rule 28
 pub mod faces; // faces.rt: rule 35
 pub mod references; // references.rt: rules 34 and 35

@@ -31,7 +31,7 @@ fn first_range(firsts: &[u64], lasts: &[u64], count: usize, f: u64) -> usize
         }
         j += 1;
     }
-    count
+    j
 }
 
 // A range that holds f, the range `hint` asked first; count where none does.

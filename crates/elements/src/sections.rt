@@ -8,7 +8,7 @@ ghost use Rattle.model.specs.Given.{Sound, NodesTo};
 ghost use Rattle.model.specs.Containment.{sectionOf};
 ghost use Rattle.model.specs.Elements.{firstElement, lastElement, overlaps};
 ghost use Rattle.elements.specs.Given.{Ranged, SectionReady};
-use super::parts::range_of;
+use sids::range_of;
 
 // Is node i a section of zone z whose range meets first to last?
 fn meets(image: &[u8], z: usize, first: u64, last: u64, i: usize) -> bool

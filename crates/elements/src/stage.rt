@@ -12,7 +12,7 @@ ghost use Rattle.elements.specs.Given.{SectionReady};
 ghost use Rattle.elements.specs.Groups.{shapeRules, referenceRules};
 use super::element_types::taken;
 use super::lengths::{shape_stage, size_of};
-use super::parts::{connectivity_of, range_of};
+use sids::{connectivity_of, range_of};
 use super::references::reference_stage;
 use super::sections::overlaps;
 use model::Rejection;

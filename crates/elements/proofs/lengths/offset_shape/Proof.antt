@@ -8,7 +8,7 @@ use Rattle.elements.proofs.lengths.offset_shape.Statement.{statement}
 use Rattle.elements.proofs.lengths.offset_shape.Tie as tie
 
 offsets-of-requires : tie.Need-offsets-of-requires
-offsets-of-requires c κs = let p = c .before .pre in ((p .0 .0, p .0 .1 .inside), p .0 .1 .elements)
+offsets-of-requires c κs = let p = c .before .pre in (p .0 .0, p .0 .1 .inside)
 
 size-of-requires : tie.Need-size-of-requires
 size-of-requires c κs =

@@ -7,7 +7,7 @@ use Rattle.elements.proofs.stage.array_stage.Statement.{statement}
 use Rattle.elements.proofs.stage.array_stage.Tie as tie
 
 connectivity-of-requires : tie.Need-connectivity-of-requires
-connectivity-of-requires c κs = let p = c .before .pre in ((p .0 .0, p .0 .1 .inside), p .0 .1 .elements)
+connectivity-of-requires c κs = let p = c .before .pre in (p .0 .0, p .0 .1 .inside)
 
 size-of-requires : tie.Need-size-of-requires
 size-of-requires c κs =
