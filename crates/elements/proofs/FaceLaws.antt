@@ -1,7 +1,7 @@
 -- The faces that a node brings to a zone.
-use Prim.Native.Nat.{ℕ, zero, suc, _+_, _-_, _≤_, _<_}
+use Prim.Native.Nat.{ℕ, _+_, _-_, _≤_, _<_}
 use mathlib.Core.Path.{_≡_, refl, sym, ap, _∙_}
-use mathlib.Core.Bool.{Bool, true, false, cond, not, _&&_, _||_}
+use mathlib.Core.Bool.{Bool, true, false, cond, _&&_, _||_}
 use mathlib.Core.List.{List, [], _∷_}
 use native.Mathlib.Omega.{arith}
 use lib.Dec.{eqb, leb, ltb}
@@ -15,7 +15,6 @@ use Rattle.model.specs.Given.{Sound}
 use Rattle.model.specs.Containment.{role, found, sectionOf, Elements}
 use Rattle.model.specs.Values.{typed, shaped, notNegative, typeLawful, valueLawful, rangeOf}
 use Rattle.model.specs.Elements.{NGON, elementType, firstElement, lastElement, inRange, faceSection, hasFace, faceOf}
-use Rattle.model.proofs.Logic.{and-second}
 use Rattle.model.proofs.Conforming.{section-is}
 use Rattle.model.proofs.Walks.{someFrom-step, someFrom-end}
 use Rattle.model.proofs.Loops.{some-start}
@@ -136,9 +135,9 @@ module _ {b : List ℕ} {z i : ℕ} {firsts lasts : List ℕ} {n p q : ℕ} (g :
         firsts-long = k .firsts-long ∙ g .firsts-long;
         lasts-long = k .lasts-long ∙ g .lasts-long;
         faces =
-          λ f.
-          rw (k .in-ranges f) (or-assoc (inRanges firsts lasts n f) (hasFace (treeOf b) z f i) _
-          ∙ (ap (λ (x : Bool). inRanges firsts lasts n f || x) (sym (someFrom-step (hasFace (treeOf b) z f) (nodeCount b) i h)) ∙ g .faces f));
+            λ f.
+            rw (k .in-ranges f) (or-assoc (inRanges firsts lasts n f) (hasFace (treeOf b) z f i) _
+            ∙ (ap (λ (x : Bool). inRanges firsts lasts n f || x) (sym (someFrom-step (hasFace (treeOf b) z f) (nodeCount b) i h)) ∙ g .faces f));
       }
 
   pub gathering-done : nodeCount b ≤ i → n ≤ p → n ≤ q → Faces (treeOf b) z firsts lasts n

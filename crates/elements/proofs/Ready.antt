@@ -1,7 +1,7 @@
 -- Validation has come to section s, and rules 20 to 26 hold there: what rules 27 to 35 may rely on.
-use Prim.Native.Nat.{ℕ, zero, suc, _+_, _*_, _≤_, _<_}
-use mathlib.Core.Path.{_≡_, refl, sym, ap, subst, _∙_}
-use mathlib.Core.Bool.{Bool, true, false, cond, not, _&&_, _||_}
+use Prim.Native.Nat.{ℕ, zero, suc, _<_}
+use mathlib.Core.Path.{_≡_, refl, sym, subst, _∙_}
+use mathlib.Core.Bool.{Bool, true, false, not, _&&_, _||_}
 use mathlib.Core.List.{List, [], _∷_}
 use native.Mathlib.Omega.{arith}
 use lib.Dec.{eqb}
@@ -14,7 +14,7 @@ use Rattle.model.specs.Records.{recordRules, dataSizeLawful, product}
 use Rattle.model.specs.Containment.{role, validated, found, mayHold, containment, Zone, Elements}
 use Rattle.model.specs.Values.{typed, shaped, indexDimension, unstructured, typeLawful, placed, complete, rangeOf, connectivityOf, sidsRules}
 use Rattle.model.proofs.Logic.{untrue, and-first, and-second}
-use Rattle.model.proofs.Passed.{Hold, claim, check-pass}
+use Rattle.model.proofs.Passed.{check-pass}
 use Rattle.model.proofs.Accepted.{record-rule}
 use Rattle.model.proofs.Parents.{parent-lower, lawful-at}
 use Rattle.model.proofs.Above.{validated-above, earlier-rule, held-by}

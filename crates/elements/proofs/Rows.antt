@@ -1,6 +1,6 @@
 -- Laws of rows of numbers, over the width.
 use Prim.Native.Nat.{ℕ, zero, suc, _+_, _*_, _-_, _^_, _≤_, _<_}
-use mathlib.Core.Path.{_≡_, refl, sym, _∙_}
+use mathlib.Core.Path.{_≡_, sym}
 use mathlib.Core.Bool.{Bool, true, false, not, _&&_}
 use mathlib.Core.List.{List}
 use native.Mathlib.Nat.{mul-suc, mul-le-mul-left, one-le-pow, pow-succ'}
@@ -14,7 +14,7 @@ use borrow.Author.Tests.{lt-leb, leb-false, not-true}
 use Rattle.model.specs.Lists.{everyFrom}
 use Rattle.model.specs.Bytes.{le, half, negative, below}
 use Rattle.model.specs.Corner.{numberAt}
-use Rattle.model.proofs.Logic.{and-first, and-second}
+use Rattle.model.proofs.Logic.{and-first}
 use Rattle.model.proofs.Reading.{le-step}
 use Rattle.model.proofs.Loops.{EveryLeft, every-start, every-more, every-stop}
 use Rattle.elements.specs.Arrays.{Numbers, risesAt}

@@ -1,22 +1,20 @@
 -- The rules of a section against rows of the image's bytes.
-use Prim.Native.Nat.{ℕ, zero, suc, _+_, _*_, _-_, _≤_, _<_}
-use mathlib.Core.Path.{_≡_, refl, sym, ap, _∙_}
-use mathlib.Core.Bool.{Bool, true, false, not, _&&_}
-use mathlib.Core.List.{List, [], _∷_}
+use Prim.Native.Nat.{ℕ, _<_}
+use mathlib.Core.Path.{_≡_, sym, _∙_}
+use mathlib.Core.Bool.{Bool, true, false}
+use mathlib.Core.List.{List}
 use native.Mathlib.Omega.{arith}
-use lib.Dec.{eqb, leb}
 use Rattle.model.specs.Lists.{_⊃_, everyFrom}
-use Rattle.model.specs.Bytes.{magnitude}
 use borrow.Author.Tests.{ne-eqb}
-use Rattle.model.specs.Rules.{check, Rule, _unless_, passed, rejected, rejection}
-use Rattle.model.specs.Image.{Tree, treeOf, nodeCount, node, parent, width, number}
+use Rattle.model.specs.Rules.{check, passed, rejected, rejection}
+use Rattle.model.specs.Image.{Tree, treeOf, parent, width, number}
 use Rattle.model.specs.Given.{Sound}
 use Rattle.model.specs.Values.{size, vertexSize, connectivityOf}
 use Rattle.model.specs.Elements.{NFACE, elementType, reference, connectivityLength, isNode, allNodes, faceNumber, isFace, allFaces}
 use Rattle.model.specs.Corner.{numberAt}
 use Rattle.elements.specs.Arrays.{Numbers, isWithin}
 use Rattle.elements.specs.Groups.{referenceRules}
-use Rattle.elements.specs.Given.{Stores, Indexed, SectionReady, refersFace}
+use Rattle.elements.specs.Given.{Indexed, SectionReady, refersFace}
 use Rattle.elements.proofs.Stored.{startOf, stores-row, stores-number}
 use Rattle.elements.proofs.Pushes.{every-same}
 

@@ -1,15 +1,14 @@
 -- How the searches among a zone's sections meet the definitions.
-use Prim.Native.Nat.{ℕ, zero, suc, _+_, _-_, _≤_, _<_}
-use mathlib.Core.Path.{_≡_, refl, sym, ap, _∙_}
-use mathlib.Core.Bool.{Bool, true, false, cond, _&&_, _||_}
+use Prim.Native.Nat.{ℕ, _+_, _≤_, _<_}
+use mathlib.Core.Path.{_≡_, sym, _∙_}
+use mathlib.Core.Bool.{Bool, true, false, _&&_}
 use mathlib.Core.List.{List}
 use native.Mathlib.Omega.{arith}
-use lib.Dec.{eqb, leb, ltb}
-use Rattle.model.specs.Lists.{someFrom}
+use lib.Dec.{leb}
 use Rattle.model.specs.Image.{Tree, treeOf, nodeCount, parent, number}
 use Rattle.model.specs.Given.{Sound, NodesTo}
-use Rattle.model.specs.Containment.{role, found, sectionOf, Elements}
-use Rattle.model.specs.Values.{complete, rangeOf, connectivityOf, sidsRules}
+use Rattle.model.specs.Containment.{found, sectionOf}
+use Rattle.model.specs.Values.{rangeOf, connectivityOf, sidsRules}
 use Rattle.model.specs.Elements.{firstElement, lastElement, meets, overlap, overlaps}
 use Rattle.model.proofs.Logic.{and-first}
 use Rattle.model.proofs.Conforming.{section-is}

@@ -1,29 +1,26 @@
 -- Rules 29 to 32 of a section against rows of the image's bytes.
-use Prim.Native.Nat.{ℕ, zero, suc, _+_, _*_, _-_, _≤_, _<_}
-use mathlib.Core.Path.{_≡_, refl, sym, ap, subst, _∙_}
-use mathlib.Core.Bool.{Bool, true, false, cond, not, _&&_}
-use mathlib.Core.List.{List, [], _∷_}
+use Prim.Native.Nat.{ℕ, zero, suc, _+_, _*_, _≤_, _<_}
+use mathlib.Core.Path.{_≡_, refl, sym, ap, _∙_}
+use mathlib.Core.Bool.{Bool, true, false}
+use mathlib.Core.List.{List, []}
 use native.Mathlib.Omega.{arith}
-use native.Mathlib.Decide.{ℕ-discrete}
-use native.Mathlib.Nat.{mul-le-mul-right}
-use lib.Dec.{eqb, leb, ltb}
+use lib.Dec.{ltb}
 use lib.ListN.{length, getD, drop}
-use lib.Seq.{drop-nil}
 use borrow.Author.Tests.{ne-eqb, eq-eqb, lt-ltb, ltb-true, ltb-false}
 use Rattle.model.specs.Lists.{_⊃_, everyFrom}
-use Rattle.model.specs.Bytes.{le, numbers, below}
-use Rattle.model.specs.Rules.{check, Rule, _unless_, passed, rejected, rejection}
-use Rattle.model.specs.Image.{Tree, Node, nodeOf, nodesOf, treeOf, nodeCount, wordCount, node, dimensions, width, number}
+use Rattle.model.specs.Bytes.{le, numbers}
+use Rattle.model.specs.Rules.{check, passed, rejected, rejection}
+use Rattle.model.specs.Image.{Tree, nodeOf, nodesOf, treeOf, nodeCount, wordCount, node, dimensions, width}
 use Rattle.model.specs.Given.{Sound}
 use Rattle.model.specs.Containment.{found}
-use Rattle.model.specs.Values.{size, flat, offsetsOf}
-use Rattle.model.specs.Elements.{nodesPer, hasOffsets, elementType, firstElement, lastElement, elementCount, connectivityLength, lengthsFit, startOffset, startsAtZero, rises, allRise, endsAtLength}
+use Rattle.model.specs.Values.{size, offsetsOf}
+use Rattle.model.specs.Elements.{nodesPer, hasOffsets, elementType, elementCount, connectivityLength, lengthsFit, startOffset, startsAtZero, rises, allRise, endsAtLength}
 use Rattle.model.specs.Corner.{numberAt}
 use Rattle.model.proofs.Bounds.{node-placed}
 use Rattle.types.proofs.Held.{rank-is, flat-is}
 use Rattle.elements.specs.Arrays.{Numbers, risesAt, offsetRules}
 use Rattle.elements.specs.Groups.{shapeRules}
-use Rattle.elements.specs.Given.{Indexed, Ranged, SectionReady}
+use Rattle.elements.specs.Given.{Indexed, SectionReady}
 use Rattle.elements.proofs.Stored.{startOf}
 use Rattle.elements.proofs.RuleLaws.{row-of, number-of}
 use Rattle.elements.proofs.Pushes.{every-same}

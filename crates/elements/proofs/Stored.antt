@@ -1,31 +1,29 @@
 -- What a section's nodes store, where rules 20 to 26 hold, and how a row of the image's bytes has it.
-use Prim.Native.Nat.{ℕ, zero, suc, _+_, _*_, _-_, _≤_, _<_}
-use mathlib.Core.Path.{_≡_, refl, sym, ap, subst, _∙_}
-use mathlib.Core.Bool.{Bool, true, false, cond, not, _&&_, _||_}
+use Prim.Native.Nat.{ℕ, _+_, _*_, _≤_, _<_}
+use mathlib.Core.Path.{_≡_, sym, ap, subst, _∙_}
+use mathlib.Core.Bool.{true, _&&_}
 use mathlib.Core.List.{List, [], _∷_}
 use native.Mathlib.Omega.{arith}
 use native.Mathlib.Nat.{mul-suc, mul-comm, mul-le-mul-left, mul-one}
 use lib.ListN.{length}
-use lib.Dec.{T, eqb, leb}
+use lib.Dec.{T, leb}
 use borrow.Author.Tests.{leb-true}
 use Rattle.model.specs.Lists.{row}
 use Rattle.model.specs.Bytes.{text, spells}
-use Rattle.model.specs.Rules.{check, passed}
 use Rattle.model.specs.Image.{Tree, treeOf, nodeCount, node, name, parent, width, number, dataOffset, dimensions, I4, I8}
 use Rattle.model.specs.Given.{Sound}
 use Rattle.model.specs.Records.{product}
 use Rattle.model.specs.Containment.{role, found, Elements, IndexRange, DataArray}
-use Rattle.model.specs.Values.{typed, shaped, flat, size, typeLawful, valueLawful, arrayType, sectionArrayType, indexArray, rangeValue, conforming, rangeOf, offsetsOf, connectivityOf, complete, sidsRules}
+use Rattle.model.specs.Values.{typed, shaped, flat, size, typeLawful, valueLawful, arrayType, sectionArrayType, indexArray, rangeValue, conforming, rangeOf, offsetsOf, connectivityOf}
 use Rattle.model.specs.Elements.{firstElement, lastElement}
 use Rattle.model.specs.Corner.{numberAt}
 use Rattle.model.proofs.Logic.{and-first, and-second, or-left, or-right}
-use Rattle.model.proofs.Passed.{check-pass, claim}
 use Rattle.model.proofs.Bounds.{node-placed}
 use Rattle.model.proofs.Reading.{number-at}
 use Rattle.model.proofs.Conforming.{conforming-inside, conforming-type, conforming-value, conforming-role, conforming-parent, conforming-name}
 use Rattle.words.specs.Width.{isWidth}
 use Rattle.types.specs.Given.{Has}
-use Rattle.types.proofs.Held.{whole-wide, whole-four, shaped-is, flat-is, bytes-are}
+use Rattle.types.proofs.Held.{whole-wide, shaped-is, flat-is, bytes-are}
 use Rattle.elements.specs.Arrays.{Numbers}
 use Rattle.elements.specs.Given.{Stores, Indexed, Ranged}
 

@@ -8,7 +8,6 @@ use lib.ListN.{length}
 use Rattle.model.specs.Image.{Tree, treeOf, nodeCount, node, parent, width}
 use Rattle.model.specs.Bytes.{magnitude}
 use Rattle.model.specs.Corner.{numberAt}
-use Rattle.model.specs.Given.{Sound}
 use Rattle.model.specs.Containment.{role, found, sectionOf, Elements}
 use Rattle.model.specs.Values.{flat, typeLawful, valueLawful, rangeOf, offsetsOf, connectivityOf, size, maxNumber}
 use Rattle.model.specs.Elements.{NGON, elementType, firstElement, lastElement, hasFace, faceOf}

@@ -13,8 +13,9 @@ ghost use Rattle.elements.specs.Given.{faceRange, Gathered, Faces, refer
 ghost use Rattle.elements.specs.Arrays.{Numbers};
 ghost use Rattle.model.specs.Lists.{everyFrom};
 use super::element_types::NGON;
+use super::ranges::all_faces;
+use super::ranges::push;
 use sids::range_of;
-use super::ranges::{all_faces, push};
 
 const I4_TYPE: u64 = 4;
 
@@ -50,7 +51,14 @@ fn face_range(image: &[u8], z: usize, i: usize) -> usize
 }
 
 // The faces that node i brings to zone z, put behind the ranges of those before it. It answers how many ranges there are.
-fn gather(image: &[u8], z: usize, i: usize, firsts: &mut [u64], lasts: &mut [u64], count: usize) -> usize
+fn gather(
+    image: &[u8],
+    z: usize,
+    i: usize,
+    firsts: &mut [u64],
+    lasts: &mut [u64],
+    count: usize,
+) -> usize
     requires { ⌜ Sound (now image) × (i < nodeCount (now image)) ⌝ }
     requires { ⌜ (count < length (now firsts)) × (count < length (now lasts)) ⌝ }
     ensures { λ r. ⌜ Gathered (treeOf (now (image .entry))) z i (now (firsts .entry)) (now (lasts .entry)) count (now (firsts .exit)) (now (lasts .exit)) r ⌝ }

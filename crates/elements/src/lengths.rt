@@ -10,12 +10,13 @@ ghost use Rattle.model.specs.Rules.{check};
 ghost use Rattle.model.specs.Answers.{stageTells};
 ghost use Rattle.elements.specs.Given.{Indexed, SectionReady};
 ghost use Rattle.elements.specs.Groups.{shapeRules};
-use super::element_types::{has_offsets, nodes_per};
+use super::element_types::has_offsets;
+use super::element_types::nodes_per;
 use super::offsets::offsets_stage;
-use sids::offsets_of;
 use super::references::width_at;
 use model::Rejection;
 use model::Stage;
+use sids::offsets_of;
 
 // How many numbers node j stores in its one dimension; 0 where there is no such node.
 pub fn size_of(image: &[u8], j: usize) -> u64

@@ -9,4 +9,7 @@ pub mod references; // references.rt: rules 34 and 35
 pub mod lengths; // lengths.rt: rules 29 to 32
 pub mod stage; // stage.rt: rules 27 to 35 together
 
+pub use element_types::has_offsets;
+pub use element_types::nodes_per;
+pub use element_types::taken;
 pub use stage::element_stage;

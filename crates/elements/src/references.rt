@@ -45,7 +45,13 @@ fn faces_lawful(image: &[u8], s: usize, connectivity: usize, length: u64) -> boo
 {
     let at = records::data_start(image, connectivity);
     let width = width_at(image, connectivity);
-    all_refer(image, records::parent_of(image, s), at, width, length as usize)
+    all_refer(
+        image,
+        records::parent_of(image, s),
+        at,
+        width,
+        length as usize,
+    )
 }
 
 // Rules 34 and 35 at section s of type `kind`.

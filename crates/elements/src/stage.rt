@@ -11,12 +11,14 @@ ghost use Rattle.model.specs.Answers.{stageTells};
 ghost use Rattle.elements.specs.Given.{SectionReady};
 ghost use Rattle.elements.specs.Groups.{shapeRules, referenceRules};
 use super::element_types::taken;
-use super::lengths::{shape_stage, size_of};
-use sids::{connectivity_of, range_of};
+use super::lengths::shape_stage;
+use super::lengths::size_of;
 use super::references::reference_stage;
 use super::sections::overlaps;
 use model::Rejection;
 use model::Stage;
+use sids::connectivity_of;
+use sids::range_of;
 
 // Rules 29 to 35 at section s of type `kind`, with n elements.
 fn array_stage(image: &[u8], s: usize, kind: u64, n: u64) -> Stage

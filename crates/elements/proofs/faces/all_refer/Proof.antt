@@ -1,4 +1,3 @@
-use native.Mathlib.Omega.{arith}
 use mathlib.Core.Path.{_∙_}
 use Rattle.elements.proofs.FaceLaws.{refers-same}
 use borrow.Author.Needs.{needs}

@@ -1,6 +1,6 @@
 -- The start offsets are there where their count is n + 1, and are then a row of the bytes.
 use native.Mathlib.Omega.{arith}
-use mathlib.Core.Path.{_≡_, sym, ap, _∙_}
+use mathlib.Core.Path.{sym, ap, _∙_}
 use borrow.Author.Needs.{needs}
 use Rattle.model.specs.Rules.{rejected}
 use Rattle.elements.proofs.ShapeLaws.{offsets-there, offsets-found, count-small, offsets-short, offsets-row, offsets-fit}
@@ -40,10 +40,12 @@ offsets-stage-requires c κs =
     let i = c .before .before in
     let z = i .before in
     let o = z .before in
-    let p = o .before .before .pre in
-    (offsets-row _ _ (p .1 .1) (p .1 .0 .0) (p .1 .0 .1) (o .offsets-of .ensures .0) (p .0 .0)
-    (offsets-there (p .0 .1) (o .offsets-of .ensures .0) (offsets-found _ _ _ _ (z .size-of .ensures) (i .if1 .left)))
-    (c .before .data-start .ensures .0) (c .width-at .ensures .0) (sym (i .if1 .left) ∙ z .size-of .ensures), omega (arith, count-small (p .0 .1) (p .1 .0 .0)))
+    let p = o .before .before .pre in (
+      offsets-row _ _ (p .1 .1) (p .1 .0 .0) (p .1 .0 .1) (o .offsets-of .ensures .0) (p .0 .0)
+          (offsets-there (p .0 .1) (o .offsets-of .ensures .0) (offsets-found _ _ _ _ (z .size-of .ensures) (i .if1 .left)))
+          (c .before .data-start .ensures .0) (c .width-at .ensures .0) (sym (i .if1 .left) ∙ z .size-of .ensures),
+      omega (arith, count-small (p .0 .1) (p .1 .0 .0)),
+    )
 
 returns-2 : tie.Need-returns-2
 returns-2 c =

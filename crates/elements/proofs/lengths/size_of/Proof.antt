@@ -1,5 +1,5 @@
 use native.Mathlib.Omega.{arith}
-use mathlib.Core.Path.{_≡_, sym, _∙_}
+use mathlib.Core.Path.{sym}
 use borrow.Author.Needs.{needs}
 use Rattle.model.specs.Values.{size}
 use Rattle.elements.proofs.ShapeLaws.{no-size, one-word, words-inside}

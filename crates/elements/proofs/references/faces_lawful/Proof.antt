@@ -1,6 +1,5 @@
 -- The connectivity is a row of the bytes.
-use native.Mathlib.Omega.{arith}
-use mathlib.Core.Path.{_≡_, sym, _∙_}
+use mathlib.Core.Path.{_∙_}
 use borrow.Author.Needs.{needs}
 use Rattle.elements.proofs.RuleLaws.{connectivity-row, all-faces}
 use Rattle.elements.proofs.references.faces_lawful.Statement.{statement}

@@ -1,6 +1,5 @@
 -- The connectivity is a row of the bytes, and VertexSize the first number of the zone.
-use native.Mathlib.Omega.{arith}
-use mathlib.Core.Path.{_≡_, sym, _∙_, ap}
+use mathlib.Core.Path.{_∙_, ap}
 use borrow.Author.Needs.{needs}
 use Prim.Native.Nat.{ℕ}
 use Rattle.model.specs.Image.{treeOf, number}

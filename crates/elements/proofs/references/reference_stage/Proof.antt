@@ -1,5 +1,4 @@
-use native.Mathlib.Omega.{arith}
-use mathlib.Core.Path.{_≡_, sym, ap, _∙_}
+use mathlib.Core.Path.{sym, ap, _∙_}
 use borrow.Author.Needs.{needs}
 use Rattle.model.specs.Rules.{rejected}
 use Rattle.elements.proofs.RuleLaws.{faces-kept, faces-broken, nodes-kept, nodes-broken}

@@ -1,6 +1,6 @@
 -- The range is read where the node is a section, which has one.
 use native.Mathlib.Omega.{arith}
-use mathlib.Core.Path.{_≡_, sym, _∙_}
+use mathlib.Core.Path.{sym, _∙_}
 use borrow.Author.Needs.{needs}
 use borrow.Author.Tests.{not-true, not-false, lt-leb, le-leb}
 use Rattle.model.specs.Image.{treeOf}

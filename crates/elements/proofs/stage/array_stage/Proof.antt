@@ -1,5 +1,4 @@
 -- The first stage that rejects is the answer.
-use native.Mathlib.Omega.{arith}
 use borrow.Author.Needs.{needs}
 use Rattle.model.proofs.Staging.{stop, go}
 use Rattle.elements.proofs.StageLaws.{length-read}
