@@ -1,0 +1,12 @@
+pub mod Tables
+pub mod Rows
+pub mod Seeks
+pub mod Stages
+pub mod Pushes
+pub mod Stored
+pub mod Ready
+pub mod Searches
+pub mod FaceLaws
+pub mod RuleLaws
+pub mod ShapeLaws
+pub mod StageLaws
