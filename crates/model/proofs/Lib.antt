@@ -28,4 +28,3 @@ pub mod Children
 pub mod Validated
 pub mod Sections
 pub mod Above
-pub mod Staging
