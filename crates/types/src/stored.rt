@@ -1,5 +1,6 @@
 // Stored texts.
 ghost use mathlib.Core.Path.{_≡_};
+ghost use mathlib.Core.Bool.{_||_};
 ghost use Prim.Native.Nat.{_≤_, _<_};
 ghost use Rattle.model.specs.Image.{treeOf, nodeCount};
 ghost use Rattle.model.specs.Given.{Sound};
@@ -30,12 +31,20 @@ pub fn reads_if_found(image: &[u8], i: usize, text: &[u8]) -> bool
     reads(image, i, text)
 }
 
+// They are one of two texts.
+fn reads_either(image: &[u8], i: usize, one: &[u8], other: &[u8]) -> bool
+    requires { ⌜ Sound (now image) × (i < nodeCount (now image)) ⌝ }
+    ensures { λ r. ⌜ r ≡ (reads (treeOf (now (image .entry))) i (now (one .entry)) || reads (treeOf (now (image .entry))) i (now (other .entry))) ⌝ }
+{
+    reads(image, i, one) || reads(image, i, other)
+}
+
 // GridLocation_t: exactly Vertex or CellCenter.
 pub fn location_value(image: &[u8], i: usize) -> bool
     requires { ⌜ Sound (now image) × (i < nodeCount (now image)) ⌝ }
     ensures { λ r. ⌜ r ≡ locationValue (treeOf (now (image .entry))) i ⌝ }
 {
-    reads(image, i, b"Vertex") || reads(image, i, b"CellCenter")
+    reads_either(image, i, b"Vertex", b"CellCenter")
 }
 
 // ZoneType_t: exactly Structured or Unstructured.
@@ -43,5 +52,5 @@ pub fn zone_type_value(image: &[u8], i: usize) -> bool
     requires { ⌜ Sound (now image) × (i < nodeCount (now image)) ⌝ }
     ensures { λ r. ⌜ r ≡ zoneTypeValue (treeOf (now (image .entry))) i ⌝ }
 {
-    reads(image, i, b"Structured") || reads(image, i, b"Unstructured")
+    reads_either(image, i, b"Structured", b"Unstructured")
 }
