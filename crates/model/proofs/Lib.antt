@@ -19,3 +19,11 @@ pub mod References
 pub mod NoneNegative
 pub mod ZoneEntries
 pub mod Demand3
+pub mod Staging
+pub mod Above
+pub mod Joins
+pub mod Loops
+pub mod Parents
+pub mod Children
+pub mod Validated
+pub mod Sections

@@ -1,0 +1,84 @@
+-- Laws of rows of numbers, over the width.
+use Prim.Native.Nat.{ℕ, zero, suc, _+_, _*_, _-_, _^_, _≤_, _<_}
+use mathlib.Core.Path.{_≡_, refl, sym, _∙_}
+use mathlib.Core.Bool.{Bool, true, false, not, _&&_}
+use mathlib.Core.List.{List}
+use native.Mathlib.Nat.{mul-suc, mul-le-mul-left, one-le-pow, pow-succ'}
+use native.Mathlib.Numerals.{add-one}
+use native.Mathlib.Omega.{arith}
+use lib.Dec.{ltb, leb, lit<}
+use lib.ListN.{length, getD, drop}
+use mir.Syntax.{w8}
+use mir.Val.{Fits}
+use borrow.Author.Tests.{lt-leb, leb-false, not-true}
+use Rattle.model.specs.Lists.{everyFrom}
+use Rattle.model.specs.Bytes.{le, half, negative, below}
+use Rattle.model.specs.Corner.{numberAt}
+use Rattle.model.proofs.Logic.{and-first, and-second}
+use Rattle.model.proofs.Reading.{le-step}
+use Rattle.model.proofs.Walks.{everyFrom-step, everyFrom-end}
+use Rattle.elements.specs.Arrays.{Numbers, risesAt}
+
+-- number k of a row lies inside the bytes
+pub room : {b : List ℕ} {at w n v : ℕ} (k : ℕ) → Numbers b at w n → w ≡ v → k < n → at + v * k + v ≤ length b
+room {w = w} k x e h = let s = rw mul-suc at (mul-le-mul-left w h) in rw (← e) (omega arith)
+
+-- a number of w bytes, of bytes that are bytes
+pub le-bound : (b : List ℕ) → ((i : ℕ) → Fits w8 (getD b i 0)) → (w p : ℕ) → le w (drop p b) < 256 ^ w
+unfolding le
+le-bound b g zero p = lit< tt
+le-bound b g (suc w) p =
+    let r = le-bound b g w (p + 1) in
+    let h = g p .fits in
+    rw (le-step w b p, pow-succ') (omega arith)
+
+-- a loop that tests every number of a row, number k next: the whole is the rest from here
+pub record Left (p : ℕ → Bool) (n k : ℕ) : Type 0 where
+  pub upto : k ≤ n
+  pub rest : everyFrom p (n - k) k ≡ everyFrom p n 0
+
+module _ {p : ℕ → Bool} {n : ℕ} where
+  pub start : Left p n 0
+  start = record { upto = omega arith; rest = let e : n - 0 ≡ n = omega arith in rw e }
+
+  module _ {k : ℕ} (l : Left p n k) where
+    pub on : k < n → p k ≡ true → Left p n (k + 1)
+    on h e = record { upto = omega arith; rest = sym (everyFrom-step p n k h ∙ rw e) ∙ l .rest }
+
+    pub off : k < n → p k ≡ false → false ≡ everyFrom p n 0
+    off h e = sym (everyFrom-step p n k h ∙ rw e) ∙ l .rest
+
+    pub done : n ≤ k → true ≡ everyFrom p n 0
+    done h = sym (everyFrom-end p n k h) ∙ l .rest
+
+-- of two numbers of which x is not negative: y is above x where it is not negative and greater
+pub below-low : (w x y : ℕ) → x < half w → below w x y ≡ (not (leb (half w) y) && ltb x y)
+unfolding below negative
+below-low w x y h = rw (lt-leb (half w) x h)
+
+pub still-low : (w x y : ℕ) → x < half w → below w x y ≡ true → y < half w
+still-low w x y h e = leb-false (half w) y (not-true _ (and-first (not (leb (half w) y)) (ltb x y) (rw (below-low w x y h) at e)))
+
+pub half-some : (w : ℕ) → 0 < half w
+unfolding half
+half-some w = one-le-pow (8 * w - 1) 2 (omega arith)
+
+-- a loop over start offsets, k of which rose: the next one's predecessor is at hand, and is not negative
+pub record Rising (b : List ℕ) (at w n k last : ℕ) : Type 0 where
+  pub left : Left (risesAt b at w) n k
+  pub here : last ≡ numberAt b at w k
+  pub low : last < half w
+
+pub rising-start : {b : List ℕ} {at w n : ℕ} → numberAt b at w 0 ≡ 0 → Rising b at w n 0 0
+rising-start {w = w} e = record { left = start; here = sym e; low = half-some w }
+
+module _ {b : List ℕ} {at w n k last next : ℕ} (r : Rising b at w n k last) (e : next ≡ numberAt b at w (k + 1)) where
+  rise-is : {t : Bool} → below w last next ≡ t → risesAt b at w k ≡ t
+  unfolding risesAt
+  rise-is f = rw (← add-one k, ← e, ← r .here) f
+
+  pub rising-on : k < n → below w last next ≡ true → Rising b at w n (k + 1) next
+  rising-on h f = record { left = on (r .left) h (rise-is f); here = e; low = still-low w last next (r .low) f }
+
+  pub rising-off : k < n → below w last next ≡ false → false ≡ everyFrom (risesAt b at w) n 0
+  rising-off h f = off (r .left) h (rise-is f)

@@ -1,0 +1,121 @@
+-- What a section's nodes store, where rules 20 to 26 hold, and how a row of the image's bytes has it.
+use Prim.Native.Nat.{ℕ, zero, suc, _+_, _*_, _-_, _≤_, _<_}
+use mathlib.Core.Path.{_≡_, refl, sym, ap, subst, _∙_}
+use mathlib.Core.Bool.{Bool, true, false, cond, not, _&&_, _||_}
+use mathlib.Core.List.{List, [], _∷_}
+use native.Mathlib.Omega.{arith}
+use native.Mathlib.Nat.{mul-suc, mul-comm, mul-le-mul-left, mul-one}
+use lib.ListN.{length}
+use lib.Dec.{T, eqb, leb}
+use borrow.Author.Tests.{leb-true}
+use Rattle.model.specs.Lists.{row}
+use Rattle.model.specs.Bytes.{text, spells}
+use Rattle.model.specs.Rules.{check, passed}
+use Rattle.model.specs.Image.{Tree, treeOf, nodeCount, node, name, parent, width, number, dataOffset, dimensions, I4, I8}
+use Rattle.model.specs.Given.{Sound}
+use Rattle.model.specs.Records.{product}
+use Rattle.model.specs.Containment.{role, found, Elements, IndexRange, DataArray}
+use Rattle.model.specs.Values.{typed, shaped, flat, size, typeLawful, valueLawful, arrayType, sectionArrayType, indexArray, rangeValue, conforming, rangeOf, offsetsOf, connectivityOf, complete, sidsRules}
+use Rattle.model.specs.Elements.{firstElement, lastElement, connectivityLength}
+use Rattle.model.specs.Corner.{numberAt}
+use Rattle.model.proofs.Logic.{and-first, and-second, or-left, or-right}
+use Rattle.model.proofs.Passed.{check-pass, claim}
+use Rattle.model.proofs.Bounds.{node-placed}
+use Rattle.model.proofs.Reading.{number-at}
+use Rattle.model.proofs.Conforming.{conforming-inside, conforming-type, conforming-value, conforming-role, conforming-parent, conforming-name}
+use Rattle.words.specs.Width.{isWidth}
+use Rattle.types.specs.Given.{Has}
+use Rattle.types.proofs.Held.{whole-wide, whole-four, shaped-is, flat-is, bytes-are}
+use Rattle.elements.specs.Arrays.{Numbers}
+use Rattle.elements.specs.Given.{Stores, Ranged, SectionReady}
+
+-- where a node's numbers start
+abbrev pub startOf : List ℕ → ℕ → ℕ
+startOf b j = treeOf b .areaAt + node (treeOf b) j .dataAt
+
+scaled : (w k n : ℕ) → k < n → w * k + w ≤ n * w
+scaled w k n h = rw (← mul-suc w k, mul-comm n w) (mul-le-mul-left w h)
+
+module _ {b : List ℕ} (s : Sound b) {j n : ℕ} (a : Stores b j n) where
+  pub stores-has : (k : ℕ) → k < n → Has b j k
+  stores-has k h = record { inside = a .inside; wide = a .wide; room = rw (a .bytes) (scaled (width (treeOf b) j) k n h) }
+
+  pub stores-row : Numbers b (startOf b j) (width (treeOf b) j) n
+  unfolding treeOf
+  stores-row =
+      let p = node-placed b (s .table) j (a .inside) in
+      let l = s .laid in
+      let e : dataOffset b + node (treeOf b) j .dataAt + node (treeOf b) j .dataSize ≤ length b = omega arith in
+      record { wide = a .wide; inside = rw (mul-comm (width (treeOf b) j) n, ← a .bytes) e }
+
+  pub stores-number : (k : ℕ) → k < n → number (treeOf b) j k ≡ numberAt b (startOf b j) (width (treeOf b) j) k
+  unfolding numberAt treeOf
+  stores-number k h = number-at b j k (rw (a .bytes) (scaled (width (treeOf b) j) k n h))
+
+stores-by : {b : List ℕ} → Sound b → (j : ℕ) → j < nodeCount b → T (isWidth (width (treeOf b) j)) → (sizes : List ℕ) → dimensions (treeOf b) j ≡ sizes → Stores b j (product sizes)
+stores-by {b} s j h w sizes e = record { inside = h; wide = w; bytes = bytes-are b s j h sizes e }
+
+stores-flat : {b : List ℕ} → Sound b → (j : ℕ) → j < nodeCount b → (typed (treeOf b) j (I4 ∷ I8 ∷ []) && flat (treeOf b) j) ≡ true → Stores b j (size (treeOf b) j)
+unfolding product
+stores-flat {b} s j h e =
+    let t = treeOf b in
+    subst (λ (n : ℕ). Stores b j n) (mul-one (size t j))
+    (stores-by s j h (whole-wide t j (and-first (typed t j (I4 ∷ I8 ∷ [])) _ e)) (size t j ∷ []) (flat-is t j (and-second (typed t j (I4 ∷ I8 ∷ [])) _ e)))
+
+pub stores-pair : {b : List ℕ} → Sound b → (j : ℕ) → j < nodeCount b → T (isWidth (width (treeOf b) j)) → shaped (treeOf b) j (2 ∷ []) ≡ true → Stores b j 2
+unfolding product
+stores-pair {b} s j h w e = stores-by s j h w (2 ∷ []) (shaped-is (treeOf b) j (2 ∷ []) e)
+
+-- rule 24 of an ElementRange, of a section, of an array under a section
+module _ (t : Tree) (j : ℕ) where
+  pub type-range : role t j ≡ IndexRange → typeLawful t j ≡ (typed t j (I4 ∷ I8 ∷ []) && shaped t j (2 ∷ []))
+  unfolding typeLawful row
+  type-range e = rw e
+
+  pub type-section : role t j ≡ Elements → typeLawful t j ≡ (typed t j (I4 ∷ []) && shaped t j (2 ∷ []))
+  unfolding typeLawful row
+  type-section e = rw e
+
+  pub value-range : role t j ≡ IndexRange → valueLawful t j ≡ rangeValue t j
+  unfolding valueLawful row
+  value-range e = rw e
+
+  pub type-array : role t j ≡ DataArray → role t (parent t j) ≡ Elements → indexArray t j ≡ true → typeLawful t j ≡ (typed t j (I4 ∷ I8 ∷ []) && flat t j)
+  unfolding typeLawful row arrayType sectionArrayType
+  type-array e p n = rw (e, p, n)
+
+-- a conforming index array, and a conforming ElementRange
+module _ {b : List ℕ} (s : Sound b) (i : ℕ) where
+  index-stores : role (treeOf b) i ≡ Elements → (n : List ℕ) → ((j : ℕ) → spells (name (treeOf b) j) n ≡ true → indexArray (treeOf b) j ≡ true)
+      → found (treeOf b) (conforming (treeOf b) i DataArray n) ≡ true → Stores b (conforming (treeOf b) i DataArray n) (size (treeOf b) (conforming (treeOf b) i DataArray n))
+  unfolding treeOf
+  index-stores r n f h =
+      let t = treeOf b in
+      let j = conforming t i DataArray n in
+      let e = type-array t j (conforming-role t i DataArray n h) (ap (role t) (conforming-parent t i DataArray n h) ∙ r) (f j (conforming-name t i DataArray n h)) in
+      stores-flat s j (conforming-inside t i DataArray n h) (sym e ∙ conforming-type t i DataArray n h)
+
+  pub connectivity-stores : role (treeOf b) i ≡ Elements → found (treeOf b) (connectivityOf (treeOf b) i) ≡ true → Stores b (connectivityOf (treeOf b) i) (connectivityLength (treeOf b) i)
+  unfolding connectivityOf connectivityLength indexArray
+  connectivity-stores r h = index-stores r (text "ElementConnectivity") (λ j e. or-left _ _ e) h
+
+  pub offsets-stores : role (treeOf b) i ≡ Elements → found (treeOf b) (offsetsOf (treeOf b) i) ≡ true → Stores b (offsetsOf (treeOf b) i) (size (treeOf b) (offsetsOf (treeOf b) i))
+  unfolding offsetsOf indexArray
+  offsets-stores r h = index-stores r (text "ElementStartOffset") (λ j e. or-right (spells (name (treeOf b) j) (text "ElementConnectivity")) _ e) h
+
+  pub range-ready : found (treeOf b) (rangeOf (treeOf b) i) ≡ true → Ranged b i
+  unfolding rangeOf rangeValue firstElement lastElement treeOf
+  range-ready h =
+      let t = treeOf b in
+      let n = text "ElementRange" in
+      let j = conforming t i IndexRange n in
+      let r = conforming-role t i IndexRange n h in
+      let e = sym (type-range t j r) ∙ conforming-type t i IndexRange n h in
+      let v = sym (value-range t j r) ∙ conforming-value t i IndexRange n h in
+      let low = and-first (leb 1 (number t j 0) && leb (number t j 0) (number t j 1)) _ v in
+      record {
+        range = stores-pair s j (conforming-inside t i IndexRange n h) (whole-wide t j (and-first (typed t j (I4 ∷ I8 ∷ [])) _ e)) (and-second (typed t j (I4 ∷ I8 ∷ [])) _ e);
+        one = leb-true _ _ (and-first (leb 1 (number t j 0)) _ low);
+        up = leb-true _ _ (and-second (leb 1 (number t j 0)) _ low);
+        most = leb-true _ _ (and-second (leb 1 (number t j 0) && leb (number t j 0) (number t j 1)) _ v);
+      }

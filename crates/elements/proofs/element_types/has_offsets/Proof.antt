@@ -1,0 +1,17 @@
+use native.Mathlib.Omega.{arith}
+use borrow.Author.Needs.{needs}
+use borrow.Author.Tests.{eq-eqb, ne-eqb}
+use Rattle.model.specs.Elements.{hasOffsets}
+use Rattle.elements.proofs.element_types.has_offsets.Statement.{statement}
+use Rattle.elements.proofs.element_types.has_offsets.Tie as tie
+
+returns : tie.Need-returns
+unfolding hasOffsets
+returns c = rw (eq-eqb _ 22 (c .if1 .taken))
+
+returns-2 : tie.Need-returns-2
+unfolding hasOffsets
+returns-2 c = rw (ne-eqb _ 22 (c .if1 .left))
+
+pub has-offsets-spec : {M : Type 1} → statement M
+has-offsets-spec = tie.close (tie.spec returns returns-2)
