@@ -20,9 +20,10 @@ loop-holds c = (search needs, fill-none (c .args .out .now) 0)
 
 loop-again : tie.Need-loop-again Inv-loop μ-loop
 loop-again c =
-    let l = c .before .loop in
-    ((omega arith, length-set (l .out) (l .k) 0 ∙ l .inv .0 .1),
-     ap (λ (x : List _). set x (l .k) 0) (l .inv .1) ∙ fill-more (l .k) 0 (c .before .before .args .out .now) (omega arith))
+    let l = c .before .loop in (
+      (omega arith, length-set (l .out) (l .k) 0 ∙ l .inv .0 .1),
+      ap (λ (x : List _). set x (l .k) 0) (l .inv .1) ∙ fill-more (l .k) 0 (c .before .before .args .out .now) (omega arith),
+    )
 
 same-length : tie.Need-same-length Inv-loop μ-loop
 same-length c = c .before .loop .inv .0 .1
