@@ -36,6 +36,10 @@ pub record RangeRead (b : List ℕ) (s first last : ℕ) : Type 0 where
   pub up : first ≤ last
   pub most : last ≤ 2147483647
 
+pub count-read : {b : List ℕ} {s first last : ℕ} → RangeRead b s first last → elementCount (treeOf b) s ≡ last - first + 1
+unfolding elementCount
+count-read g = rw (g .is-first, g .is-last)
+
 module _ {b : List ℕ} (a : Accepted b) where
   module _ (z s : ℕ) (h : s < nodeCount b) (e : sectionOf (treeOf b) z s ≡ true) where
     pub in-zone : InZone b z s

@@ -1,3 +1,5 @@
 pub mod Accepted
 pub mod Gathering
 pub mod Marks
+pub mod Rows
+pub mod Runs
