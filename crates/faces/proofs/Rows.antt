@@ -10,13 +10,13 @@ use borrow.Author.Tests.{eqb-true, lt-ltb}
 use Rattle.model.specs.Lists.{seekFrom}
 use Rattle.model.specs.Bytes.{text}
 use Rattle.model.specs.Image.{treeOf, nodeCount, wordCount, node, dimensions, dataType, width, widths, number, I4, I8}
-use Rattle.model.specs.Given.{Sound}
-use Rattle.model.specs.Containment.{role, found, Elements, DataArray}
+use Rattle.model.specs.Given.{Sound, Accepted}
+use Rattle.model.specs.Containment.{role, found, sectionOf, Elements, DataArray}
 use Rattle.model.specs.Values.{typed, flat, size, indexArray, offsetsOf, connectivityOf}
 use Rattle.model.specs.Elements.{NFACE, hasOffsets, elementType, firstElement, lastElement, elementCount, startOffset, elementStart, connectivityLength, reference, faceNumber, isFace, allFaces, elementRules}
 use Rattle.model.specs.Corner.{numberAt}
 use Rattle.model.specs.FaceUsage.{endsAfter, elementHolding}
-use Rattle.model.proofs.Logic.{and-second, or-left, when}
+use Rattle.model.proofs.Logic.{and-first, and-second, or-left, when}
 use Rattle.model.proofs.Walks.{every-at}
 use Rattle.model.proofs.Bounds.{node-placed}
 use Rattle.model.proofs.Conforming.{conforming-name}
@@ -49,6 +49,11 @@ seek-same : (p q : ℕ → Bool) (k i : ℕ) → ((j : ℕ) → i ≤ j → j < 
 unfolding seekFrom
 seek-same p q zero i e = refl
 seek-same p q (suc k) i e = rw (e i (omega arith) (omega arith), seek-same p q k (suc i) (λ j l h. e j (omega arith) (omega arith)))
+
+-- a section of type 23
+pub cells-by : {b : List ℕ} → Accepted b → (z s : ℕ) → s < nodeCount b → (sectionOf (treeOf b) z s && eqb (elementType (treeOf b) s) NFACE) ≡ true → Cells b z s
+cells-by {b} a z s h e =
+    record { accepted = a; inside = h; section = and-first (sectionOf (treeOf b) z s) _ e; cells = eqb-true _ _ (and-second (sectionOf (treeOf b) z s) _ e) }
 
 module _ {b : List ℕ} {z s : ℕ} (c : Cells b z s) where
   pub cells-in-zone : InZone b z s
@@ -132,3 +137,14 @@ module _ {b : List ℕ} {z s : ℕ} (c : Cells b z s) where
         stored = r .stored;
         faces = λ k h. rw p at (every-at (isFace (treeOf b) s) (connectivityLength (treeOf b) s) 0 k faces (omega arith) (omega (arith, e)));
       }
+
+  -- as it was read
+  pub connectivity-size : {r n : ℕ} → r ≡ connectivityOf (treeOf b) s → n ≡ getD (dimensions (treeOf b) r) 0 0 → n ≡ connectivityLength (treeOf b) s
+  unfolding connectivityLength size
+  connectivity-size e q = q ∙ ap (λ (j : ℕ). getD (dimensions (treeOf b) j) 0 0) e
+
+  pub connectivity-row : {r at d w n : ℕ} → r ≡ connectivityOf (treeOf b) s → at ≡ treeOf b .areaAt + node (treeOf b) r .dataAt → d ≡ dataType (treeOf b) r → w ≡ getD widths d 0
+      → n ≡ getD (dimensions (treeOf b) r) 0 0 → References b z s at w n
+  connectivity-row {r} {at} {d} {w} {n} e p f q m =
+      let size = connectivity-size e m in
+      references (subst (λ (k : ℕ). Row b (connectivityOf (treeOf b) s) at w k) (sym size) (row-read (c .accepted .sound) _ _ cells-connectivity e p f q)) size

@@ -17,7 +17,8 @@ use Rattle.model.specs.Bytes.{negative, magnitude}
 use Rattle.model.specs.Rules.{Answer, rejected, answer, repetition, _into_}
 use Rattle.model.specs.Image.{Tree, treeOf, nodeCount}
 use Rattle.model.specs.Given.{Accepted}
-use Rattle.model.specs.Elements.{faceOf, faceNumber}
+use Rattle.model.specs.Containment.{sectionOf}
+use Rattle.model.specs.Elements.{NFACE, elementType, connectivityLength, faceOf, faceNumber}
 use Rattle.model.specs.Corner.{numberAt}
 use Rattle.model.specs.FaceUsage.{faceCount, facePlace, unused, elementHolding, usePlace, useSign, useEntry, useEntries, usesIn, useNodes}
 use Rattle.model.proofs.Logic.{and-first}
@@ -33,6 +34,9 @@ holds-from firsts lasts f j e = leb-true _ _ (and-first (leb (getD firsts j 0) f
 
 pub place-room : {p q faces n : ℕ} → q ≡ p → q < faces → faces ≤ n → p < n
 place-room e l h = omega arith
+
+pub still-room : {faces m n : ℕ} → m ≡ n → faces ≤ n → faces ≤ m
+still-room e h = omega arith
 
 -- one use, as it was made
 pub use-is : (t : Tree) (z w x : ℕ) (bytes : List ℕ) {f p : ℕ} {minus u free : Bool} {after : List ℕ} → f ≡ magnitude w x → facePlace t z f ≡ p → minus ≡ negative w x
@@ -152,3 +156,13 @@ nodes-start {b} a z h bytes =
     let p : z + 1 + (nodeCount b - (z + 1)) ≡ nodeCount b = omega arith in
     let q : 0 + (z + 1) ≡ z + 1 = omega arith in
     sym (rw (p, q) at (nodes-skip (treeOf b) z (z + 1) (nodeCount b - (z + 1)) 0 bytes (λ j l k. no-uses a z h j (omega arith))))
+
+-- a node that brings none, and a cell section
+module _ (t : Tree) (z s : ℕ) where
+  pub node-none : (faces : ℕ) (bytes : List ℕ) → (sectionOf t z s && eqb (elementType t s) NFACE) ≡ false → Used faces (useEntries t s (usesIn t z s) 0 bytes) bytes Stage.Pass bytes
+  unfolding usesIn useEntries
+  node-none faces bytes e = record { tells = rw e; rest = refl }
+
+  pub node-all : (sectionOf t z s && eqb (elementType t s) NFACE) ≡ true → usesIn t z s ≡ connectivityLength t s
+  unfolding usesIn
+  node-all e = rw e

@@ -94,3 +94,97 @@ fn use_entry(
     }
     j
 }
+
+// Uses the faces of the n references of cell section s, from `at` on; 45 at the first that is used twice with one sign.
+fn use_entries(
+    image: &[u8],
+    z: usize,
+    s: usize,
+    at: usize,
+    width: usize,
+    n: usize,
+    firsts: &[u64],
+    lasts: &[u64],
+    bases: &[u64],
+    count: usize,
+    out: &mut [u8],
+) -> Stage
+    requires { ⌜ Cells (now image) z s × References (now image) z s at width n ⌝ }
+    requires { ⌜ Ranges (treeOf (now image)) z (nodeCount (now image)) (now firsts) (now lasts) (now bases) count ⌝ }
+    requires { ⌜ (count ≤ length (now firsts)) × (count ≤ length (now lasts)) × (count ≤ length (now bases)) ⌝ }
+    requires { ⌜ faceCount (treeOf (now image)) z ≤ length (now out) ⌝ }
+    ensures { λ r. ⌜ Used (faceCount (treeOf (now (image .entry))) z) (useEntries (treeOf (now (image .entry))) s n 0 (now (out .entry))) (now (out .entry)) r (now (out .exit)) ⌝ }
+{
+    let mut hint: usize = 0;
+    let mut k: usize = 0;
+    while k < n {
+        let j = use_entry(
+            image,
+            z,
+            at,
+            width,
+            n,
+            k,
+            firsts,
+            lasts,
+            bases,
+            count,
+            hint,
+            out,
+        );
+        if count <= j {
+            let e = element_holding(image, z, s, k);
+            return Stage::Rejected(Rejection::repeated(s as u64, e));
+        }
+        hint = j;
+        k += 1;
+    }
+    Stage::Pass
+}
+
+// Uses the faces of all references of cell section s.
+fn use_section(
+    image: &[u8],
+    z: usize,
+    s: usize,
+    firsts: &[u64],
+    lasts: &[u64],
+    bases: &[u64],
+    count: usize,
+    out: &mut [u8],
+) -> Stage
+    requires { ⌜ Cells (now image) z s ⌝ }
+    requires { ⌜ Ranges (treeOf (now image)) z (nodeCount (now image)) (now firsts) (now lasts) (now bases) count ⌝ }
+    requires { ⌜ (count ≤ length (now firsts)) × (count ≤ length (now lasts)) × (count ≤ length (now bases)) ⌝ }
+    requires { ⌜ faceCount (treeOf (now image)) z ≤ length (now out) ⌝ }
+    ensures { λ r. ⌜ Used (faceCount (treeOf (now (image .entry))) z) (useEntries (treeOf (now (image .entry))) s (connectivityLength (treeOf (now (image .entry))) s) 0 (now (out .entry))) (now (out .entry)) r (now (out .exit)) ⌝ }
+{
+    let connectivity = elements::parts::connectivity_of(image, s);
+    let at = records::data_start(image, connectivity);
+    let width = records::width_of(records::data_type_of(image, connectivity)) as usize;
+    let n = records::dimension(image, connectivity, 0) as usize;
+    use_entries(image, z, s, at, width, n, firsts, lasts, bases, count, out)
+}
+
+// Uses the faces of all references of node s, where it is a cell section of zone z.
+fn use_node(
+    image: &[u8],
+    z: usize,
+    s: usize,
+    firsts: &[u64],
+    lasts: &[u64],
+    bases: &[u64],
+    count: usize,
+    out: &mut [u8],
+) -> Stage
+    requires { ⌜ Accepted (now image) × (s < nodeCount (now image)) ⌝ }
+    requires { ⌜ Ranges (treeOf (now image)) z (nodeCount (now image)) (now firsts) (now lasts) (now bases) count ⌝ }
+    requires { ⌜ (count ≤ length (now firsts)) × (count ≤ length (now lasts)) × (count ≤ length (now bases)) ⌝ }
+    requires { ⌜ faceCount (treeOf (now image)) z ≤ length (now out) ⌝ }
+    ensures { λ r. ⌜ Used (faceCount (treeOf (now (image .entry))) z) (useEntries (treeOf (now (image .entry))) s (usesIn (treeOf (now (image .entry))) z s) 0 (now (out .entry))) (now (out .entry)) r (now (out .exit)) ⌝ }
+{
+    if !has_type(image, z, s, NFACE) {
+        return Stage::Pass;
+    }
+    use_section(image, z, s, firsts, lasts, bases, count, out)
+}
