@@ -3,3 +3,4 @@ pub mod Gathering
 pub mod Marks
 pub mod Rows
 pub mod Runs
+pub mod Whole

@@ -13,7 +13,7 @@ use Rattle.model.specs.Image.{treeOf, nodeCount, wordCount, node, dimensions, d
 use Rattle.model.specs.Given.{Sound, Accepted}
 use Rattle.model.specs.Containment.{role, found, sectionOf, Elements, DataArray}
 use Rattle.model.specs.Values.{typed, flat, size, indexArray, offsetsOf, connectivityOf}
-use Rattle.model.specs.Elements.{NFACE, hasOffsets, elementType, firstElement, lastElement, elementCount, startOffset, elementStart, connectivityLength, reference, faceNumber, isFace, allFaces, elementRules}
+use Rattle.model.specs.Elements.{NFACE, hasOffsets, elementType, firstElement, lastElement, elementCount, startOffset, elementStart, connectivityLength, reference, faceOf, faceNumber, isFace, allFaces, elementRules}
 use Rattle.model.specs.Corner.{numberAt}
 use Rattle.model.specs.FaceUsage.{endsAfter, elementHolding}
 use Rattle.model.proofs.Logic.{and-first, and-second, or-left, when}
@@ -125,17 +125,22 @@ module _ {b : List ℕ} {z s : ℕ} (c : Cells b z s) where
       let q = sym (rank-is (treeOf b) (connectivityOf (treeOf b) s)) ∙ eqb-true _ 1 connectivity-flat in
       rw e (omega (arith, q), node-placed b (c .accepted .sound .table) (connectivityOf (treeOf b) s) connectivity-inside .words-in)
 
-  pub references : {at w n : ℕ} → Row b (connectivityOf (treeOf b) s) at w n → n ≡ connectivityLength (treeOf b) s → References b z s at w n
-  unfolding reference elementRules allFaces isFace
-  references r e =
-      let p = parts cells-in-zone .parent-is in
+  -- 35: each of its references is to a face of the zone
+  pub cells-faces : (k : ℕ) → k < connectivityLength (treeOf b) s → faceOf (treeOf b) z (faceNumber (treeOf b) s k) ≡ true
+  unfolding elementRules allFaces isFace
+  cells-faces k h =
       let faces = when (eqb (elementType (treeOf b) s) NFACE) (allFaces (treeOf b) s) (section-rule cells-in-zone 35) (rw (c .cells)) in
+      rw (parts cells-in-zone .parent-is) at (every-at (isFace (treeOf b) s) (connectivityLength (treeOf b) s) 0 k faces (omega arith) (omega arith))
+
+  references : {at w n : ℕ} → Row b (connectivityOf (treeOf b) s) at w n → n ≡ connectivityLength (treeOf b) s → References b z s at w n
+  unfolding reference
+  references r e =
       record {
         numbers = r .numbers;
-        zone = p;
+        zone = parts cells-in-zone .parent-is;
         wide = r .wide;
         stored = r .stored;
-        faces = λ k h. rw p at (every-at (isFace (treeOf b) s) (connectivityLength (treeOf b) s) 0 k faces (omega arith) (omega (arith, e)));
+        faces = λ k h. cells-faces k (omega (arith, e));
       }
 
   -- as it was read

@@ -188,3 +188,31 @@ fn use_node(
     }
     use_section(image, z, s, firsts, lasts, bases, count, out)
 }
+
+// Uses the faces of all references of the zone's cells, in node and entry order.
+pub fn use_nodes(
+    image: &[u8],
+    z: usize,
+    firsts: &[u64],
+    lasts: &[u64],
+    bases: &[u64],
+    count: usize,
+    out: &mut [u8],
+) -> Stage
+    requires { ⌜ Accepted (now image) × (isZone (treeOf (now image)) z ≡ true) ⌝ }
+    requires { ⌜ Ranges (treeOf (now image)) z (nodeCount (now image)) (now firsts) (now lasts) (now bases) count ⌝ }
+    requires { ⌜ (count ≤ length (now firsts)) × (count ≤ length (now lasts)) × (count ≤ length (now bases)) ⌝ }
+    requires { ⌜ faceCount (treeOf (now image)) z ≤ length (now out) ⌝ }
+    ensures { λ r. ⌜ Used (faceCount (treeOf (now (image .entry))) z) (useNodes (treeOf (now (image .entry))) z (nodeCount (now (image .entry))) 0 (now (out .entry))) (now (out .entry)) r (now (out .exit)) ⌝ }
+{
+    let nodes = labels::node_count(image);
+    let mut i = z + 1;
+    while i < nodes {
+        let s = use_node(image, z, i, firsts, lasts, bases, count, out);
+        let Stage::Pass = s else {
+            return s;
+        };
+        i += 1;
+    }
+    Stage::Pass
+}
