@@ -4,3 +4,4 @@ pub mod Marks
 pub mod Rows
 pub mod Runs
 pub mod Whole
+pub mod Checks

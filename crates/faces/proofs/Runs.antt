@@ -35,6 +35,15 @@ holds-from firsts lasts f j e = leb-true _ _ (and-first (leb (getD firsts j 0) f
 pub place-room : {p q faces n : ℕ} → q ≡ p → q < faces → faces ≤ n → p < n
 place-room e l h = omega arith
 
+pub at-most : {p faces n : ℕ} → p ≡ faces → faces ≤ n → p ≤ n
+at-most e h = omega arith
+
+pub faces-over : {p faces n : ℕ} → p ≡ faces → n < p → n < faces
+faces-over e h = omega arith
+
+pub faces-within : {p faces n : ℕ} → p ≡ faces → p ≤ n → faces ≤ n
+faces-within e h = omega arith
+
 pub still-room : {faces m n : ℕ} → m ≡ n → faces ≤ n → faces ≤ m
 still-room e h = omega arith
 

@@ -45,9 +45,6 @@ module _ (t : Tree) where
         rw (List·getD-append xs ys 0 (usePlace t s k) h, set-append-left xs ys (usePlace t s k) (getD xs (usePlace t s k) 0 + useSign t s k) h)
         (by-test (unused (useSign t s k) (getD xs (usePlace t s k) 0)))
       where
-        new : List ℕ
-        new = set xs (usePlace t s k) (getD xs (usePlace t s k) 0 + useSign t s k)
-
         by-test : (u : Bool) → cond u (answer (set xs (usePlace t s k) (getD xs (usePlace t s k) 0 + useSign t s k) ++ ys)) (rejected (repetition s (elementHolding t s k)))
             ≡ behind ys (cond u (answer (set xs (usePlace t s k) (getD xs (usePlace t s k) 0 + useSign t s k))) (rejected (repetition s (elementHolding t s k))))
         by-test true = refl
@@ -65,12 +62,12 @@ module _ (t : Tree) where
         by-test false q = refused q
 
   -- a section's entries
-  entries-long : (s n k : ℕ) {xs zs : List ℕ} → useEntries t s n k xs ≡ answer zs → length zs ≡ length xs
+  entries-long : (s n k : ℕ) (xs : List ℕ) {zs : List ℕ} → useEntries t s n k xs ≡ answer zs → length zs ≡ length xs
   unfolding useEntries
-  entries-long s zero k {xs} {zs} e = let p : xs ≡ zs = cc in rw (← p)
-  entries-long s (suc n) k {xs} e =
+  entries-long s zero k xs {zs} e = let p : xs ≡ zs = cc in rw (← p)
+  entries-long s (suc n) k xs e =
       let v = into-value (useEntry t s k xs) (λ later. useEntries t s n (suc k) later) e in
-      entries-long s n (suc k) (v .2) ∙ entry-long s k xs (v .1)
+      entries-long s n (suc k) (v .0) (v .2) ∙ entry-long s k xs (v .1)
 
   entries-behind : (ys : List ℕ) (s n k : ℕ) (xs : List ℕ) → ((j : ℕ) → k ≤ j → j < k + n → usePlace t s j < length xs)
       → useEntries t s n k (xs ++ ys) ≡ behind ys (useEntries t s n k xs)
@@ -82,12 +79,12 @@ module _ (t : Tree) where
       (λ zs e. entries-behind ys s n (suc k) zs (λ j l m. rw (entry-long s k xs e) (h j (omega arith) (omega arith)))))
 
   -- a zone's nodes
-  nodes-long : (z n i : ℕ) {xs zs : List ℕ} → useNodes t z n i xs ≡ answer zs → length zs ≡ length xs
+  nodes-long : (z n i : ℕ) (xs : List ℕ) {zs : List ℕ} → useNodes t z n i xs ≡ answer zs → length zs ≡ length xs
   unfolding useNodes
-  nodes-long z zero i {xs} {zs} e = let p : xs ≡ zs = cc in rw (← p)
-  nodes-long z (suc n) i {xs} e =
+  nodes-long z zero i xs {zs} e = let p : xs ≡ zs = cc in rw (← p)
+  nodes-long z (suc n) i xs e =
       let v = into-value (useEntries t i (usesIn t z i) 0 xs) (λ later. useNodes t z n (suc i) later) e in
-      nodes-long z n (suc i) (v .2) ∙ entries-long i (usesIn t z i) 0 (v .1)
+      nodes-long z n (suc i) (v .0) (v .2) ∙ entries-long i (usesIn t z i) 0 xs (v .1)
 
   nodes-behind : (ys : List ℕ) (z n i : ℕ) (xs : List ℕ) → ((s j : ℕ) → i ≤ s → s < i + n → j < usesIn t z s → usePlace t s j < length xs)
       → useNodes t z n i (xs ++ ys) ≡ behind ys (useNodes t z n i xs)
@@ -96,7 +93,7 @@ module _ (t : Tree) where
   nodes-behind ys z (suc n) i xs h =
       rw (entries-behind ys i (usesIn t z i) 0 xs (λ j l m. h i j (omega arith) (omega arith) (omega arith)))
       (into-behind ys (λ later. useNodes t z n (suc i) later) (useEntries t i (usesIn t z i) 0 xs)
-      (λ zs e. nodes-behind ys z n (suc i) zs (λ s j l m o. rw (entries-long i (usesIn t z i) 0 e) (h s j (omega arith) (omega arith) o))))
+      (λ zs e. nodes-behind ys z n (suc i) zs (λ s j l m o. rw (entries-long i (usesIn t z i) 0 xs e) (h s j (omega arith) (omega arith) o))))
 
 module _ {b : List ℕ} (a : Accepted b) {z n : ℕ} {firsts lasts bases : List ℕ} (g : Ranges (treeOf b) z (nodeCount b) firsts lasts bases n) where
   -- each use has a place below F
@@ -117,11 +114,11 @@ module _ {b : List ℕ} (a : Accepted b) {z n : ℕ} {firsts lasts bases : List 
     unfolding usage treeOf
     run-is =
         nodes-behind (treeOf b) (drop (faceCount (treeOf b) z) out) z (nodeCount b) 0 (replicate (faceCount (treeOf b) z) 0)
-        (λ s j l m o. rw (length-replicate (faceCount (treeOf b) z) 0) (use-below s j (omega arith) o))
+        (λ s j l m o. rw (length-replicate {A = ℕ} (faceCount (treeOf b) z) 0) (use-below s j (omega arith) o))
 
     usage-long : {zs : List ℕ} → usage (treeOf b) z ≡ answer zs → length zs ≡ faceCount (treeOf b) z
     unfolding usage
-    usage-long e = nodes-long (treeOf b) z _ 0 e ∙ length-replicate (faceCount (treeOf b) z) 0
+    usage-long e = nodes-long (treeOf b) z _ 0 _ e ∙ length-replicate (faceCount (treeOf b) z) 0
 
     -- what a run over the cleared bytes told and left, and its bytes cleared again
     module _ {first : List ℕ} {r : Stage} {after : List ℕ} (p : first ≡ replicate (faceCount (treeOf b) z) 0 ++ drop (faceCount (treeOf b) z) out)

@@ -53,11 +53,12 @@ loop-again c =
     let l = c .before .before .before .before .before .before .loop in
     let d = c .before .before .before .before .before .before .before .before .before .before .before .before in
     let r = d .pre .0 .1 in
-    let a = d .args in
-    (omega arith,
-     left-more (l .inv .1) (λ later. useEntries (treeOf (a .image .now)) (a .s) (a .n - (l .k + 1)) (l .k + 1) later) (entries-step _ _ _ _ _ (omega arith))
-     (entry-used r (l .k) (omega arith) _ (place-below (a .image .now) (d .pre .1 .0) _ (entry-face r (l .k) (omega arith))) (l .out) (u .ensures) (lt-ltb _ _ (c .if1 .left)))
-     refl (u .kept .1 .1 .1 .1 .1 .1 .1 .1 .1 .1 .1 .0))
+    let a = d .args in (
+      omega arith,
+      left-more (l .inv .1) (λ later. useEntries (treeOf (a .image .now)) (a .s) (a .n - (l .k + 1)) (l .k + 1) later) (entries-step _ _ _ _ _ (omega arith))
+          (entry-used r (l .k) (omega arith) _ (place-below (a .image .now) (d .pre .1 .0) _ (entry-face r (l .k) (omega arith))) (l .out) (u .ensures) (lt-ltb _ _ (c .if1 .left)))
+          refl (u .kept .1 .1 .1 .1 .1 .1 .1 .1 .1 .1 .1 .0),
+    )
 
 same-length-2 : tie.Need-same-length-2 Inv-loop μ-loop
 same-length-2 c = c .before .loop .inv .1 .long

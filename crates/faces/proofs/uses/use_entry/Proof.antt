@@ -28,7 +28,7 @@ add-p c =
     let r = c .before .before .range-of in
     let g = d .pre .1 .1 .0 in
     let h : getD (d .args .bases .now) (r .result) 0 + (c .before .before .before .magnitude-at .result - getD (d .args .firsts .now) (r .result) 0) < length (d .args .out .now)
-        = place-room (g .place _ _ (r .ensures .0) (r .ensures .1)) (g .below _ _ (r .ensures .0) (r .ensures .1)) (d .pre .1 .1 .1 .1) in
+    = place-room (g .place _ _ (r .ensures .0) (r .ensures .1)) (g .below _ _ (r .ensures .0) (r .ensures .1)) (d .pre .1 .1 .1 .1) in
     omega (arith, h, d .good)
 
 use-face-requires : tie.Need-use-face-requires

@@ -55,10 +55,11 @@ loop-again c =
     let l = c .before .before .before .before .before .before .before .loop in
     let a = c .before .before .before .before .before .before .before .before .before .before .before .before .before .before .args in
     let u = c .before .before .before .before .use-node in
-    let h : l .i < nodeCount (a .image .now) = omega (arith, l .inv .0 .0) in
-    ((l .inv .0 .0, omega arith),
-     left-more (l .inv .1) (λ later. useNodes (treeOf (a .image .now)) (a .z) (nodeCount (a .image .now) - (l .i + 1)) (l .i + 1) later) (nodes-step _ _ _ _ _ h)
-     (u .ensures) (c .enum-told .given .1) (u .kept .1 .1 .1 .1 .1 .1 .1 .0))
+    let h : l .i < nodeCount (a .image .now) = omega (arith, l .inv .0 .0) in (
+      (l .inv .0 .0, omega arith),
+      left-more (l .inv .1) (λ later. useNodes (treeOf (a .image .now)) (a .z) (nodeCount (a .image .now) - (l .i + 1)) (l .i + 1) later) (nodes-step _ _ _ _ _ h)
+          (u .ensures) (c .enum-told .given .1) (u .kept .1 .1 .1 .1 .1 .1 .1 .0),
+    )
 
 same-length-2 : tie.Need-same-length-2 Inv-loop μ-loop
 same-length-2 c = c .before .loop .inv .1 .long
