@@ -28,3 +28,10 @@ pub mod Children
 pub mod Validated
 pub mod Sections
 pub mod Above
+pub mod Above
+pub mod Joins
+pub mod Loops
+pub mod Parents
+pub mod Children
+pub mod Validated
+pub mod Sections

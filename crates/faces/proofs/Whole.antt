@@ -1,0 +1,163 @@
+-- A run over a longer list of bytes: what stands after the zone's faces stays. And what that makes of the usage of a zone.
+use Prim.Native.Nat.{ℕ, zero, suc, _+_, _≤_, _<_}
+use mathlib.Core.Path.{_≡_, refl, sym, ap, subst, _∙_}
+use mathlib.Core.Bool.{Bool, true, false, cond, _&&_}
+use mathlib.Core.List.{List, [], _∷_, _++_}
+use native.Mathlib.Omega.{arith}
+use lib.ListN.{length, getD, set, drop, replicate, length-set, length-replicate, List·getD-append}
+use lib.Seq.{set-append-left, drop-at}
+use lib.Dec.{eqb, leb}
+use Rattle.model.specs.declared.Rejection.{Rejection}
+use Rattle.model.specs.declared.Stage.{Stage}
+use Rattle.model.specs.declared.Stage.the-variants as Stage
+use Rattle.model.specs.Lists.{over}
+use Rattle.model.specs.Rules.{Answer, rejected, answer, repetition, _into_}
+use Rattle.model.specs.Image.{Tree, treeOf, nodeCount, parent}
+use Rattle.model.specs.Given.{Accepted}
+use Rattle.model.specs.Containment.{sectionOf}
+use Rattle.model.specs.Elements.{NFACE, elementType, connectivityLength, faceNumber}
+use Rattle.model.specs.FaceUsage.{faceCount, facePlace, unused, elementHolding, usePlace, useSign, useEntry, useEntries, usesIn, useNodes, usage, usageBytes}
+use Rattle.model.proofs.Logic.{and-first}
+use Rattle.model.proofs.Passed.{refused, into-value}
+use Rattle.model.proofs.Conforming.{section-is}
+use Rattle.faces.specs.Ranges.{Ranges}
+use Rattle.faces.specs.Uses.{used, Used}
+use Rattle.faces.proofs.Gathering.{place-below}
+use Rattle.faces.proofs.Rows.{cells-by, cells-faces}
+
+-- bytes behind those that a run left
+abbrev pub behind : List ℕ → Answer (List ℕ) → Answer (List ℕ)
+behind ys (rejected r) = rejected r
+behind ys (answer xs) = answer (xs ++ ys)
+
+into-behind : (ys : List ℕ) (f : List ℕ → Answer (List ℕ)) (a : Answer (List ℕ)) → ((zs : List ℕ) → a ≡ answer zs → f (zs ++ ys) ≡ behind ys (f zs))
+    → (behind ys a into f) ≡ behind ys (a into f)
+unfolding _into_
+into-behind ys f (rejected r) e = refl
+into-behind ys f (answer zs) e = e zs refl
+
+module _ (t : Tree) where
+  -- one use
+  module _ (s k : ℕ) (xs : List ℕ) where
+    entry-behind : (ys : List ℕ) → usePlace t s k < length xs → useEntry t s k (xs ++ ys) ≡ behind ys (useEntry t s k xs)
+    unfolding useEntry
+    entry-behind ys h =
+        rw (List·getD-append xs ys 0 (usePlace t s k) h, set-append-left xs ys (usePlace t s k) (getD xs (usePlace t s k) 0 + useSign t s k) h)
+        (by-test (unused (useSign t s k) (getD xs (usePlace t s k) 0)))
+      where
+        by-test : (u : Bool) → cond u (answer (set xs (usePlace t s k) (getD xs (usePlace t s k) 0 + useSign t s k) ++ ys)) (rejected (repetition s (elementHolding t s k)))
+            ≡ behind ys (cond u (answer (set xs (usePlace t s k) (getD xs (usePlace t s k) 0 + useSign t s k))) (rejected (repetition s (elementHolding t s k))))
+        by-test true = refl
+        by-test false = refl
+
+    entry-long : {zs : List ℕ} → useEntry t s k xs ≡ answer zs → length zs ≡ length xs
+    unfolding useEntry
+    entry-long {zs} e = by-test (unused (useSign t s k) (getD xs (usePlace t s k) 0)) e
+      where
+        by-test : (u : Bool) → cond u (answer (set xs (usePlace t s k) (getD xs (usePlace t s k) 0 + useSign t s k))) (rejected (repetition s (elementHolding t s k))) ≡ answer zs
+            → length zs ≡ length xs
+        by-test true q =
+            let p : set xs (usePlace t s k) (getD xs (usePlace t s k) 0 + useSign t s k) ≡ zs = cc in
+            rw (← p) (length-set xs (usePlace t s k) _)
+        by-test false q = refused q
+
+  -- a section's entries
+  entries-long : (s n k : ℕ) (xs : List ℕ) {zs : List ℕ} → useEntries t s n k xs ≡ answer zs → length zs ≡ length xs
+  unfolding useEntries
+  entries-long s zero k xs {zs} e = let p : xs ≡ zs = cc in rw (← p)
+  entries-long s (suc n) k xs e =
+      let v = into-value (useEntry t s k xs) (λ later. useEntries t s n (suc k) later) e in
+      entries-long s n (suc k) (v .0) (v .2) ∙ entry-long s k xs (v .1)
+
+  entries-behind : (ys : List ℕ) (s n k : ℕ) (xs : List ℕ) → ((j : ℕ) → k ≤ j → j < k + n → usePlace t s j < length xs)
+      → useEntries t s n k (xs ++ ys) ≡ behind ys (useEntries t s n k xs)
+  unfolding useEntries
+  entries-behind ys s zero k xs h = refl
+  entries-behind ys s (suc n) k xs h =
+      rw (entry-behind s k xs ys (h k (omega arith) (omega arith)))
+      (into-behind ys (λ later. useEntries t s n (suc k) later) (useEntry t s k xs)
+      (λ zs e. entries-behind ys s n (suc k) zs (λ j l m. rw (entry-long s k xs e) (h j (omega arith) (omega arith)))))
+
+  -- a zone's nodes
+  nodes-long : (z n i : ℕ) (xs : List ℕ) {zs : List ℕ} → useNodes t z n i xs ≡ answer zs → length zs ≡ length xs
+  unfolding useNodes
+  nodes-long z zero i xs {zs} e = let p : xs ≡ zs = cc in rw (← p)
+  nodes-long z (suc n) i xs e =
+      let v = into-value (useEntries t i (usesIn t z i) 0 xs) (λ later. useNodes t z n (suc i) later) e in
+      nodes-long z n (suc i) (v .0) (v .2) ∙ entries-long i (usesIn t z i) 0 xs (v .1)
+
+  nodes-behind : (ys : List ℕ) (z n i : ℕ) (xs : List ℕ) → ((s j : ℕ) → i ≤ s → s < i + n → j < usesIn t z s → usePlace t s j < length xs)
+      → useNodes t z n i (xs ++ ys) ≡ behind ys (useNodes t z n i xs)
+  unfolding useNodes
+  nodes-behind ys z zero i xs h = refl
+  nodes-behind ys z (suc n) i xs h =
+      rw (entries-behind ys i (usesIn t z i) 0 xs (λ j l m. h i j (omega arith) (omega arith) (omega arith)))
+      (into-behind ys (λ later. useNodes t z n (suc i) later) (useEntries t i (usesIn t z i) 0 xs)
+      (λ zs e. nodes-behind ys z n (suc i) zs (λ s j l m o. rw (entries-long i (usesIn t z i) 0 xs e) (h s j (omega arith) (omega arith) o))))
+
+module _ {b : List ℕ} (a : Accepted b) {z n : ℕ} {firsts lasts bases : List ℕ} (g : Ranges (treeOf b) z (nodeCount b) firsts lasts bases n) where
+  -- each use has a place below F
+  use-below : (s k : ℕ) → s < nodeCount b → k < usesIn (treeOf b) z s → usePlace (treeOf b) s k < faceCount (treeOf b) z
+  unfolding usesIn usePlace
+  use-below s k l h = by-test (sectionOf (treeOf b) z s && eqb (elementType (treeOf b) s) NFACE) refl h
+    where
+      by-test : (u : Bool) → (sectionOf (treeOf b) z s && eqb (elementType (treeOf b) s) NFACE) ≡ u → k < cond u (connectivityLength (treeOf b) s) 0
+          → facePlace (treeOf b) (parent (treeOf b) s) (faceNumber (treeOf b) s k) < faceCount (treeOf b) z
+      by-test true e m =
+          rw (section-is (treeOf b) z s (and-first (sectionOf (treeOf b) z s) _ e) .parent-is)
+          (place-below b g (faceNumber (treeOf b) s k) (cells-faces (cells-by a z s l e) k m))
+      by-test false e m = absurd (omega arith)
+
+  module _ (out : List ℕ) where
+    run-is : useNodes (treeOf b) z (nodeCount b) 0 (replicate (faceCount (treeOf b) z) 0 ++ drop (faceCount (treeOf b) z) out)
+        ≡ behind (drop (faceCount (treeOf b) z) out) (usage (treeOf b) z)
+    unfolding usage treeOf
+    run-is =
+        nodes-behind (treeOf b) (drop (faceCount (treeOf b) z) out) z (nodeCount b) 0 (replicate (faceCount (treeOf b) z) 0)
+        (λ s j l m o. rw (length-replicate {A = ℕ} (faceCount (treeOf b) z) 0) (use-below s j (omega arith) o))
+
+    usage-long : {zs : List ℕ} → usage (treeOf b) z ≡ answer zs → length zs ≡ faceCount (treeOf b) z
+    unfolding usage
+    usage-long e = nodes-long (treeOf b) z _ 0 _ e ∙ length-replicate (faceCount (treeOf b) z) 0
+
+    -- what a run over the cleared bytes told and left, and its bytes cleared again
+    module _ {first : List ℕ} {r : Stage} {after : List ℕ} (p : first ≡ replicate (faceCount (treeOf b) z) 0 ++ drop (faceCount (treeOf b) z) out)
+        (u : Used (faceCount (treeOf b) z) (useNodes (treeOf b) z (nodeCount b) 0 first) first r after) where
+      told : behind (drop (faceCount (treeOf b) z) out) (usage (treeOf b) z) ≡ used r after
+      told = sym run-is ∙ ap (useNodes (treeOf b) z (nodeCount b) 0) (sym p) ∙ u .tells
+
+      Passed : Answer (List ℕ) → Type 0
+      Passed x = ((x into λ bytes. answer (faceCount (treeOf b) z)) ≡ answer (faceCount (treeOf b) z)) × (after ≡ over out (usageBytes (faceCount (treeOf b) z) x))
+
+      by-answer : (x : Answer (List ℕ)) → usage (treeOf b) z ≡ x → behind (drop (faceCount (treeOf b) z) out) x ≡ answer after → Passed x
+      unfolding Passed _into_ over usageBytes
+      by-answer (rejected q) e h = refused h
+      by-answer (answer zs) e h =
+          let w : zs ++ drop (faceCount (treeOf b) z) out ≡ after = cc in
+          (refl, sym w ∙ ap (λ (k : ℕ). zs ++ drop k out) (sym (usage-long e)))
+
+      pub run-passed : r ≡ Stage.Pass
+          → ((usage (treeOf b) z into λ bytes. answer (faceCount (treeOf b) z)) ≡ answer (faceCount (treeOf b) z)) × (after ≡ over out (usageBytes (faceCount (treeOf b) z) (usage (treeOf b) z)))
+      unfolding Passed
+      run-passed q = by-answer (usage (treeOf b) z) refl (told ∙ ap (λ (x : Stage). used x after) q)
+
+      Refused : Rejection → List ℕ → Answer (List ℕ) → Type 0
+      Refused q last x = ((x into λ bytes. answer (faceCount (treeOf b) z)) ≡ rejected q) × (last ≡ over out (usageBytes (faceCount (treeOf b) z) x))
+
+      cleared : {last : List ℕ} → last ≡ replicate (faceCount (treeOf b) z) 0 ++ drop (faceCount (treeOf b) z) after → last ≡ over out (replicate (faceCount (treeOf b) z) 0)
+      unfolding over
+      cleared e =
+          let n = faceCount (treeOf b) z in
+          e ∙ ap (λ (ys : List ℕ). replicate n 0 ++ ys) (u .rest ∙ ap (drop n) p ∙ drop-at (replicate n 0) (drop n out) n (length-replicate n 0))
+          ∙ ap (λ (k : ℕ). replicate n 0 ++ drop k out) (sym (length-replicate n 0))
+
+      by-refusal : (q : Rejection) (last : List ℕ) (x : Answer (List ℕ)) → behind (drop (faceCount (treeOf b) z) out) x ≡ rejected q
+          → last ≡ replicate (faceCount (treeOf b) z) 0 ++ drop (faceCount (treeOf b) z) after → Refused q last x
+      unfolding Refused _into_ usageBytes
+      by-refusal q last (rejected o) h e = (ap (λ (y : Rejection). rejected y) (let w : o ≡ q = cc in w), cleared e)
+      by-refusal q last (answer zs) h e = refused (sym h)
+
+      pub run-refused : {q : Rejection} {last : List ℕ} → r ≡ Stage.Rejected q → last ≡ replicate (faceCount (treeOf b) z) 0 ++ drop (faceCount (treeOf b) z) after
+          → ((usage (treeOf b) z into λ bytes. answer (faceCount (treeOf b) z)) ≡ rejected q) × (last ≡ over out (usageBytes (faceCount (treeOf b) z) (usage (treeOf b) z)))
+      unfolding Refused
+      run-refused {q} {last} e h = by-refusal q last (usage (treeOf b) z) (told ∙ ap (λ (x : Stage). used x after) e) h

@@ -1,0 +1,33 @@
+-- The check's rejection, 40, or the zone's usage.
+use mathlib.Core.Path.{sym, ap, _∙_}
+use native.Mathlib.Omega.{arith}
+use borrow.Author.Needs.{needs}
+use borrow.Author.Tests.{not-true, not-false}
+use Rattle.model.specs.Rules.{rejected}
+use Rattle.model.proofs.Staging.{passes, refuses}
+use Rattle.faces.proofs.Checks.{accepted-by, refusal-told, not-accepted, no-zone}
+use Rattle.faces.proofs.usage_after.Statement.{statement}
+use Rattle.faces.proofs.usage_after.Tie as tie
+
+returns : tie.Need-returns
+returns c =
+    let d = c .before .before .before .before .before in
+    refusal-told (d .args .image .now) (d .args .zone) (d .args .out .now) (not-accepted _ _ _ (refuses (d .pre) (c .before .verdict .given .1)))
+
+is-zone-requires : tie.Need-is-zone-requires
+is-zone-requires c κs = let d = c .before .before .before .before in accepted-by (d .args .image .now) (passes (d .pre) (c .enum-told .given .1)) .sound
+
+returns-2 : tie.Need-returns-2
+returns-2 c =
+    let d = c .before .before .before .before .before .before .before in
+    let w = refusal-told (d .args .image .now) (d .args .zone) (d .args .out .now)
+    (no-zone _ _ _ (passes (d .pre) (c .before .before .before .enum-told .given .1)) (sym (c .before .before .is-zone .ensures) ∙ not-true _ (c .before .if1 .taken))) in
+    (ap rejected (c .at .ensures) ∙ w .0, w .1)
+
+zone-usage-requires : tie.Need-zone-usage-requires
+zone-usage-requires c κs =
+    let d = c .before .before .before .before .before .before .before in
+    (accepted-by (d .args .image .now) (passes (d .pre) (c .before .before .before .enum-told .given .1)), sym (c .before .before .is-zone .ensures) ∙ not-false _ (c .before .if1 .left))
+
+pub usage-after-spec : {M : Type 1} → statement M
+usage-after-spec = tie.close (tie.spec (search needs) returns (search needs) is-zone-requires (search needs) returns-2 zone-usage-requires (search needs) (λ c. c .before .before .zone-usage .ensures))

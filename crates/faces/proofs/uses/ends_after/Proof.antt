@@ -1,0 +1,37 @@
+-- The whole is the rest from element j on.
+use Prim.Native.Nat.{_-_}
+use native.Mathlib.Omega.{arith}
+use borrow.Author.Needs.{needs}
+use Rattle.elements.proofs.Seeks.{Sought, seek-start, seek-on, seek-here, seek-none}
+use Rattle.faces.specs.Uses.{endsAfterAt}
+use Rattle.faces.proofs.Marks.{ends-yes, ends-not}
+use Rattle.faces.proofs.uses.ends_after.Statement.{statement}
+use Rattle.faces.proofs.uses.ends_after.Tie as tie
+
+abbrev Inv-loop : tie.InvT-loop
+Inv-loop image at width n k j₀ j = Sought (endsAfterAt image at width k) n j
+
+abbrev μ-loop : tie.MeasureT-loop
+μ-loop image at width n k j₀ j = n - j
+
+loop-holds : tie.Need-loop-holds Inv-loop μ-loop
+loop-holds c = seek-start
+
+number-at-requires : tie.Need-number-at-requires Inv-loop μ-loop
+number-at-requires c κs = search needs
+
+returns : tie.Need-returns Inv-loop μ-loop
+returns c =
+    let l = c .before .before .before in
+    (seek-here (l .loop .inv) (omega arith) (ends-yes _ _ _ _ _ (c .before .number-at .ensures) (c .if1 .taken)), omega arith)
+
+loop-again : tie.Need-loop-again Inv-loop μ-loop
+loop-again c =
+    let l = c .before .before .before in
+    seek-on (l .loop .inv) (omega arith) (ends-not _ _ _ _ _ (c .before .number-at .ensures) (c .if1 .left))
+
+returns-2 : tie.Need-returns-2 Inv-loop μ-loop
+returns-2 c = (seek-none (c .before .loop .inv) (omega arith), omega arith)
+
+pub ends-after-spec : {M : Type 1} → statement M
+ends-after-spec = tie.close (tie.spec Inv-loop μ-loop loop-holds (search needs) (search needs) number-at-requires returns (search needs) (search needs) loop-again returns-2)

@@ -1,0 +1,31 @@
+// Face usage of a zone (document 01: the face ledger): how often, and with which sign, cells refer to each face.
+ghost use mathlib.Core.Path.{_≡_};
+ghost use lib.ListN.{length};
+ghost use Rattle.model.specs.Answers.{stageTells, usageTells};
+ghost use Rattle.model.specs.FaceUsage.{usageAnswer, usageMemory};
+ghost use Rattle.model.specs.Validation.{imageCheck};
+
+mod ledger; // ledger.rt: the bytes that are lent
+mod ranges; // ranges.rt: the zone's faces by ranges, and their places
+mod sections; // sections.rt: the sections of a zone
+mod uses; // uses.rt: the references of the zone's cells, one after the other
+mod zone; // zone.rt: a zone's usage
+
+use model::FaceUsage;
+use model::Rejection;
+use model::Stage;
+
+// The usage of a zone's faces after the image's check: its rejection, then 40, 44, 45, or F with the first F bytes written. Bytes after them never
+// change; on 45 the first F are 0, and every other rejection leaves them all.
+pub fn usage_after(verdict: Stage, image: &[u8], zone: u64, out: &mut [u8]) -> FaceUsage
+    requires { ⌜ stageTells verdict ≡ imageCheck (now image) ⌝ }
+    ensures { λ r. ⌜ (usageTells r ≡ usageAnswer (now (image .entry)) zone (length (now (out .entry)))) × (now (out .exit) ≡ usageMemory (now (image .entry)) zone (now (out .entry))) ⌝ }
+{
+    if let Stage::Rejected(r) = verdict {
+        return FaceUsage::Rejected(r);
+    }
+    if !labels::is_zone(image, zone) {
+        return FaceUsage::Rejected(Rejection::at(40, 0));
+    }
+    zone::zone_usage(image, zone as usize, out)
+}

@@ -1,0 +1,108 @@
+// The zone's faces by ranges: range j goes from firsts[j] to lasts[j], and its faces have the places from bases[j] on.
+ghost use mathlib.Core.Path.{_≡_};
+ghost use mathlib.Core.Bool.{true};
+ghost use Prim.Native.Nat.{_+_, _≤_, _<_};
+ghost use lib.ListN.{length};
+ghost use Rattle.model.specs.Lists.{seekFrom};
+ghost use Rattle.model.specs.Image.{treeOf, nodeCount};
+ghost use Rattle.model.specs.Given.{Accepted};
+ghost use Rattle.model.specs.Containment.{isZone};
+ghost use Rattle.elements.specs.Arrays.{holds, inRanges};
+ghost use Rattle.faces.specs.Ranges.{Ranges};
+use super::sections::has_type;
+use elements::element_types::NGON;
+
+// How many ranges there can be: one for each node.
+pub const MOST: usize = 4096;
+
+// Adds the range of node s after the first n, where it is a face section of zone z. It answers how many there are.
+fn add_section(
+    image: &[u8],
+    z: usize,
+    s: usize,
+    firsts: &mut [u64],
+    lasts: &mut [u64],
+    bases: &mut [u64],
+    n: usize,
+) -> usize
+    requires { ⌜ Accepted (now image) × (s < nodeCount (now image)) ⌝ }
+    requires { ⌜ Ranges (treeOf (now image)) z s (now firsts) (now lasts) (now bases) n ⌝ }
+    requires { ⌜ (4096 ≤ length (now firsts)) × (4096 ≤ length (now lasts)) × (4097 ≤ length (now bases)) ⌝ }
+    ensures { λ r. ⌜ Ranges (treeOf (now (image .entry))) z (s + 1) (now (firsts .exit)) (now (lasts .exit)) (now (bases .exit)) r ⌝ }
+{
+    if !has_type(image, z, s, NGON) {
+        return n;
+    }
+    let range = elements::parts::range_of(image, s);
+    let first = types::whole(image, range, 0);
+    let last = types::whole(image, range, 1);
+    firsts[n] = first;
+    lasts[n] = last;
+    bases[n + 1] = bases[n] + (last - first + 1);
+    n + 1
+}
+
+// Gathers the ranges of the zone's face sections, in node order. It answers how many there are.
+pub fn gather(
+    image: &[u8],
+    z: usize,
+    firsts: &mut [u64],
+    lasts: &mut [u64],
+    bases: &mut [u64],
+) -> usize
+    requires { ⌜ Accepted (now image) × (isZone (treeOf (now image)) z ≡ true) ⌝ }
+    requires { ⌜ (4096 ≤ length (now firsts)) × (4096 ≤ length (now lasts)) × (4097 ≤ length (now bases)) ⌝ }
+    ensures { λ r. ⌜ Ranges (treeOf (now (image .entry))) z (nodeCount (now (image .entry))) (now (firsts .exit)) (now (lasts .exit)) (now (bases .exit)) r ⌝ }
+{
+    let count = labels::node_count(image);
+    bases[0] = 0;
+    let mut n: usize = 0;
+    let mut i = z + 1;
+    while i < count {
+        n = add_section(image, z, i, firsts, lasts, bases, n);
+        i += 1;
+    }
+    n
+}
+
+// Does range j hold f?
+fn holds(firsts: &[u64], lasts: &[u64], f: u64, j: usize) -> bool
+    requires { ⌜ (j < length (now firsts)) × (j < length (now lasts)) ⌝ }
+    ensures { λ r. ⌜ r ≡ holds (now (firsts .entry)) (now (lasts .entry)) f j ⌝ }
+{
+    let first = firsts[j];
+    let last = lasts[j];
+    if f < first {
+        return false;
+    }
+    f <= last
+}
+
+// The first of n ranges that holds f; n where none does.
+fn first_range(firsts: &[u64], lasts: &[u64], n: usize, f: u64) -> usize
+    requires { ⌜ (n ≤ length (now firsts)) × (n ≤ length (now lasts)) ⌝ }
+    ensures { λ r. ⌜ r ≡ seekFrom (holds (now (firsts .entry)) (now (lasts .entry)) f) n 0 ⌝ }
+{
+    let mut j: usize = 0;
+    while j < n {
+        if holds(firsts, lasts, f, j) {
+            return j;
+        }
+        j += 1;
+    }
+    n
+}
+
+// The range that holds f, one of n; the range `hint` is asked first.
+pub fn range_of(firsts: &[u64], lasts: &[u64], n: usize, hint: usize, f: u64) -> usize
+    requires { ⌜ (n ≤ length (now firsts)) × (n ≤ length (now lasts)) ⌝ }
+    requires { ⌜ inRanges (now firsts) (now lasts) n f ≡ true ⌝ }
+    ensures { λ r. ⌜ (r < n) × (holds (now (firsts .entry)) (now (lasts .entry)) f r ≡ true) ⌝ }
+{
+    if hint < n {
+        if holds(firsts, lasts, f, hint) {
+            return hint;
+        }
+    }
+    first_range(firsts, lasts, n, f)
+}
