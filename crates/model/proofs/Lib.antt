@@ -8,3 +8,9 @@ pub mod Conforming
 pub mod Counting
 pub mod Uses
 pub mod Reading
+pub mod Joins
+pub mod Loops
+pub mod Parents
+pub mod Children
+pub mod Validated
+pub mod Sections

@@ -1,0 +1,78 @@
+-- A table of padded texts, one after the other, and a search in it for what a field holds.
+use Prim.Native.Nat.{ℕ, zero, suc, _+_, _*_, _-_, _≤_, _<_}
+use mathlib.Core.Path.{_≡_, refl, ap, sym, _∙_}
+use mathlib.Core.Bool.{Bool, true, false, cond, _&&_}
+use mathlib.Core.List.{List, [], _∷_, _++_}
+use native.Mathlib.Omega.{arith}
+use native.Mathlib.Numerals.{add-one}
+use lib.Dec.{eqb}
+use lib.ListN.{length, getD, take, drop, drop-of-length-le, length-drop}
+use lib.Seq.{take-at, drop-append-add, drop-cons, length-take-le}
+use borrow.Author.Tests.{ne-eqb, eq-eqb}
+use Rattle.model.specs.Bytes.{same, spells, blank, text, placeFrom}
+use Rattle.model.specs.Image.{treeOf, nodeCount, recordAt, label}
+use Rattle.model.specs.Containment.{role, Root, knownLabels}
+use Rattle.model.proofs.Reading.{label-at}
+
+-- a text padded right with blanks to n bytes
+abbrev pub pad : ℕ → List ℕ → List ℕ
+pad zero x = []
+pad (suc n) [] = 32 ∷ pad n []
+pad (suc n) (y ∷ x) = y ∷ pad n x
+
+pub length-pad : (n : ℕ) (x : List ℕ) → length (pad n x) ≡ n
+length-pad zero x = refl
+length-pad (suc n) [] = ap suc (length-pad n [])
+length-pad (suc n) (y ∷ x) = ap suc (length-pad n x)
+
+-- a field of n bytes holds a text where it is the padded text
+pub spells-pad : (n : ℕ) (s x : List ℕ) → length s ≡ n → length x ≤ n → spells s x ≡ same s (pad n x)
+unfolding spells same blank
+spells-pad zero [] [] h l = refl
+spells-pad zero [] (y ∷ x) h l = absurd (omega arith)
+spells-pad zero (z ∷ s) x h l = absurd (omega arith)
+spells-pad (suc n) [] x h l = absurd (omega arith)
+spells-pad (suc n) (z ∷ s) [] h l = ap (λ (r : Bool). eqb z 32 && r) (spells-pad n s [] (omega arith) (omega arith))
+spells-pad (suc n) (z ∷ s) (y ∷ x) h l = ap (λ (r : Bool). eqb z y && r) (spells-pad n s x (omega arith) (omega arith))
+
+-- padded texts, one after the other
+abbrev pub padded : List (List ℕ) → List ℕ
+padded [] = []
+padded (x ∷ ts) = pad 32 x ++ padded ts
+
+padded-at : (ts : List (List ℕ)) (k : ℕ) → k < length ts → take 32 (drop (32 * k) (padded ts)) ≡ pad 32 (getD ts k [])
+padded-at [] k h = absurd (omega arith)
+padded-at (x ∷ ts) zero h = take-at (pad 32 x) (padded ts) 32 (length-pad 32 x)
+padded-at (x ∷ ts) (suc k) h =
+    let e : 32 * suc k ≡ length (pad 32 x) + 32 * k = omega (arith, length-pad 32 x) in
+    ap (take 32) (ap (λ (n : ℕ). drop n (padded (x ∷ ts))) e ∙ drop-append-add (pad 32 x) (padded ts) (32 * k)) ∙ padded-at ts k (omega arith)
+
+-- the field at p against row k of such a table
+pub row-spells : (b : List ℕ) (p : ℕ) (ts : List (List ℕ)) (k : ℕ) → p + 32 ≤ length b → k < length ts → length (getD ts k []) ≤ 32
+    → same (take 32 (drop p b)) (take 32 (drop (32 * k) (padded ts))) ≡ spells (take 32 (drop p b)) (getD ts k [])
+row-spells b p ts k h l m =
+    rw (padded-at ts k l) (sym (spells-pad 32 (take 32 (drop p b)) (getD ts k []) (length-take-le 32 (drop p b) (rw length-drop (omega arith))) m))
+
+-- the search for a field's text in a list of texts has come to text k: what is left gives the whole
+pub record Placing (s : List ℕ) (ts : List (List ℕ)) (k : ℕ) : Type 0 where
+  pub inside : k ≤ length ts
+  pub rest : placeFrom (suc k) s (drop k ts) ≡ placeFrom 1 s ts
+
+pub placing-start : (s : List ℕ) (ts : List (List ℕ)) → Placing s ts 0
+placing-start s ts = record { inside = omega arith; rest = refl }
+
+module _ {s : List ℕ} {ts : List (List ℕ)} {k : ℕ} (l : Placing s ts k) where
+  pub placing-done : length ts ≤ k → 0 ≡ placeFrom 1 s ts
+  unfolding placeFrom
+  placing-done h = rw (drop-of-length-le ts h) at (l .rest)
+
+  module _ (h : k < length ts) where
+    step : cond (spells s (getD ts k [])) (suc k) (placeFrom (suc (suc k)) s (drop (suc k) ts)) ≡ placeFrom 1 s ts
+    unfolding placeFrom
+    step = rw (drop-cons ts k [] h) at (l .rest)
+
+    pub placing-stop : spells s (getD ts k []) ≡ true → k + 1 ≡ placeFrom 1 s ts
+    placing-stop e = add-one k ∙ rw e at step
+
+    pub placing-more : spells s (getD ts k []) ≡ false → Placing s ts (k + 1)
+    placing-more e = record { inside = omega arith; rest = rw add-one (rw e at step) }

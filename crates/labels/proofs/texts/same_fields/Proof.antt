@@ -1,0 +1,32 @@
+use Prim.Native.Nat.{_+_, _*_, _-_}
+use mathlib.Core.Path.{_≡_, sym, _∙_}
+use Rattle.labels.proofs.Fields.{Same, same-start, same-more-word, same-stop-word, same-done}
+use native.Mathlib.Omega.{arith}
+use borrow.Author.Needs.{needs}
+use Rattle.labels.proofs.texts.same_fields.Statement.{statement}
+use Rattle.labels.proofs.texts.same_fields.Tie as tie
+
+abbrev Inv-loop : tie.InvT-loop
+Inv-loop a p b q j₀ j = Same 32 a p b q (8 * j)
+
+abbrev μ-loop : tie.MeasureT-loop
+μ-loop a p b q j₀ j = 4 - j
+
+loop-holds : tie.Need-loop-holds Inv-loop μ-loop
+loop-holds c = same-start _ _ _ _ _
+
+returns : tie.Need-returns Inv-loop μ-loop
+returns c = let l = c .before .before .before .before in same-stop-word (l .loop .inv) (omega arith) (omega arith) 8 (omega arith) (λ i. omega (arith, l .before .before .shared-slice-known .given i)) (λ i. omega (arith, l .before .shared-slice-known2 .given i)) (λ e. c .if1 .taken (c .before .before .u64-at .ensures ∙ e ∙ sym (c .before .u64-at2 .ensures)))
+
+loop-again : tie.Need-loop-again Inv-loop μ-loop
+loop-again c =
+    let l = c .before .before .before .before in
+    let e : 8 * l .loop .j + 8 ≡ 8 * (l .loop .j + 1) = omega arith in
+    rw e at (same-more-word (l .loop .inv) (omega arith) (omega arith) 8 (omega arith) (λ i. omega (arith, l .before .before .shared-slice-known .given i)) (λ i. omega (arith, l .before .shared-slice-known2 .given i)) (sym (c .before .before .u64-at .ensures) ∙ c .if1 .left ∙ c .before .u64-at2 .ensures))
+
+returns-2 : tie.Need-returns-2 Inv-loop μ-loop
+returns-2 c = same-done (c .before .loop .inv) (omega arith) (omega arith) (omega arith)
+
+pub same-fields-spec : {M : Type 1} → statement M
+same-fields-spec = tie.close (tie.spec Inv-loop μ-loop loop-holds (search needs) (search needs) (search needs)
+    (search needs) (search needs) (search needs) returns (search needs) (search needs) loop-again returns-2)

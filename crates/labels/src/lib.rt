@@ -1,0 +1,11 @@
+// Labels and containment: what a node is validated as, which node holds which, the fixed names, and the search for a child.
+pub mod roles; // roles.rt: the label's place among the known ones
+pub mod texts; // texts.rt: texts compared in place
+pub mod tree; // tree.rt: children, validated nodes, zones and sections
+
+pub use roles::role_of;
+pub use texts::same_at;
+pub use texts::same_fields;
+pub use texts::spells_at;
+pub use tree::child;
+pub use tree::node_count;

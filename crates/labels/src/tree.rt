@@ -1,0 +1,51 @@
+// The tree that the records make: children looked up by role and name, validated nodes, zones and sections.
+ghost use mathlib.Core.Path.{_≡_};
+ghost use Prim.Native.Nat.{_+_, _≤_, _<_};
+ghost use lib.ListN.{length};
+ghost use Rattle.model.specs.Image.{treeOf, nodeCount};
+ghost use Rattle.model.specs.Bounds.{Laid};
+ghost use Rattle.model.specs.Given.{Sound};
+ghost use Rattle.model.specs.Containment.{isChild, child, validated, validatedAs, isZone, sectionOf};
+use super::roles;
+use super::roles::role_of;
+use super::texts::spells_at;
+use records::Header;
+use records::Record;
+
+// The node count.
+pub fn node_count(image: &[u8]) -> usize
+    requires { ⌜ Laid (now image) ⌝ }
+    ensures { λ r. ⌜ (r ≡ nodeCount (now (image .entry))) × (r ≤ 4096) ⌝ }
+{
+    words::u32_at(image, Header::NODE_COUNT) as usize
+}
+
+// Is node j a child of node i with this role and this name?
+fn is_child(image: &[u8], i: usize, role: u64, name: &[u8], j: usize) -> bool
+    requires { ⌜ (Laid (now image) × (j < nodeCount (now image))) × (length (now name) ≤ 32) ⌝ }
+    ensures { λ r. ⌜ r ≡ isChild (treeOf (now (image .entry))) i role (now (name .entry)) j ⌝ }
+{
+    if records::parent_of(image, j) != i {
+        return false;
+    }
+    if role_of(image, j) != role {
+        return false;
+    }
+    spells_at(image, Record::at(j) + Record::NAME, name)
+}
+
+// The first child of node i with this role and this name; the node count where there is none. Children have higher numbers.
+pub fn child(image: &[u8], i: usize, role: u64, name: &[u8]) -> usize
+    requires { ⌜ (Sound (now image) × (i < nodeCount (now image))) × (length (now name) ≤ 32) ⌝ }
+    ensures { λ r. ⌜ (r ≡ child (treeOf (now (image .entry))) i role (now (name .entry))) × (r ≤ nodeCount (now (image .entry))) ⌝ }
+{
+    let n = node_count(image);
+    let mut j = i + 1;
+    while j < n {
+        if is_child(image, i, role, name, j) {
+            return j;
+        }
+        j += 1;
+    }
+    j
+}

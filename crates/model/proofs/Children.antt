@@ -1,0 +1,38 @@
+-- A node's children have higher numbers (rule 7): no node up to it is one, so that a search for them may start after it.
+use Prim.Native.Nat.{ℕ, zero, suc, _+_, _≤_, _<_}
+use mathlib.Core.Path.{_≡_, refl}
+use mathlib.Core.Bool.{Bool, false, _&&_}
+use mathlib.Core.List.{List}
+use native.Mathlib.Omega.{arith}
+use lib.Dec.{eqb}
+use borrow.Author.Tests.{ne-eqb}
+use Rattle.model.specs.Image.{treeOf, nodeCount, parent}
+use Rattle.model.specs.Containment.{isChild, child}
+use Rattle.model.specs.Records.{sibling}
+use Rattle.model.specs.Values.{sameRole}
+use Rattle.model.specs.Lists.{someFrom}
+use Rattle.model.specs.Given.{Sound}
+use Rattle.model.proofs.Parents.{parent-lower, parent-none, lawful-at}
+use Rattle.model.proofs.Loops.{SeekLeft, seek-start, SomeLeft, some-start}
+
+module _ (b : List ℕ) (s : Sound b) where
+  pub no-child : (i : ℕ) → i < nodeCount b → (j : ℕ) → j ≤ i → eqb (parent (treeOf b) j) i ≡ false
+  no-child i h zero l =
+      let few = s .laid .few in
+      let q = parent-none (treeOf b) (lawful-at b s 0 (omega arith)) in
+      ne-eqb (parent (treeOf b) 0) i (λ (z : parent (treeOf b) 0 ≡ i). absurd (omega arith))
+  no-child i h (suc j) l =
+      let q : parent (treeOf b) (suc j) < suc j = parent-lower (treeOf b) (suc j) (lawful-at b s (suc j) (omega arith)) (λ (z : suc j ≡ 0). absurd (omega arith)) in
+      ne-eqb (parent (treeOf b) (suc j)) i (λ (z : parent (treeOf b) (suc j) ≡ i). absurd (omega arith))
+
+  -- the search for a child
+  pub child-start : (i r : ℕ) (n : List ℕ) → i < nodeCount b → SeekLeft (isChild (treeOf b) i r n) (nodeCount b) (i + 1) (child (treeOf b) i r n)
+  unfolding child isChild treeOf
+  child-start i r n h = seek-start (isChild (treeOf b) i r n) (nodeCount b) (i + 1) (omega arith) (λ j l. rw (no-child i h j (omega arith)))
+
+  -- the search for an earlier sibling of the same role
+  pub sibling-start : (i : ℕ) → i < nodeCount b → (i ≡ 0 → ⊥) → SomeLeft (sameRole (treeOf b) i) i (parent (treeOf b) i + 1) (someFrom (sameRole (treeOf b) i) i 0)
+  unfolding sameRole sibling
+  sibling-start i h z =
+      let q : parent (treeOf b) i < i = parent-lower (treeOf b) i (lawful-at b s i h) z in
+      some-start (sameRole (treeOf b) i) i (parent (treeOf b) i + 1) (omega arith) (λ j l. rw (no-child (parent (treeOf b) i) (omega arith) j (omega arith)))

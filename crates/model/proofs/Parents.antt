@@ -1,0 +1,52 @@
+-- What rule 7 says of a node's parent, and of the nodes before it.
+use Prim.Native.Nat.{ℕ, zero, suc, _≤_, _<_}
+use mathlib.Core.Path.{_≡_, refl, subst, sym, _∙_}
+use mathlib.Core.Bool.{Bool, true, false, _&&_}
+use mathlib.Core.List.{List}
+use native.Mathlib.Omega.{arith}
+use native.Mathlib.Decide.{ℕ-discrete}
+use lib.Dec.{eqb}
+use borrow.Author.Tests.{eqb-true, ltb-true, ne-eqb}
+use Rattle.model.specs.Rules.{passed}
+use Rattle.model.specs.Image.{Tree, treeOf, nodeCount, parent, name}
+use Rattle.model.specs.Records.{parentLawful, noParent, sibling, namesake, recordCheckAt, recordRules}
+use Rattle.model.specs.Given.{RecordsTo, Sound}
+use Rattle.model.proofs.Passed.{check-pass}
+use Rattle.model.proofs.Accepted.{record-rule}
+
+module _ (t : Tree) where
+  -- a parent is a lower number, but for the root's
+  pub parent-lower : (i : ℕ) → parentLawful t i ≡ true → (i ≡ 0 → ⊥) → parent t i < i
+  unfolding parentLawful
+  parent-lower i e n = ltb-true (parent t i) i (rw (ne-eqb i 0 n) at e)
+
+  pub parent-none : parentLawful t 0 ≡ true → parent t 0 ≡ noParent
+  unfolding parentLawful
+  parent-none e = eqb-true (parent t 0) noParent e
+
+  -- a node up to the parent of i is no sibling of i
+  pub no-sibling : (i j : ℕ) → parentLawful t j ≡ true → j ≤ parent t i → parent t i < noParent → sibling t i j ≡ false
+  unfolding sibling
+  no-sibling i zero e l h =
+      let q = parent-none e in ne-eqb (parent t 0) (parent t i) (λ (z : parent t 0 ≡ parent t i). absurd (omega arith))
+  no-sibling i (suc j) e l h =
+      let q : parent t (suc j) < suc j = parent-lower (suc j) e (λ (z : suc j ≡ 0). absurd (omega arith)) in
+      ne-eqb (parent t (suc j)) (parent t i) (λ (z : parent t (suc j) ≡ parent t i). absurd (omega arith))
+
+  pub no-namesake : (i j : ℕ) → parentLawful t j ≡ true → j ≤ parent t i → parent t i < noParent → namesake t i j ≡ false
+  unfolding namesake
+  no-namesake i j e l h = rw (no-sibling i j e l h)
+
+-- where the check has come to node i and rule 7 holds at it, rule 7 holds at each node up to it
+pub lawful-to : (b : List ℕ) (i : ℕ) → RecordsTo b i → parentLawful (treeOf b) i ≡ true → (j : ℕ) → j ≤ i → parentLawful (treeOf b) j ≡ true
+unfolding recordCheckAt recordRules
+lawful-to b i r e j l =
+    elim (ℕ-discrete i j) [
+      | yes q ↦ subst (λ (n : ℕ). parentLawful (treeOf b) n ≡ true) q e
+      | no n ↦ check-pass j (recordRules (treeOf b) j) (r .before j (omega (arith, n))) .0
+    ]
+
+-- where rules 1 to 18 hold
+pub lawful-at : (b : List ℕ) → Sound b → (i : ℕ) → i < nodeCount b → parentLawful (treeOf b) i ≡ true
+unfolding recordRules
+lawful-at b s i h = record-rule b (s .table) 7 i h
