@@ -14,3 +14,14 @@ pub mod Parents
 pub mod Children
 pub mod Validated
 pub mod Sections
+pub mod Members
+pub mod Flat
+pub mod Runs
+pub mod TwosComplement
+pub mod Arrays
+pub mod InZone
+pub mod Corners
+pub mod References
+pub mod NoneNegative
+pub mod ZoneEntries
+pub mod Demand3

@@ -1,8 +1,11 @@
 -- Tests and their joins.
-use Prim.Native.Nat.{ℕ}
+use Prim.Native.Nat.{ℕ, _≤_, _<_}
 use mathlib.Core.Path.{_≡_, refl}
-use mathlib.Core.Bool.{Bool, true, false, cond, not, _&&_, _||_}
+use mathlib.Core.Bool.{Bool, true, false, cond, _&&_, _||_}
 use native.Mathlib.Omega.{arith}
+use lib.Dec.{leb}
+use mathlib.Core.Logic.{_⊎_, inl, inr}
+use borrow.Author.Tests.{leb-true, leb-false, le-leb}
 use Rattle.model.specs.Lists.{_⊃_}
 
 pub untrue : {A : Type 0} → false ≡ true → A
@@ -36,3 +39,36 @@ when false b e h = untrue h
 pub choose : {A B : Type 0} (which : Bool) → A → B → cond which A B
 choose true x y = x
 choose false x y = y
+
+pub or-cases : {A : Type 0} (a b : Bool) → (a || b) ≡ true → (a ≡ true → A) → (b ≡ true → A) → A
+or-cases true b e f g = f refl
+or-cases false b e f g = g e
+
+pub implied : (a b : Bool) → (a ≡ true → b ≡ true) → (a ⊃ b) ≡ true
+unfolding _⊃_
+implied true b f = f refl
+implied false b f = refl
+
+-- a number between two others, as a test
+pub between : (lo x hi : ℕ) → lo ≤ x → x ≤ hi → (leb lo x && leb x hi) ≡ true
+between lo x hi l h = and-both _ _ (le-leb lo x l) (le-leb x hi h)
+
+pub inside-or-not : (lo x hi : ℕ) → ((lo ≤ x) × (x ≤ hi)) ⊎ ((lo ≤ x) × (x ≤ hi) → ⊥)
+inside-or-not lo x hi = by-tests (leb lo x) refl (leb x hi) refl
+  where
+    by-tests : (p : Bool) → leb lo x ≡ p → (q : Bool) → leb x hi ≡ q → ((lo ≤ x) × (x ≤ hi)) ⊎ ((lo ≤ x) × (x ≤ hi) → ⊥)
+    by-tests true e true g = inl (leb-true lo x e, leb-true x hi g)
+    by-tests true e false g = inr (λ i. omega (arith, leb-false x hi g))
+    by-tests false e q g = inr (λ i. omega (arith, leb-false lo x e))
+
+pub not-between : (lo x hi : ℕ) → ((lo ≤ x) × (x ≤ hi) → ⊥) → (leb lo x && leb x hi) ≡ false
+not-between lo x hi f = by-tests (leb lo x) refl (leb x hi) refl
+  where
+    by-tests : (p : Bool) → leb lo x ≡ p → (q : Bool) → leb x hi ≡ q → (p && q) ≡ false
+    by-tests true e true g = absurd (f (leb-true lo x e, leb-true x hi g))
+    by-tests true e false g = refl
+    by-tests false e q g = refl
+
+-- of two numbers neither is below the other
+pub neither : (a b : ℕ) → (a < b → ⊥) → (b < a → ⊥) → a ≡ b
+neither a b f g = omega arith

@@ -17,5 +17,7 @@ pub mod ArrayValue
 pub mod FaceUsage
 pub mod Answers
 pub mod Given
+pub mod Reads
+pub mod Demand3
 pub mod Build
 pub mod Computed

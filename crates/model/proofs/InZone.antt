@@ -1,0 +1,182 @@
+-- A section of an accepted image: what its rules say of its range, its start offsets and its connectivity. Each element starts before the next one,
+-- and the last one ends where the connectivity does.
+use Prim.Native.Nat.{ℕ, zero, suc, _+_, _*_, _-_, _≤_, _<_}
+use mathlib.Core.Path.{_≡_, refl, sym, ap, _∙_}
+use mathlib.Core.Bool.{Bool, true, false, _&&_}
+use mathlib.Core.List.{List, [], _∷_}
+use native.Mathlib.Omega.{arith}
+use native.Mathlib.Nat.{suc-mul, mul-le-mul-right}
+use lib.ListN.{length, drop, List·getD-eq-default}
+use lib.Dec.{leb, ltb}
+use borrow.Author.Tests.{eqb-true, leb-true, ltb-true, ltb-false}
+use Rattle.model.specs.Lists.{row}
+use Rattle.model.specs.Bytes.{le, numbers, text, spells, half, below}
+use Rattle.model.specs.Rules.{passed}
+use Rattle.model.specs.Image.{Tree, treeOf, nodeCount, nodeOf, nodesOf, node, name, dimensions, width, number, I4, I8}
+use Rattle.model.specs.Containment.{role, Elements, IndexRange, DataArray, sectionOf, found}
+use Rattle.model.specs.Values.{sidsRules, size, typed, indexArray, complete, rangeValue, valueLawful, conforming, rangeOf, offsetsOf, connectivityOf}
+use Rattle.model.specs.Elements.{nodesPer, hasOffsets, taken, elementType, firstElement, lastElement, elementCount, startOffset, connectivityLength, elementStart, elementRules, lengthsFit, startsAtZero, rises, allRise, endsAtLength}
+use Rattle.model.specs.Validation.{imageCheck}
+use Rattle.model.proofs.Logic.{untrue, and-first, and-second, or-left, or-right, or-cases, when}
+use Rattle.model.proofs.Walks.{every-at}
+use Rattle.model.proofs.Passed.{Claim}
+use Rattle.model.proofs.Accepted.{table-passed, sids-rule, element-rule}
+use Rattle.model.proofs.Conforming.{IsSection, section-is, conforming-inside, conforming-value, conforming-role, conforming-name}
+use Rattle.model.proofs.TwosComplement.{rise-small, rise-next, rise-last}
+use Rattle.model.proofs.Arrays.{Indices, indices, index-array}
+
+-- past the last node is a node of nothing
+nodes-length : (n : ℕ) (s : List ℕ) → length (nodesOf n s) ≡ n
+unfolding nodesOf
+nodes-length zero s = refl
+nodes-length (suc n) s = ap suc (nodes-length n (drop 84 s))
+
+absent-size : (b : List ℕ) (j : ℕ) → nodeCount b ≤ j → size (treeOf b) j ≡ 0
+unfolding size dimensions node treeOf numbers nodeOf le
+absent-size b j h = rw (List·getD-eq-default (nodesOf (nodeCount b) (drop 32 b)) (nodeOf []) {n = j} (omega (arith, nodes-length (nodeCount b) (drop 32 b))))
+
+-- a node of some numbers is there
+sized-found : (b : List ℕ) (j : ℕ) → 0 < size (treeOf b) j → found (treeOf b) j ≡ true
+unfolding found treeOf
+sized-found b j h = by-test (ltb j (nodeCount b)) refl
+  where
+    by-test : (t : Bool) → ltb j (nodeCount b) ≡ t → t ≡ true
+    by-test true e = refl
+    by-test false e = absurd (omega (arith, absent-size b j (ltb-false j (nodeCount b) e)))
+
+-- what rules 25 and 30 to 32, or 29, say of a section's range and of its k-th element
+pub record Range (t : Tree) (s : ℕ) : Type 0 where
+  pub from-one : 1 ≤ firstElement t s
+  pub not-empty : firstElement t s ≤ lastElement t s
+  pub bounded : lastElement t s ≤ 2147483647
+
+pub record Span (t : Tree) (s k : ℕ) : Type 0 where
+  pub starts-before : elementStart t s k < elementStart t s (suc k)
+  pub ends-inside : elementStart t s (suc k) ≤ connectivityLength t s
+
+-- a validated section of the zone z of an accepted image
+pub record InZone (b : List ℕ) (z s : ℕ) : Type 0 where
+  pub accepted : imageCheck b ≡ passed
+  pub listed : s < nodeCount b
+  pub is-section : sectionOf (treeOf b) z s ≡ true
+
+module _ {b : List ℕ} {z s : ℕ} (a : InZone b z s) where
+  pub parts : IsSection (treeOf b) z s
+  parts = section-is (treeOf b) z s (a .is-section)
+
+  pub role-is : role (treeOf b) s ≡ Elements
+  role-is = eqb-true (role (treeOf b) s) Elements (parts .elements)
+
+  pub section-rule : (n : ℕ) → Claim n (elementRules (treeOf b) s)
+  section-rule n = element-rule b (a .accepted) n s (a .listed) (parts .is-validated) (parts .elements)
+
+  -- 23: ElementRange and ElementConnectivity are there
+  both-found : (found (treeOf b) (rangeOf (treeOf b) s) && found (treeOf b) (connectivityOf (treeOf b) s)) ≡ true
+  unfolding sidsRules complete row
+  both-found = rw role-is at (sids-rule b (a .accepted) 23 s (a .listed) (parts .is-validated))
+
+  pub range-found : found (treeOf b) (rangeOf (treeOf b) s) ≡ true
+  range-found = and-first _ (found (treeOf b) (connectivityOf (treeOf b) s)) both-found
+
+  -- 25: 1 ≤ first ≤ last ≤ 2,147,483,647
+  range-lawful : rangeValue (treeOf b) (rangeOf (treeOf b) s) ≡ true
+  unfolding valueLawful row rangeOf
+  range-lawful =
+      rw (conforming-role (treeOf b) s IndexRange (text "ElementRange") range-found) at
+      (conforming-value (treeOf b) s IndexRange (text "ElementRange") range-found)
+
+  pub range : Range (treeOf b) s
+  unfolding rangeValue firstElement lastElement
+  range =
+      let f = number (treeOf b) (rangeOf (treeOf b) s) 0 in
+      let l = number (treeOf b) (rangeOf (treeOf b) s) 1 in
+      let h = and-first (leb 1 f && leb f l) _ range-lawful in
+      record {
+        from-one = leb-true 1 f (and-first (leb 1 f) _ h);
+        not-empty = leb-true f l (and-second (leb 1 f) _ h);
+        bounded = leb-true l 2147483647 (and-second (leb 1 f && leb f l) _ range-lawful);
+      }
+
+  -- 24: an index array of the section
+  index : (n : List ℕ) → ((j : ℕ) → spells (name (treeOf b) j) n ≡ true → indexArray (treeOf b) j ≡ true)
+      → found (treeOf b) (conforming (treeOf b) s DataArray n) ≡ true → Indices b (conforming (treeOf b) s DataArray n)
+  unfolding treeOf
+  index n indexed h =
+      let j = conforming (treeOf b) s DataArray n in
+      let i = index-array (treeOf b) s role-is n h (indexed j (conforming-name (treeOf b) s DataArray n h)) in
+      indices b (table-passed b (a .accepted)) j (conforming-inside (treeOf b) s DataArray n h)
+      (and-first (typed (treeOf b) j (I4 ∷ I8 ∷ [])) _ i)
+      (and-second (typed (treeOf b) j (I4 ∷ I8 ∷ [])) _ i)
+
+  pub connectivity : Indices b (connectivityOf (treeOf b) s)
+  unfolding connectivityOf indexArray
+  connectivity =
+      index (text "ElementConnectivity") (λ j. or-left _ _)
+      (and-second (found (treeOf b) (rangeOf (treeOf b) s)) (found (treeOf b) (connectivityOf (treeOf b) s)) both-found)
+
+  module _ (o : hasOffsets (elementType (treeOf b) s) ≡ true) where
+    -- 29: n + 1 start offsets, so they are there
+    pub offsets-size : size (treeOf b) (offsetsOf (treeOf b) s) ≡ elementCount (treeOf b) s + 1
+    unfolding elementRules lengthsFit
+    offsets-size = eqb-true _ _ (rw o at (section-rule 29))
+
+    pub offsets : Indices b (offsetsOf (treeOf b) s)
+    unfolding offsetsOf indexArray
+    offsets =
+        index (text "ElementStartOffset") (λ j. or-right (spells (name (treeOf b) j) (text "ElementConnectivity")) _)
+        (sized-found b (offsetsOf (treeOf b) s) (omega (arith, offsets-size)))
+
+    -- 30, 31, 32
+    offsets-first : startOffset (treeOf b) s 0 ≡ 0
+    unfolding elementRules startsAtZero
+    offsets-first = eqb-true _ _ (when _ _ (section-rule 30) o)
+
+    offsets-rise : (k : ℕ) → k < elementCount (treeOf b) s
+        → below (width (treeOf b) (offsetsOf (treeOf b) s)) (startOffset (treeOf b) s k) (startOffset (treeOf b) s (suc k)) ≡ true
+    unfolding elementRules allRise rises
+    offsets-rise k h =
+        every-at (rises (treeOf b) s) (elementCount (treeOf b) s) 0 k (when _ _ (section-rule 31) o) (omega arith) (omega arith)
+
+    offsets-last : startOffset (treeOf b) s (elementCount (treeOf b) s) ≡ connectivityLength (treeOf b) s
+    unfolding elementRules endsAtLength
+    offsets-last = eqb-true _ _ (when _ _ (section-rule 32) o)
+
+    -- none is negative
+    pub offsets-small : (k : ℕ) → k ≤ elementCount (treeOf b) s → startOffset (treeOf b) s k < half (width (treeOf b) (offsetsOf (treeOf b) s))
+    offsets-small k h =
+        rise-small (width (treeOf b) (offsetsOf (treeOf b) s)) (elementCount (treeOf b) s) (startOffset (treeOf b) s) offsets-first offsets-rise k h
+
+    offsets-next : (k : ℕ) → k < elementCount (treeOf b) s → startOffset (treeOf b) s k < startOffset (treeOf b) s (suc k)
+    offsets-next k h =
+        rise-next (width (treeOf b) (offsetsOf (treeOf b) s)) (elementCount (treeOf b) s) (startOffset (treeOf b) s) offsets-first offsets-rise k h
+
+    offsets-end : (k : ℕ) → k ≤ elementCount (treeOf b) s → startOffset (treeOf b) s k ≤ connectivityLength (treeOf b) s
+    offsets-end k h =
+        let n = elementCount (treeOf b) s in
+        let r = rise-last n (startOffset (treeOf b) s) offsets-next k (n - k) (omega arith) in
+        omega (arith, offsets-last)
+
+  module _ (o : hasOffsets (elementType (treeOf b) s) ≡ false) where
+    -- 27: some nodes an element
+    nodes-some : 0 < nodesPer (elementType (treeOf b) s)
+    unfolding elementRules taken
+    nodes-some = ltb-true 0 _ (or-cases _ (hasOffsets (elementType (treeOf b) s)) (section-rule 27) (λ h. h) (λ h. untrue (sym o ∙ h)))
+
+    -- 29: n × nodes
+    connectivity-size : connectivityLength (treeOf b) s ≡ elementCount (treeOf b) s * nodesPer (elementType (treeOf b) s)
+    unfolding elementRules lengthsFit
+    connectivity-size = eqb-true _ _ (rw o at (section-rule 29))
+
+  -- the k-th element starts before it ends, and it ends in the connectivity
+  pub span : (k : ℕ) → k < elementCount (treeOf b) s → Span (treeOf b) s k
+  unfolding elementStart
+  span k h = by-type (hasOffsets (elementType (treeOf b) s)) refl
+    where
+      by-type : (t : Bool) → hasOffsets (elementType (treeOf b) s) ≡ t → Span (treeOf b) s k
+      by-type true o = record { starts-before = rw o (offsets-next o k h); ends-inside = rw o (offsets-end o (suc k) h) }
+      by-type false o =
+          let m = nodesPer (elementType (treeOf b) s) in
+          record {
+            starts-before = rw o (omega (arith, nodes-some o, suc-mul k m));
+            ends-inside = rw o (omega (arith, connectivity-size o, mul-le-mul-right m h));
+          }
