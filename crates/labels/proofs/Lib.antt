@@ -2,3 +2,4 @@ pub mod Fields
 pub mod Tables
 pub mod Known
 pub mod Kin
+pub mod Climbing

@@ -8,4 +8,8 @@ pub use texts::same_at;
 pub use texts::same_fields;
 pub use texts::spells_at;
 pub use tree::child;
+pub use tree::is_zone;
 pub use tree::node_count;
+pub use tree::section_of;
+pub use tree::validated;
+pub use tree::validated_as;

@@ -10,6 +10,32 @@ ghost use Rattle.model.specs.Containment.{role, knownLabels};
 use super::texts::same_fields;
 use records::Record;
 
+pub const LIBRARY_VERSION: u64 = 1;
+
+pub const BASE: u64 = 2;
+
+pub const ZONE: u64 = 3;
+
+pub const ZONE_TYPE: u64 = 4;
+
+pub const GRID_COORDINATES: u64 = 5;
+
+pub const FLOW_SOLUTION: u64 = 6;
+
+pub const ELEMENTS: u64 = 7;
+
+pub const INDEX_RANGE: u64 = 8;
+
+pub const RIND: u64 = 9;
+
+pub const GRID_LOCATION: u64 = 10;
+
+pub const DATA_ARRAY: u64 = 11;
+
+pub const DESCRIPTOR: u64 = 12;
+
+pub const USER_DEFINED_DATA: u64 = 13;
+
 pub const ROOT: u64 = 14;
 
 // The known labels in the order of their numbers, each padded to 32 bytes.

@@ -49,3 +49,57 @@ pub fn child(image: &[u8], i: usize, role: u64, name: &[u8]) -> usize
     }
     j
 }
+
+// Is node i validated? Up the parents: every label on the way is known, and no node that holds another is a UserDefinedData_t.
+pub fn validated(image: &[u8], i: usize) -> bool
+    requires { ⌜ Sound (now image) × (i < nodeCount (now image)) ⌝ }
+    ensures { λ r. ⌜ r ≡ validated (treeOf (now (image .entry))) i ⌝ }
+{
+    let mut n = i;
+    let mut role = role_of(image, i);
+    while n != 0 {
+        if role == 0 {
+            return false;
+        }
+        n = records::parent_of(image, n);
+        role = role_of(image, n);
+        if role == roles::USER_DEFINED_DATA {
+            return false;
+        }
+    }
+    true
+}
+
+// Is node i validated as a node of this role?
+pub fn validated_as(image: &[u8], role: u64, i: usize) -> bool
+    requires { ⌜ Sound (now image) × (i < nodeCount (now image)) ⌝ }
+    ensures { λ r. ⌜ r ≡ validatedAs (treeOf (now (image .entry))) role i ⌝ }
+{
+    if role_of(image, i) != role {
+        return false;
+    }
+    validated(image, i)
+}
+
+// Is there a validated zone of this number?
+pub fn is_zone(image: &[u8], z: u64) -> bool
+    requires { ⌜ Sound (now image) ⌝ }
+    ensures { λ r. ⌜ r ≡ isZone (treeOf (now (image .entry))) z ⌝ }
+{
+    if z < node_count(image) as u64 {
+        validated_as(image, roles::ZONE, z as usize)
+    } else {
+        false
+    }
+}
+
+// Is node s a section of node z: its validated Elements_t child?
+pub fn section_of(image: &[u8], z: usize, s: usize) -> bool
+    requires { ⌜ Sound (now image) × (s < nodeCount (now image)) ⌝ }
+    ensures { λ r. ⌜ r ≡ sectionOf (treeOf (now (image .entry))) z s ⌝ }
+{
+    if records::parent_of(image, s) != z {
+        return false;
+    }
+    validated_as(image, roles::ELEMENTS, s)
+}
