@@ -25,3 +25,4 @@ pub mod References
 pub mod NoneNegative
 pub mod ZoneEntries
 pub mod Demand3
+pub mod Above

@@ -1,10 +1,20 @@
-// The header and the node records, read from the image's bytes.
+// The header, the node records, data types, dimension words and stored numbers, read from the image's bytes.
 ghost use mathlib.Core.Path.{_≡_};
 ghost use Prim.Native.Nat.{_+_, _*_, _≤_, _<_};
 ghost use lib.ListN.{length};
 ghost use Rattle.model.specs.Image.{treeOf, nodeCount, recordAt, parent};
 ghost use Rattle.model.specs.Bounds.{Laid};
 ghost use Rattle.records.specs.Fields.{headerOf, recordOf};
+
+mod data;
+mod types;
+
+pub use data::data_start;
+pub use data::dimension;
+pub use data::number;
+pub use types::data_type_of;
+pub use types::is_link;
+pub use types::width_of;
 
 // The header's eight words.
 pub struct Header {

@@ -1,0 +1,10 @@
+use borrow.Author.Needs.{needs}
+use Rattle.records.proofs.Codes.{link-by-code}
+use Rattle.records.proofs.types.is_link.Statement.{statement}
+use Rattle.records.proofs.types.is_link.Tie as tie
+
+returns : tie.Need-returns
+returns c = link-by-code _ _ _ (c .type-code .ensures .0)
+
+pub is-link-spec : {M : Type 1} → statement M
+is-link-spec = tie.close (tie.spec (search needs) returns)

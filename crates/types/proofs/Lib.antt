@@ -1,0 +1,4 @@
+pub mod Same
+pub mod Held
+pub mod Joins
+pub mod Loops

@@ -1,0 +1,81 @@
+-- Two lists of bytes, or of numbers, as a loop compares them.
+use Prim.Native.Nat.{ℕ, zero, suc, _+_, _-_, _≤_, _<_}
+use mathlib.Core.Path.{_≡_, refl, sym, ap, _∙_}
+use mathlib.Core.Bool.{Bool, true, false, _&&_}
+use mathlib.Core.List.{List, [], _∷_}
+use native.Mathlib.Omega.{arith}
+use native.Mathlib.Numerals.{add-one}
+use lib.ListN.{length, getD, take, drop, drop-of-length-le, length-drop}
+use lib.Seq.{drop-cons, length-take-le, getD-take, getD-drop}
+use lib.Dec.{eqb}
+use borrow.Author.Tests.{eqb-true, eq-eqb, ne-eqb}
+use Rattle.model.specs.Bytes.{same}
+use Rattle.model.proofs.Logic.{and-first, and-second, untrue}
+
+pub same-is : (s u : List ℕ) → same s u ≡ true → s ≡ u
+unfolding same
+same-is [] [] e = refl
+same-is [] (y ∷ u) e = untrue e
+same-is (x ∷ s) [] e = untrue e
+same-is (x ∷ s) (y ∷ u) e =
+    rw (eqb-true x y (and-first (eqb x y) (same s u) e), same-is s u (and-second (eqb x y) (same s u) e))
+
+-- lists of two lengths differ
+pub same-not : (s u : List ℕ) → (length s ≡ length u → ⊥) → same s u ≡ false
+unfolding same
+same-not [] [] n = absurd (n refl)
+same-not [] (y ∷ u) n = refl
+same-not (x ∷ s) [] n = refl
+same-not (x ∷ s) (y ∷ u) n = by-test (eqb x y) (same-not s u (λ e. n (ap suc e)))
+  where
+    by-test : (t : Bool) → same s u ≡ false → (t && same s u) ≡ false
+    by-test true e = e
+    by-test false e = refl
+
+-- the first k are the same: the next one, and the end
+module _ (s u : List ℕ) (k : ℕ) where
+  same-step : k < length s → k < length u → same (drop k s) (drop k u) ≡ (eqb (getD s k 0) (getD u k 0) && same (drop (k + 1) s) (drop (k + 1) u))
+  unfolding same
+  same-step h l = rw (drop-cons s k 0 h, drop-cons u k 0 l, add-one)
+
+  pub same-on : k < length s → k < length u → getD s k 0 ≡ getD u k 0 → same (drop (k + 1) s) (drop (k + 1) u) ≡ same (drop k s) (drop k u)
+  same-on h l e = rw (same-step h l, eq-eqb (getD s k 0) (getD u k 0) e)
+
+  pub same-off : k < length s → k < length u → (getD s k 0 ≡ getD u k 0 → ⊥) → false ≡ same (drop k s) (drop k u)
+  same-off h l n = rw (same-step h l, ne-eqb (getD s k 0) (getD u k 0) n)
+
+  pub same-end : length s ≤ k → length u ≤ k → true ≡ same (drop k s) (drop k u)
+  unfolding same
+  same-end h l = rw (drop-of-length-le s h, drop-of-length-le u l)
+
+-- n bytes from a place on
+pub part-length : (b : List ℕ) (at n : ℕ) → at + n ≤ length b → length (take n (drop at b)) ≡ n
+part-length b at n h = length-take-le n (drop at b) (rw length-drop (omega arith))
+
+pub part-at : (b : List ℕ) (at n k : ℕ) → k < n → getD (take n (drop at b)) k 0 ≡ getD b (at + k) 0
+part-at b at n k h = rw (getD-take, getD-drop)
+
+-- a text against the bytes from a place on, at its byte k
+module _ (b u : List ℕ) (at k : ℕ) (fits : at + length u ≤ length b) where
+  pub text-on : k < length u → getD b (at + k) 0 ≡ getD u k 0
+      → same (drop (k + 1) (take (length u) (drop at b))) (drop (k + 1) u) ≡ same (drop k (take (length u) (drop at b))) (drop k u)
+  text-on h e =
+      same-on (take (length u) (drop at b)) u k (rw (part-length b at (length u) fits) h) h (part-at b at (length u) k h ∙ e)
+
+  pub text-off : k < length u → (getD b (at + k) 0 ≡ getD u k 0 → ⊥) → false ≡ same (drop k (take (length u) (drop at b))) (drop k u)
+  text-off h n =
+      same-off (take (length u) (drop at b)) u k (rw (part-length b at (length u) fits) h) h (λ e. n (sym (part-at b at (length u) k h) ∙ e))
+
+  pub text-end : length u ≤ k → true ≡ same (drop k (take (length u) (drop at b))) (drop k u)
+  text-end h = same-end (take (length u) (drop at b)) u k (rw (part-length b at (length u) fits) h) h
+
+-- the first n of some numbers
+module _ (s u : List ℕ) (n k : ℕ) (e : length s ≡ n) (l : n ≤ length u) where
+  pub first-on : k < n → getD s k 0 ≡ getD u k 0 → same (drop (k + 1) s) (drop (k + 1) (take n u)) ≡ same (drop k s) (drop k (take n u))
+  first-on h f = same-on s (take n u) k (rw e h) (rw (length-take-le n u l) h) (f ∙ sym (getD-take n u k 0 h))
+
+  pub first-off : k < n → (getD s k 0 ≡ getD u k 0 → ⊥) → false ≡ same (drop k s) (drop k (take n u))
+  first-off h f = same-off s (take n u) k (rw e h) (rw (length-take-le n u l) h) (λ g. f (g ∙ getD-take n u k 0 h))
+
+  pub first-end : n ≤ k → true ≡ same (drop k s) (drop k (take n u))
+  first-end h = same-end s (take n u) k (rw e h) (rw (length-take-le n u l) h)

@@ -1,0 +1,60 @@
+-- What is left of the numbers decides.
+use native.Mathlib.Omega.{arith}
+use Prim.Native.Nat.{_≤_, _<_, _-_}
+use mathlib.Core.Path.{_≡_, refl, sym, ap, _∙_}
+use lib.ListN.{length}
+use borrow.Author.Needs.{needs}
+use borrow.Author.Tests.{not-true, not-false}
+use Rattle.model.specs.Lists.{everyFrom}
+use Rattle.model.specs.Image.{treeOf, node}
+use Rattle.model.specs.Values.{rindValue, notNegative, size}
+use Rattle.model.proofs.Bounds.{node-placed}
+use Rattle.types.proofs.Held.{rank-is, flat-is, whole-four, has-flat}
+use Rattle.types.proofs.Loops.{every-on, every-off, every-end}
+use Rattle.types.proofs.values.rind_value.Statement.{statement}
+use Rattle.types.proofs.values.rind_value.Tie as tie
+
+abbrev Inv-loop : tie.InvT-loop
+Inv-loop image i n k₀ k =
+    ((k ≤ n) × (n ≡ size (treeOf image) i)) × (everyFrom (notNegative (treeOf image) i) (n - k) k ≡ rindValue (treeOf image) i)
+
+abbrev μ-loop : tie.MeasureT-loop
+μ-loop image i n k₀ k = n - k
+
+dimension-requires : tie.Need-dimension-requires Inv-loop μ-loop
+dimension-requires c κs =
+    let a = c .before .args in
+    let p = node-placed (a .image .now) (c .before .pre .0 .0 .table) (a .i) (search needs) in
+    let e : node (treeOf (a .image .now)) (a .i) .rank ≡ 1 = sym (rank-is _ _) ∙ ap length (flat-is _ _ (c .before .pre .1 .1)) in
+    ((search needs, search needs), search needs)
+
+loop-holds : tie.Need-loop-holds Inv-loop μ-loop
+unfolding rindValue size
+loop-holds c =
+    let a = c .before .before .args in
+    let e : c .dimension .result ≡ size (treeOf (a .image .now)) (a .i) = c .dimension .ensures in
+    let z : c .dimension .result - 0 ≡ size (treeOf (a .image .now)) (a .i) = omega arith in
+    ((search needs, e), ap (λ m. everyFrom (notNegative (treeOf (a .image .now)) (a .i)) m 0) z)
+
+not-negative-requires : tie.Need-not-negative-requires Inv-loop μ-loop
+not-negative-requires c κs =
+    let d = c .before .before .before .before in
+    let a = d .args in
+    (search needs, has-flat (a .image .now) (d .pre .0 .0) (a .i) (search needs) (whole-four _ _ (d .pre .1 .0)) (d .pre .1 .1) (c .before .loop .k) (search needs))
+
+returns : tie.Need-returns Inv-loop μ-loop
+returns c =
+    let l = c .before .before .before in
+    every-off _ _ (l .loop .k) (c .before .before .loop-test .taken) (sym (c .before .not-negative .ensures) ∙ not-true _ (c .if1 .taken)) ∙ l .loop .inv .1
+
+loop-again : tie.Need-loop-again Inv-loop μ-loop
+loop-again c =
+    let l = c .before .before .before in
+    ((search needs, l .loop .inv .0 .1),
+     every-on _ _ (l .loop .k) (c .before .before .loop-test .taken) (sym (c .before .not-negative .ensures) ∙ not-false _ (c .if1 .left)) ∙ l .loop .inv .1)
+
+returns-2 : tie.Need-returns-2 Inv-loop μ-loop
+returns-2 c = every-end _ _ (c .before .loop .k) (c .loop-test .left) ∙ c .before .loop .inv .1
+
+pub rind-value-spec : {M : Type 1} → statement M
+rind-value-spec = tie.close (tie.spec Inv-loop μ-loop dimension-requires loop-holds not-negative-requires returns (search needs) (search needs) loop-again returns-2)

@@ -1,0 +1,17 @@
+// Data types, shapes and stored values of a node: what rules 24 and 25 look at.
+mod shapes;
+mod stored;
+mod values;
+
+pub use shapes::flat;
+pub use shapes::shaped;
+pub use shapes::text_shape;
+pub use shapes::typed;
+pub use shapes::typed_either;
+pub use stored::location_value;
+pub use stored::reads;
+pub use stored::zone_type_value;
+pub use values::not_negative;
+pub use values::pair_within;
+pub use values::rind_value;
+pub use values::whole;
