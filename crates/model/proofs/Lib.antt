@@ -26,3 +26,4 @@ pub mod NoneNegative
 pub mod ZoneEntries
 pub mod Demand3
 pub mod Above
+pub mod LookedUp

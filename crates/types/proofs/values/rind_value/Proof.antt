@@ -49,9 +49,10 @@ returns c =
 
 loop-again : tie.Need-loop-again Inv-loop μ-loop
 loop-again c =
-    let l = c .before .before .before in
-    ((search needs, l .loop .inv .0 .1),
-     every-on _ _ (l .loop .k) (c .before .before .loop-test .taken) (sym (c .before .not-negative .ensures) ∙ not-false _ (c .if1 .left)) ∙ l .loop .inv .1)
+    let l = c .before .before .before in (
+      (search needs, l .loop .inv .0 .1),
+      every-on _ _ (l .loop .k) (c .before .before .loop-test .taken) (sym (c .before .not-negative .ensures) ∙ not-false _ (c .if1 .left)) ∙ l .loop .inv .1,
+    )
 
 returns-2 : tie.Need-returns-2 Inv-loop μ-loop
 returns-2 c = every-end _ _ (c .before .loop .k) (c .loop-test .left) ∙ c .before .loop .inv .1
