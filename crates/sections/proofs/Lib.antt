@@ -1,3 +1,5 @@
 pub mod Walk
 pub mod After
 pub mod Parts
+pub mod Filling
+pub mod Room

@@ -1,13 +1,16 @@
 -- What a walk over a zone's sections has before it, and what the functions here are given.
-use Prim.Native.Nat.{ℕ, _+_, _-_, _*_, _≤_, _<_}
+use Prim.Native.Nat.{ℕ, _+_, _-_, _<_}
 use mathlib.Core.Path.{_≡_}
 use mathlib.Core.Bool.{true}
-use mathlib.Core.List.{List, _++_}
-use lib.ListN.{length, take, drop}
+use mathlib.Core.List.{List, [], _∷_}
+use lib.ListN.{length}
+use lib.Dec.{leb}
 use Rattle.model.specs.Lists.{listFrom}
+use Rattle.model.specs.Rules.{_unless_, Check, check}
 use Rattle.model.specs.Image.{Tree, treeOf, nodeCount}
-use Rattle.model.specs.Containment.{sectionOf}
+use Rattle.model.specs.Containment.{isZone, sectionOf}
 use Rattle.model.specs.Given.{Accepted}
+use Rattle.model.specs.Sections.{sectionNodes}
 
 -- the zone's sections after node i, in node order
 unfoldable pub sectionsAfter : Tree → ℕ → ℕ → List ℕ
@@ -19,6 +22,6 @@ pub record AcceptedSection (b : List ℕ) (z s : ℕ) : Type 0 where
   pub inside : s < nodeCount b
   pub is-section : sectionOf (treeOf b) z s ≡ true
 
--- a list with another written into it from place k on
-unfoldable pub written : {A : Type 0} → List A → ℕ → List A → List A
-written out k new = take k out ++ (new ++ drop (k + length new) out)
+-- rule 40, then 46; room counts entries
+unfoldable pub zoneCheck : Tree → ℕ → ℕ → Check
+zoneCheck t z room = check 0 (40 unless isZone t z ∷ 46 unless leb (length (sectionNodes t z)) room ∷ [])
