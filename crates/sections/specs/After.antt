@@ -5,6 +5,8 @@ use mathlib.Core.Bool.{true}
 use mathlib.Core.List.{List, [], _∷_}
 use lib.ListN.{length}
 use lib.Dec.{leb}
+use Rattle.model.specs.declared.Count.{Count}
+use Rattle.model.specs.declared.Count.the-variants as Count
 use Rattle.model.specs.Lists.{listFrom}
 use Rattle.model.specs.Rules.{_unless_, Check, check}
 use Rattle.model.specs.Image.{Tree, treeOf, nodeCount}
@@ -25,3 +27,8 @@ pub record AcceptedSection (b : List ℕ) (z s : ℕ) : Type 0 where
 -- rule 40, then 46; room counts entries
 unfoldable pub zoneCheck : Tree → ℕ → ℕ → Check
 zoneCheck t z room = check 0 (40 unless isZone t z ∷ 46 unless leb (length (sectionNodes t z)) room ∷ [])
+
+-- how many entries an answer says are written: none where it is a refusal
+abbrev pub entriesTold : Count → ℕ
+entriesTold (Count.Of n) = n
+entriesTold (Count.Rejected r) = 0

@@ -1,13 +1,15 @@
 // Section entries as flat numbers, nine to an entry.
 ghost use mathlib.Core.Path.{_≡_};
-ghost use Prim.Native.Nat.{_+_, _*_, _≤_, _<_};
+ghost use Prim.Native.Nat.{_+_, _*_, _/_, _≤_, _<_};
 ghost use lib.ListN.{length};
 ghost use lib.Seq.{sets};
 ghost use Rattle.model.specs.Lists.{over};
 ghost use Rattle.model.specs.Image.{treeOf, nodeCount};
 ghost use Rattle.model.specs.Given.{Accepted};
-ghost use Rattle.model.specs.Sections.{sectionNodes, sectionEntries, entryNumbers, allNumbers};
+ghost use Rattle.model.specs.Sections.{sectionNodes, sectionEntries, entryNumbers, allNumbers, sectionsAnswer, sectionNumbersMemory};
+ghost use Rattle.model.specs.Answers.{countTells};
 use super::zones::entry_after;
+use model::Count;
 use model::Section;
 
 // How many numbers an entry has.
@@ -43,4 +45,15 @@ pub fn fill(image: &[u8], zone: u64, n: usize, out: &mut [u64])
         put_entry(out, ENTRY_LENGTH * k, e);
         k += 1;
     }
+}
+
+// Writes the entries that an answer tells of; a rejection leaves `out` as it was.
+pub fn write_told(answer: Count, image: &[u8], zone: u64, out: &mut [u64])
+    requires { ⌜ countTells answer ≡ sectionsAnswer (now image) zone (length (now out) / 9) ⌝ }
+    ensures { λ _. ⌜ now (out .exit) ≡ sectionNumbersMemory (now (image .entry)) zone (now (out .entry)) ⌝ }
+{
+    let Count::Of(n) = answer else {
+        return;
+    };
+    fill(image, zone, n as usize, out);
 }
