@@ -13,6 +13,11 @@ use Rattle.model.specs.Containment.{role, Root, knownLabels}
 use Rattle.model.specs.Lists.{everyFrom}
 use Rattle.model.proofs.Walks.{every-at}
 use Rattle.model.proofs.Reading.{label-at}
+use Rattle.labels.specs.Cells.{fixedTexts}
+
+-- no text of a list is longer than a field
+short-at : (ts : List (List ℕ)) (n : ℕ) → everyFrom (λ (j : ℕ). leb (length (getD ts j [])) 32) n 0 ≡ true → (k : ℕ) → k < n → length (getD ts k []) ≤ 32
+short-at ts n e k h = leb-true (length (getD ts k [])) 32 (every-at (λ (j : ℕ). leb (length (getD ts j [])) 32) n 0 k e (omega arith) (omega arith))
 
 pub known-length : length knownLabels ≡ 13
 unfolding knownLabels
@@ -20,7 +25,11 @@ known-length = refl
 
 pub known-short : (k : ℕ) → k < 13 → length (getD knownLabels k []) ≤ 32
 unfolding everyFrom knownLabels text
-known-short k h = leb-true _ _ (every-at (λ (j : ℕ). leb (length (getD knownLabels j [])) 32) 13 0 k refl (omega arith) (omega arith))
+known-short k h = short-at knownLabels 13 refl k h
+
+pub fixed-short : (k : ℕ) → k < 5 → length (getD fixedTexts k []) ≤ 32
+unfolding everyFrom fixedTexts text
+fixed-short k h = short-at fixedTexts 5 refl k h
 
 pub role-root : (b : List ℕ) (i : ℕ) → i ≡ 0 → 14 ≡ role (treeOf b) i
 unfolding role

@@ -3,3 +3,4 @@ pub mod Tables
 pub mod Known
 pub mod Kin
 pub mod Climbing
+pub mod Grid

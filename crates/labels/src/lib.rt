@@ -1,8 +1,12 @@
 // Labels and containment: what a node is validated as, which node holds which, the fixed names, and the search for a child.
+pub mod containment; // containment.rt: the placing table, the fixed names, once only
 pub mod roles; // roles.rt: the label's place among the known ones
 pub mod texts; // texts.rt: texts compared in place
 pub mod tree; // tree.rt: children, validated nodes, zones and sections
 
+pub use containment::may_hold;
+pub use containment::named;
+pub use containment::second;
 pub use roles::role_of;
 pub use texts::same_at;
 pub use texts::same_fields;

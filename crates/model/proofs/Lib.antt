@@ -27,3 +27,11 @@ pub mod ZoneEntries
 pub mod Demand3
 pub mod Above
 pub mod LookedUp
+pub mod Staging
+pub mod Parents
+pub mod Known
+pub mod Joins
+pub mod Loops
+pub mod Children
+pub mod Validated
+pub mod Sections

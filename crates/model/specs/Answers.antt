@@ -1,11 +1,11 @@
 -- For each case of an answer enum document 01's number and values. Contracts go through these definitions.
 use Prim.Native.Nat.{ℕ}
 use mathlib.Core.Path.{_≡_}
-use mathlib.Core.Bool.{true}
+use mathlib.Core.Bool.{true, false}
 use mathlib.Core.List.{List, [], _∷_}
 use lib.ListN.{take}
 use lib.IntN.{ℤ}
-use lib.Ieee.{binary32, binary64, nanBits, toBits}
+use lib.Ieee.{binary32, binary64, isNan, nanBits, toBits}
 use Rattle.model.specs.declared.Stage.{Stage}
 use Rattle.model.specs.declared.Stage.the-variants as Stage
 use Rattle.model.specs.declared.Table.{Table}
@@ -61,11 +61,11 @@ valueTells (ArrayValue.SingleNan bits) = answer (single bits)
 valueTells (ArrayValue.DoubleNan bits) = answer (double bits)
 valueTells (ArrayValue.Rejected r) = rejected r
 
--- the two NaN cases are for NaNs alone
+-- the two NaN cases are for NaNs, and the others for no NaN
 abbrev pub NanCases : ArrayValue → Type 0
 NanCases (ArrayValue.Whole n) = Unit {0}
-NanCases (ArrayValue.Single x) = Unit {0}
-NanCases (ArrayValue.Double x) = Unit {0}
+NanCases (ArrayValue.Single x) = isNan x ≡ false
+NanCases (ArrayValue.Double x) = isNan x ≡ false
 NanCases (ArrayValue.SingleNan bits) = nanBits binary32 bits ≡ true
 NanCases (ArrayValue.DoubleNan bits) = nanBits binary64 bits ≡ true
 NanCases (ArrayValue.Rejected r) = Unit {0}
