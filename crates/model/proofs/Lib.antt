@@ -8,12 +8,6 @@ pub mod Conforming
 pub mod Counting
 pub mod Uses
 pub mod Reading
-pub mod Joins
-pub mod Loops
-pub mod Parents
-pub mod Children
-pub mod Validated
-pub mod Sections
 pub mod Members
 pub mod Flat
 pub mod Runs
@@ -25,8 +19,6 @@ pub mod References
 pub mod NoneNegative
 pub mod ZoneEntries
 pub mod Demand3
-pub mod Above
-pub mod LookedUp
 pub mod Staging
 pub mod Parents
 pub mod Known
@@ -35,3 +27,5 @@ pub mod Loops
 pub mod Children
 pub mod Validated
 pub mod Sections
+pub mod Above
+pub mod LookedUp
