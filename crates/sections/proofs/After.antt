@@ -1,22 +1,22 @@
 -- The sections of a zone after a node: all of them after the zone itself, and one less after the next.
 use Prim.Native.Nat.{ℕ, suc, _+_, _-_, _≤_, _<_}
 use mathlib.Core.Path.{_≡_, refl, sym, ap, _∙_}
-use mathlib.Core.Bool.{Bool, true, false, cond, _&&_}
+use mathlib.Core.Bool.{Bool, true, false, _&&_}
 use mathlib.Core.List.{List, [], _∷_}
 use native.Mathlib.Omega.{arith}
 use native.Mathlib.Numerals.{add-one}
 use lib.ListN.{length, getD, drop}
-use lib.Dec.{ltb}
+use lib.Dec.{eqb, ltb}
 use borrow.Author.Tests.{ltb-true, ltb-false}
 use Rattle.model.specs.Lists.{countFrom, listFrom, seekFrom}
-use Rattle.model.specs.Image.{Tree, treeOf, nodeCount}
-use Rattle.model.specs.Containment.{sectionOf, validatedAs, Elements}
+use Rattle.model.specs.Image.{treeOf, nodeCount, parent}
+use Rattle.model.specs.Containment.{Elements, validatedAs, sectionOf}
 use Rattle.model.specs.Given.{Sound, Accepted}
 use Rattle.model.specs.Sections.{sectionNodes}
+use Rattle.model.proofs.Logic.{and-second}
 use Rattle.model.proofs.Walks.{seek-holds}
 use Rattle.model.proofs.Children.{no-child}
 use Rattle.model.proofs.Members.{list-length}
-use Rattle.model.proofs.LookedUp.{seek-within}
 use Rattle.sections.specs.After.{sectionsAfter, AcceptedSection}
 use Rattle.sections.proofs.Walk.{list-skip, list-found, list-none, Counted}
 
@@ -66,8 +66,12 @@ module _ (b : List ℕ) (z i : ℕ) (h : i < nodeCount b) (some : 0 < length (se
   pub next-is : next ≡ getD (sectionsAfter (treeOf b) z i) 0 0
   next-is = rw after-is
 
-  pub next-section : Accepted b → AcceptedSection b z next
-  next-section a = record { accepted = a; inside = omega (arith, inside); is-section = seek-holds (sectionOf (treeOf b) z) (nodeCount b - (i + 1)) (i + 1) inside }
+  next-holds : validatedAs (treeOf b) Elements next ≡ true
+  unfolding sectionOf
+  next-holds = and-second (eqb (parent (treeOf b) next) z) _ (seek-holds (sectionOf (treeOf b) z) (nodeCount b - (i + 1)) (i + 1) inside)
+
+  pub next-section : Accepted b → AcceptedSection b next
+  next-section a = record { accepted = a; inside = omega (arith, inside); is-section = next-holds }
 
   -- and those after it
   pub after-next : sectionsAfter (treeOf b) z next ≡ drop 1 (sectionsAfter (treeOf b) z i)

@@ -6,17 +6,17 @@ use mathlib.Core.List.{List, [], _∷_}
 use native.Mathlib.Omega.{arith}
 use lib.ListN.{length, drop, List·getD-eq-default}
 use lib.Dec.{eqb, ltb}
-use borrow.Author.Tests.{lt-ltb, le-ltb, eqb-true}
+use borrow.Author.Tests.{lt-ltb, le-ltb, eqb-true, eq-eqb}
 use Rattle.model.specs.declared.Section.{Section}
 use Rattle.model.specs.Lists.{row}
 use Rattle.model.specs.Bytes.{text, spells, placeFrom}
-use Rattle.model.specs.Image.{Tree, treeOf, nodeCount, node, nodeOf, nodesOf, wordCount, dimensions, dataTypes, dataType, width, widths, number, I4, I8}
-use Rattle.model.specs.Containment.{role, validated, child, found, Root, Elements, IndexRange, DataArray, UserDefinedData}
+use Rattle.model.specs.Image.{Tree, treeOf, nodeCount, parent, node, nodeOf, nodesOf, wordCount, dimensions, dataTypes, dataType, width, widths, number, I4, I8}
+use Rattle.model.specs.Containment.{role, validatedAs, sectionOf, child, found, Root, Elements, IndexRange, DataArray, UserDefinedData}
 use Rattle.model.specs.Values.{sidsRules, typed, shaped, flat, size, indexArray, typeLawful, conforming, rangeOf, offsetsOf, connectivityOf}
 use Rattle.model.specs.Elements.{elementType, firstElement, lastElement, connectivityLength}
 use Rattle.model.specs.Given.{Sound, Accepted}
 use Rattle.model.specs.Sections.{dataStart, entry}
-use Rattle.model.proofs.Logic.{and-first, and-second, or-left}
+use Rattle.model.proofs.Logic.{and-first, and-second, and-both, or-left}
 use Rattle.model.proofs.Accepted.{sids-rule}
 use Rattle.model.proofs.Bounds.{node-placed}
 use Rattle.model.proofs.Conforming.{conforming-inside, conforming-type, conforming-role, conforming-name}
@@ -54,9 +54,15 @@ one-word b s j h e =
     let q = eqb-true (length (dimensions (treeOf b) j)) 1 e in
     (omega arith, node-placed b (s .table) j h .words-in)
 
-module _ {b : List ℕ} {z s : ℕ} (a : AcceptedSection b z s) where
-  in-zone : InZone b z s
-  in-zone = record { accepted = a .accepted .image; listed = a .inside; is-section = a .is-section }
+module _ {b : List ℕ} {s : ℕ} (a : AcceptedSection b s) where
+  in-zone : InZone b (parent (treeOf b) s) s
+  unfolding sectionOf
+  in-zone =
+      record {
+        accepted = a .accepted .image;
+        listed = a .inside;
+        is-section = and-both (eqb (parent (treeOf b) s) (parent (treeOf b) s)) _ (eq-eqb (parent (treeOf b) s) (parent (treeOf b) s) refl) (a .is-section);
+      }
 
   -- what is looked up under the section
   looked-up : (r : ℕ) (n : List ℕ) → 0 < r → (r ≡ Root → ⊥) → conforming (treeOf b) s r n ≡ child (treeOf b) s r n

@@ -8,7 +8,6 @@ use native.Mathlib.Nat.{add-zero}
 use lib.ListN.{length}
 use Rattle.model.specs.Lists.{countFrom, listFrom, seekFrom}
 use Rattle.model.proofs.Walks.{countFrom-step, countFrom-end}
-use Rattle.model.proofs.LookedUp.{seek-within}
 
 module _ (p : ℕ → Bool) where
   -- numbers where the test fails are passed over

@@ -10,7 +10,7 @@ use Rattle.model.specs.declared.Count.the-variants as Count
 use Rattle.model.specs.Lists.{listFrom}
 use Rattle.model.specs.Rules.{_unless_, Check, check}
 use Rattle.model.specs.Image.{Tree, treeOf, nodeCount}
-use Rattle.model.specs.Containment.{isZone, sectionOf}
+use Rattle.model.specs.Containment.{Elements, validatedAs, isZone, sectionOf}
 use Rattle.model.specs.Given.{Accepted}
 use Rattle.model.specs.Sections.{sectionNodes}
 
@@ -18,11 +18,11 @@ use Rattle.model.specs.Sections.{sectionNodes}
 unfoldable pub sectionsAfter : Tree → ℕ → ℕ → List ℕ
 sectionsAfter t z i = listFrom (sectionOf t z) (t .count - (i + 1)) (i + 1)
 
--- section s of an accepted image, of the zone z
-pub record AcceptedSection (b : List ℕ) (z s : ℕ) : Type 0 where
+-- a validated section s of an accepted image
+pub record AcceptedSection (b : List ℕ) (s : ℕ) : Type 0 where
   pub accepted : Accepted b
   pub inside : s < nodeCount b
-  pub is-section : sectionOf (treeOf b) z s ≡ true
+  pub is-section : validatedAs (treeOf b) Elements s ≡ true
 
 -- rule 40, then 46; room counts entries
 unfoldable pub zoneCheck : Tree → ℕ → ℕ → Check

@@ -46,8 +46,8 @@ fn size_of(image: &[u8], j: usize) -> u64
 }
 
 // The entry of section s: its type, its range, and where its start offsets and its connectivity stand.
-pub fn entry_of(image: &[u8], zone: usize, s: usize) -> Section
-    requires { ⌜ AcceptedSection (now image) zone s ⌝ }
+pub fn entry_of(image: &[u8], s: usize) -> Section
+    requires { ⌜ AcceptedSection (now image) s ⌝ }
     ensures { λ r. ⌜ r ≡ entry (treeOf (now (image .entry))) s ⌝ }
 {
     let range = labels::child(image, s, INDEX_RANGE, b"ElementRange");

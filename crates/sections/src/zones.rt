@@ -33,8 +33,7 @@ pub fn entry_after(image: &[u8], zone: u64, i: u64) -> Section
     requires { ⌜ (Accepted (now image) × (zone < nodeCount (now image))) × ((i < nodeCount (now image)) × (0 < length (sectionsAfter (treeOf (now image)) zone i))) ⌝ }
     ensures { λ r. ⌜ r ≡ entry (treeOf (now (image .entry))) (getD (sectionsAfter (treeOf (now (image .entry))) zone i) 0 0) ⌝ }
 {
-    let s = section_after(image, zone as usize, i as usize);
-    entry_of(image, zone as usize, s)
+    entry_of(image, section_after(image, zone as usize, i as usize))
 }
 
 // How many sections the zone has. They have higher numbers than the zone.
