@@ -28,10 +28,4 @@ pub mod Children
 pub mod Validated
 pub mod Sections
 pub mod Above
-pub mod Above
-pub mod Joins
-pub mod Loops
-pub mod Parents
-pub mod Children
-pub mod Validated
-pub mod Sections
+pub mod LookedUp
