@@ -1,11 +1,9 @@
 -- What is left of the numbers decides.
-use native.Mathlib.Omega.{arith}
-use Prim.Native.Nat.{_≤_, _<_, _-_}
-use mathlib.Core.Path.{_≡_, refl, sym, ap, _∙_}
+use Prim.Native.Nat.{_-_}
+use mathlib.Core.Path.{_≡_, sym, ap, _∙_}
 use lib.ListN.{length}
 use borrow.Author.Needs.{needs}
 use borrow.Author.Tests.{not-true, not-false}
-use Rattle.model.specs.Lists.{everyFrom}
 use Rattle.model.specs.Image.{treeOf, node}
 use Rattle.model.specs.Values.{rindValue, notNegative, size}
 use Rattle.model.proofs.Bounds.{node-placed}
@@ -43,15 +41,8 @@ returns c =
 
 loop-again : tie.Need-loop-again Inv-loop μ-loop
 loop-again c =
-<<<<<<< HEAD
     let l = c .before .before .before in
     (l .loop .inv .0, every-more (l .loop .inv .1) (c .before .before .loop-test .taken) (sym (c .before .not-negative .ensures) ∙ not-false _ (c .if1 .left)))
-=======
-    let l = c .before .before .before in (
-      (search needs, l .loop .inv .0 .1),
-      every-on _ _ (l .loop .k) (c .before .before .loop-test .taken) (sym (c .before .not-negative .ensures) ∙ not-false _ (c .if1 .left)) ∙ l .loop .inv .1,
-    )
->>>>>>> sections
 
 returns-2 : tie.Need-returns-2 Inv-loop μ-loop
 returns-2 c = every-done (c .before .loop .inv .1) (c .loop-test .left)
