@@ -1,11 +1,9 @@
 -- What is left of the numbers decides.
-use native.Mathlib.Omega.{arith}
-use Prim.Native.Nat.{_≤_, _<_, _-_}
-use mathlib.Core.Path.{_≡_, refl, sym, ap, _∙_}
+use Prim.Native.Nat.{_-_}
+use mathlib.Core.Path.{_≡_, sym, ap, _∙_}
 use lib.ListN.{length}
 use borrow.Author.Needs.{needs}
 use borrow.Author.Tests.{not-true, not-false}
-use Rattle.model.specs.Lists.{everyFrom}
 use Rattle.model.specs.Image.{treeOf, node}
 use Rattle.model.specs.Values.{rindValue, notNegative, size}
 use Rattle.model.proofs.Bounds.{node-placed}
