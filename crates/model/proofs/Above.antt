@@ -1,7 +1,7 @@
 -- What stands above a validated node: a validated node, of a kind that the placing table lets hold it. Where validation has come to a node, the rules hold at those before it.
 use Prim.Native.Nat.{ℕ, _<_}
 use mathlib.Core.Path.{_≡_, refl, sym, _∙_}
-use mathlib.Core.Bool.{Bool, true, false, cond, _&&_}
+use mathlib.Core.Bool.{Bool, true, false, cond}
 use mathlib.Core.List.{List, [], _∷_}
 use lib.Dec.{eqb}
 use Rattle.model.specs.Lists.{Row, _has_, row, among}

@@ -1,19 +1,19 @@
 -- Where validation has come to node i: what stands above a validated node that is placed as the table has it.
 use Prim.Native.Nat.{ℕ, _≤_, _<_}
 use mathlib.Core.Path.{_≡_, refl, sym, ap, _∙_}
-use mathlib.Core.Bool.{Bool, true, false, _&&_, _||_}
+use mathlib.Core.Bool.{Bool, true, false, _||_}
 use mathlib.Core.List.{List, [], _∷_, _++_}
 use native.Mathlib.Omega.{arith}
 use lib.Dec.{eqb}
 use borrow.Author.Tests.{eqb-true, ne-eqb}
-use Rattle.model.specs.Lists.{_⊃_, row, among}
+use Rattle.model.specs.Lists.{among}
 use Rattle.model.specs.Rules.{check, passed, Check, _then_}
 use Rattle.model.specs.Image.{Tree, treeOf, nodeCount, parent}
 use Rattle.model.specs.Given.{NodesTo, Accepted}
 use Rattle.model.specs.Records.{tableCheck}
 use Rattle.model.specs.Validation.{imageCheck, nodeCheck, nodeCheckAt}
-use Rattle.model.specs.Containment.{role, validated, mayHold, containment, Root, Base, Zone, Elements, Rind, GridCoordinates, FlowSolution, DataArray}
-use Rattle.model.specs.Values.{placed, unstructured, typeLawful, valueLawful, zoneAbove, sidsRules, sizedArray}
+use Rattle.model.specs.Containment.{role, validated, mayHold, containment, Base, Zone, Elements, Rind, GridCoordinates, FlowSolution, DataArray}
+use Rattle.model.specs.Values.{placed, typeLawful, valueLawful, zoneAbove, sidsRules, sizedArray}
 use Rattle.model.proofs.Logic.{untrue, and-first, and-second}
 use Rattle.model.proofs.Parents.{parent-lower, lawful-at}
 use Rattle.model.proofs.Passed.{then-second, checkFrom-at}

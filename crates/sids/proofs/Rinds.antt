@@ -1,10 +1,9 @@
 -- The numbers of a conforming Rind: they can be read, and are at most 2,147,483,647.
-use Prim.Native.Nat.{ℕ, _+_, _*_, _≤_, _<_}
-use mathlib.Core.Path.{_≡_, refl, sym, subst, ap, _∙_}
-use mathlib.Core.Bool.{Bool, true}
+use Prim.Native.Nat.{ℕ, _*_, _≤_, _<_}
+use mathlib.Core.Path.{_≡_, ap, _∙_}
+use mathlib.Core.Bool.{true}
 use mathlib.Core.List.{List, [], _∷_}
 use native.Mathlib.Omega.{arith}
-use lib.ListN.{getD}
 use borrow.Author.Tests.{leb-true, lt-ltb}
 use Rattle.model.specs.Lists.{row}
 use Rattle.model.specs.Bytes.{text}
@@ -12,7 +11,7 @@ use Rattle.model.specs.Image.{Tree, treeOf, nodeCount, parent, dimensions, numb
 use Rattle.model.specs.Given.{Sound}
 use Rattle.model.specs.Records.{product}
 use Rattle.model.specs.Containment.{role, found, Rind}
-use Rattle.model.specs.Values.{typeLawful, valueLawful, conforming, indexDimension, zoneAbove, rindValue, notNegative, size, rindNumber}
+use Rattle.model.specs.Values.{valueLawful, conforming, indexDimension, zoneAbove, rindValue, notNegative, size, rindNumber}
 use Rattle.model.proofs.Walks.{every-at}
 use Rattle.model.proofs.Conforming.{conforming-type, conforming-value, conforming-parent, conforming-role}
 use Rattle.types.specs.Given.{Has}

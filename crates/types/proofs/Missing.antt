@@ -1,14 +1,14 @@
 -- A node past the last: no data, no number. A child that does not conform is missing.
-use Prim.Native.Nat.{ℕ, zero, suc, _+_, _*_, _≤_, _<_}
-use mathlib.Core.Path.{_≡_, refl, sym, ap, _∙_}
-use mathlib.Core.Bool.{Bool, true, false, cond}
+use Prim.Native.Nat.{ℕ, zero, suc, _≤_}
+use mathlib.Core.Path.{_≡_, refl, sym, ap}
+use mathlib.Core.Bool.{Bool, true, false}
 use mathlib.Core.List.{List, [], _∷_}
 use native.Mathlib.Omega.{arith}
-use lib.ListN.{length, getD, drop, List·getD-eq-default}
+use lib.ListN.{length, drop, List·getD-eq-default}
 use lib.Dec.{eqb}
 use borrow.Author.Tests.{ne-eqb}
 use Rattle.model.specs.Bytes.{le, same, spells, text, placeFrom}
-use Rattle.model.specs.Image.{Tree, Node, nodeOf, nodesOf, node, treeOf, nodeCount, stored, dataType, dataTypes, width, widths, number}
+use Rattle.model.specs.Image.{Tree, nodeOf, nodesOf, node, treeOf, nodeCount, stored, dataType, dataTypes, width, widths, number}
 use Rattle.model.specs.Containment.{orMissing}
 use Rattle.model.specs.Values.{reads}
 
@@ -35,16 +35,8 @@ module _ (b : List ℕ) (i : ℕ) (h : nodeCount b ≤ i) where
   unfolding number width widths dataType dataTypes placeFrom spells text nodeOf le
   number-past k = rw node-past
 
--- nothing conforms, or the search found nothing
-pub missing-not : (t : Tree) {c : Bool} (j : ℕ) → c ≡ false → t .count ≡ orMissing t c j
-unfolding orMissing
-missing-not t j e = rw e
-
+-- the search found nothing
 pub missing-none : (t : Tree) (c : Bool) (j : ℕ) → j ≡ t .count → t .count ≡ orMissing t c j
 unfolding orMissing
 missing-none t true j e = sym e
 missing-none t false j e = refl
-
-pub missing-yes : (t : Tree) {c : Bool} (j : ℕ) → c ≡ true → j ≡ orMissing t c j
-unfolding orMissing
-missing-yes t j e = rw e

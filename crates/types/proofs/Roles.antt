@@ -1,15 +1,15 @@
 -- What rules 24 and 25 ask of a node, by what it is validated as.
-use Prim.Native.Nat.{ℕ, _+_, _*_, _≤_, _<_}
-use mathlib.Core.Path.{_≡_, refl, sym, ap, _∙_}
-use mathlib.Core.Bool.{Bool, true, false, cond, _&&_}
+use Prim.Native.Nat.{ℕ, _*_, _≤_, _<_}
+use mathlib.Core.Path.{_≡_}
+use mathlib.Core.Bool.{true, _&&_}
 use mathlib.Core.List.{List, [], _∷_}
 use native.Mathlib.Omega.{arith}
-use lib.Dec.{eqb, leb}
+use lib.Dec.{leb}
 use borrow.Author.Tests.{leb-true}
 use Rattle.model.specs.Lists.{row}
 use Rattle.model.specs.Image.{Tree, treeOf, nodeCount, parent, dimensions, number, I4, I8}
 use Rattle.model.specs.Given.{Sound}
-use Rattle.model.specs.Containment.{role, Root, Base, Zone, Elements, IndexRange, Rind}
+use Rattle.model.specs.Containment.{role, Root, Base, Elements, IndexRange, Rind}
 use Rattle.model.specs.Values.{typed, shaped, flat, typeLawful, valueLawful, baseValue, indexDimension, cellDimension, zoneAbove}
 use Rattle.model.proofs.Parents.{parent-lower, lawful-at}
 use Rattle.model.proofs.Sections.{not-root}

@@ -1,4 +1,4 @@
-use mathlib.Core.Path.{_≡_, refl, sym, ap, _∙_}
+use mathlib.Core.Path.{sym, _∙_}
 use borrow.Author.Needs.{needs}
 use Rattle.sids.proofs.Zones.{row-first, row-second}
 use Rattle.sids.proofs.data_size.inner_sizes.Statement.{statement}

@@ -1,11 +1,10 @@
 use native.Mathlib.Omega.{arith}
 use Prim.Native.Nat.{_+_, _*_, _≤_, _<_}
-use mathlib.Core.Path.{_≡_, refl, sym, ap, _∙_}
 use borrow.Author.Needs.{needs}
 use Rattle.model.specs.Bytes.{text}
-use Rattle.model.specs.Image.{treeOf, nodeCount, parent}
+use Rattle.model.specs.Image.{treeOf, nodeCount}
 use Rattle.model.specs.Containment.{Rind}
-use Rattle.model.specs.Values.{rindNumber, indexDimension, conforming}
+use Rattle.model.specs.Values.{rindNumber, conforming}
 use Rattle.types.proofs.Missing.{number-past}
 use Rattle.sids.proofs.Rinds.{rind-has, rind-small}
 use Rattle.sids.proofs.data_size.rind_sum.Statement.{statement}

@@ -1,9 +1,9 @@
 -- What is left of the nodes decides.
 use native.Mathlib.Omega.{arith}
 use Prim.Native.Nat.{_-_}
-use mathlib.Core.Path.{_≡_, sym, ap, _∙_}
+use mathlib.Core.Path.{sym, _∙_}
 use borrow.Author.Needs.{needs}
-use Rattle.model.specs.Image.{treeOf, nodeCount}
+use Rattle.model.specs.Image.{treeOf}
 use Rattle.model.specs.Lists.{someFrom}
 use Rattle.model.specs.Values.{baseChild}
 use Rattle.model.proofs.Loops.{SomeLeft, some-start, some-more, some-stop, some-done}

@@ -1,10 +1,9 @@
 use native.Mathlib.Omega.{arith}
-use Prim.Native.Nat.{_<_}
-use mathlib.Core.Path.{_≡_, refl, sym, ap, _∙_}
+use mathlib.Core.Path.{sym, _∙_}
 use borrow.Author.Needs.{needs}
 use borrow.Author.Tests.{eq-eqb, ne-eqb, not-true, not-false}
 use Rattle.model.specs.Lists.{_⊃_}
-use Rattle.model.specs.Image.{treeOf, nodeCount, parent}
+use Rattle.model.specs.Image.{treeOf}
 use Rattle.model.specs.Values.{placed}
 use Rattle.model.proofs.Parents.{parent-lower, lawful-at}
 use Rattle.sids.proofs.required.placed.Statement.{statement}

@@ -1,8 +1,7 @@
 -- Three groups of rules, one after the other.
-use mathlib.Core.Path.{_≡_, sym, _∙_}
+use mathlib.Core.Path.{sym, _∙_}
 use borrow.Author.Needs.{needs}
 use borrow.Author.Tests.{not-true, not-false}
-use Rattle.model.specs.Image.{treeOf}
 use Rattle.model.proofs.Passed.{check-pass}
 use Rattle.model.proofs.Staging.{passes, stop, go, broken, kept}
 use Rattle.sids.proofs.Context.{no-rule, ready, sized-held, sids-groups}

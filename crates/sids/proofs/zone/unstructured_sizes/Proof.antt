@@ -1,4 +1,3 @@
-use borrow.Author.Needs.{needs}
 use borrow.Author.Tests.{lt-leb, le-leb}
 use Rattle.sids.proofs.zone.unstructured_sizes.Statement.{statement}
 use Rattle.sids.proofs.zone.unstructured_sizes.Tie as tie

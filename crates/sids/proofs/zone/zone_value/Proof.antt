@@ -1,13 +1,12 @@
 -- What is left of the directions decides.
-use native.Mathlib.Omega.{arith}
 use Prim.Native.Nat.{_≤_, _<_, _-_}
-use mathlib.Core.Path.{_≡_, refl, sym, ap, _∙_}
+use mathlib.Core.Path.{sym, _∙_}
 use borrow.Author.Needs.{needs}
 use borrow.Author.Tests.{not-true, not-false}
 use Rattle.model.specs.Image.{treeOf}
 use Rattle.model.specs.Values.{indexDimension, structured, zoneValue}
 use Rattle.model.proofs.Loops.{EveryLeft, every-start, every-more, every-stop, every-done}
-use Rattle.sids.specs.Sizes.{zoneSizes, permittedIn}
+use Rattle.sids.specs.Sizes.{permittedIn}
 use Rattle.sids.proofs.Zones.{zone-value-is, permitted-is}
 use Rattle.sids.proofs.zone.zone_value.Statement.{statement}
 use Rattle.sids.proofs.zone.zone_value.Tie as tie

@@ -1,6 +1,4 @@
-use mathlib.Core.Path.{_≡_, sym, ap, _∙_}
 use borrow.Author.Needs.{needs}
-use Rattle.model.specs.Image.{treeOf, parent}
 use Rattle.model.specs.Values.{zoneAbove}
 use Rattle.types.proofs.lawful.rind_shape.Statement.{statement}
 use Rattle.types.proofs.lawful.rind_shape.Tie as tie

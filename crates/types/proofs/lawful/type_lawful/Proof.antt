@@ -1,12 +1,10 @@
 use native.Mathlib.Omega.{arith}
-use Prim.Native.Nat.{ℕ, _<_}
-use mathlib.Core.Path.{_≡_, sym, ap, _∙_}
+use Prim.Native.Nat.{ℕ}
+use mathlib.Core.Path.{_≡_, sym, _∙_}
 use mathlib.Core.Logic.{⊎-elim, inl, inr}
 use borrow.Author.Needs.{needs}
 use borrow.Author.Tests.{ne-eqb}
 use Rattle.model.specs.Lists.{row}
-use Rattle.model.specs.Image.{treeOf}
-use Rattle.model.specs.Containment.{role}
 use Rattle.model.specs.Values.{typeLawful, zoneTypeShape}
 use Rattle.types.proofs.Roles.{held-inside}
 use Rattle.types.proofs.lawful.type_lawful.Statement.{statement}
