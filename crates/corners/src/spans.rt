@@ -25,7 +25,7 @@ fn fixed_span(k: u64, nodes: u64, length: u64) -> Span
     if nodes == 0 {
         return Span::Unreadable;
     }
-    // else the product would be beyond the length, and perhaps beyond 64 bits
+    // then k * nodes is beyond the length, and perhaps beyond 64 bits
     if length / 32 < k / 32 * nodes {
         return Span::Unreadable;
     }
@@ -72,7 +72,7 @@ fn range_between(start: u64, end: u64, width: u64, length: u64) -> Span
 fn offset_span(image: &[u8], at: u64, width: u64, k: u64, length: u64) -> Span
     ensures { λ r. ⌜ (r ≡ offsetSpan (now (image .entry)) at width k length) × SpanIn length r ⌝ }
 {
-    // such a place is beyond every image, and k + 2 has 64 bits elsewhere
+    // no image has so many numbers; below it k + 2 fits in 64 bits
     if 0x4000_0000_0000_0000 <= k {
         return Span::Unreadable;
     }

@@ -1,46 +1,37 @@
--- The table of nodes per element as an array by type.
-use Prim.Native.Nat.{ℕ, zero, suc, _+_, _≤_, _<_}
-use mathlib.Core.Path.{_≡_, refl, sym, _∙_}
-use mathlib.Core.Bool.{Bool, true, false, cond, _&&_}
+-- The table of nodes per element as a match on the type meets it: at a listed type, and at any other.
+use Prim.Native.Nat.{ℕ, _≤_}
+use mathlib.Core.Path.{_≡_, refl}
+use mathlib.Core.Bool.{Bool, true}
 use mathlib.Core.List.{List, [], _∷_}
-use native.Mathlib.Omega.{arith}
-use lib.Dec.{eqb, leb, ltb}
-use lib.ListN.{getD}
-use borrow.Author.Tests.{eqb-true, leb-true, ltb-true, ne-eqb}
-use Rattle.model.specs.Lists.{everyFrom, Row, _has_, row}
+use lib.Dec.{leb}
+use borrow.Author.Tests.{leb-true, ne-eqb}
+use Rattle.model.specs.Lists.{Row, _has_, row}
 use Rattle.model.specs.Elements.{nodesPer}
-use Rattle.model.proofs.Logic.{and-first, and-second}
-use Rattle.model.proofs.Walks.{every-at}
 
-abbrev pub byType : List ℕ
-byType = 0 ∷ 0 ∷ 1 ∷ 2 ∷ 3 ∷ 3 ∷ 6 ∷ 4 ∷ 8 ∷ 9 ∷ 4 ∷ 10 ∷ 5 ∷ 14 ∷ 6 ∷ 15 ∷ 18 ∷ 8 ∷ 20 ∷ 27 ∷ 0 ∷ 13 ∷ []
+pub listed : {e k n : ℕ} → e ≡ k → n ≡ nodesPer k → leb n 27 ≡ true → (n ≡ nodesPer e) × (n ≤ 27)
+listed {n = n} e h l = (rw e h, leb-true n 27 l)
 
--- what the array says of a type is what the table says, and at most 27
-agrees : ℕ → Bool
-agrees e = eqb (getD byType e 0) (nodesPer e) && leb (getD byType e 0) 27
+-- none of the keys, beside what is known before
+abbrev pub NoneOf : Type 0 → List ℕ → ℕ → Type 0
+NoneOf A [] e = A
+NoneOf A (k ∷ ks) e = NoneOf (A × (e ≡ k → ⊥)) ks e
 
-all-agree : everyFrom agrees 22 0 ≡ true
-unfolding agrees everyFrom nodesPer row
-all-agree = refl
+known : (A : Type 0) (ks : List ℕ) (e : ℕ) → NoneOf A ks e → A
+known A [] e h = h
+known A (k ∷ ks) e h = known (A × (e ≡ k → ⊥)) ks e h .0
 
-pub nodes-at : (e : ℕ) → e < 22 → (getD byType e 0 ≡ nodesPer e) × (getD byType e 0 ≤ 27)
-unfolding agrees
-nodes-at e h =
-    let t = every-at agrees 22 0 e all-agree (omega arith) h in
-    (eqb-true _ _ (and-first _ (leb (getD byType e 0) 27) t), leb-true _ 27 (and-second (eqb (getD byType e 0) (nodesPer e)) _ t))
+keysOf : List (Row ℕ) → List ℕ
+keysOf [] = []
+keysOf ((k has v) ∷ rows) = k ∷ keysOf rows
 
--- a key above every key of a table has no row
-keysBelow : ℕ → List (Row ℕ) → Bool
-keysBelow n [] = true
-keysBelow n ((k has v) ∷ rest) = ltb k n && keysBelow n rest
+row-none : (A : Type 0) (rows : List (Row ℕ)) (e default : ℕ) → NoneOf A (keysOf rows) e → row e default rows ≡ default
+unfolding row keysOf
+row-none A [] e default h = refl
+row-none A ((k has v) ∷ rows) e default h =
+    simp (ne-eqb e k (known (A × (e ≡ k → ⊥)) (keysOf rows) e h .1)) (row-none (A × (e ≡ k → ⊥)) rows e default h)
 
-row-past : (n key default : ℕ) (rows : List (Row ℕ)) → n ≤ key → keysBelow n rows ≡ true → row key default rows ≡ default
-unfolding row keysBelow
-row-past n key default [] h e = refl
-row-past n key default ((k has v) ∷ rest) h e =
-    let l = ltb-true k n (and-first (ltb k n) (keysBelow n rest) e) in
-    simp (ne-eqb key k (λ q. omega arith)) (row-past n key default rest h (and-second (ltb k n) (keysBelow n rest) e))
-
-pub nodes-past : (e : ℕ) → 22 ≤ e → nodesPer e ≡ 0
-unfolding nodesPer keysBelow
-nodes-past e h = row-past 22 e 0 _ h refl
+pub unlisted : (e : ℕ)
+    → NoneOf Unit (2 ∷ 3 ∷ 4 ∷ 5 ∷ 6 ∷ 7 ∷ 8 ∷ 9 ∷ 10 ∷ 11 ∷ 12 ∷ 13 ∷ 14 ∷ 15 ∷ 16 ∷ 17 ∷ 18 ∷ 19 ∷ 21 ∷ []) e
+    → nodesPer e ≡ 0
+unfolding nodesPer keysOf
+unlisted e h = row-none Unit _ e 0 h

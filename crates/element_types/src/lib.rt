@@ -7,41 +7,31 @@ pub const NGON: u64 = 22;
 
 pub const NFACE: u64 = 23;
 
-// By type, from 0 on.
-const NODES: [u64; 22] = [
-    0,
-    0,
-    1,
-    2,
-    3,
-    3,
-    6,
-    4,
-    8,
-    9,
-    4,
-    10,
-    5,
-    14,
-    6,
-    15,
-    18,
-    8,
-    20,
-    27,
-    0,
-    13,
-];
-
 // Nodes per element of a type; 0 for a type with no fixed number.
 pub fn nodes_per(element_type: u64) -> u64
     ensures { λ r. ⌜ (r ≡ nodesPer «element_type») × (r ≤ 27) ⌝ }
 {
-    if element_type < 22 {
-        let i = element_type as usize;
-        NODES[i]
-    } else {
-        0
+    match element_type {
+        2 => 1,
+        3 => 2,
+        4 => 3,
+        5 => 3,
+        6 => 6,
+        7 => 4,
+        8 => 8,
+        9 => 9,
+        10 => 4,
+        11 => 10,
+        12 => 5,
+        13 => 14,
+        14 => 6,
+        15 => 15,
+        16 => 18,
+        17 => 8,
+        18 => 20,
+        19 => 27,
+        21 => 13,
+        _ => 0,
     }
 }
 

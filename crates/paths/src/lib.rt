@@ -137,8 +137,8 @@ pub fn path(image: &[u8], node: u64, out: &mut [u8]) -> Count
     ensures { λ r. ⌜ (countTells r ≡ pathAnswer (now (image .entry)) node (length (now (out .entry)))) × (now (out .exit) ≡ pathMemory (now (image .entry)) node (now (out .entry))) ⌝ }
 {
     let stage = table::table_stage(image);
-    if let Stage::Rejected(rejection) = stage {
-        return Count::Rejected(rejection);
-    }
+    let Stage::Pass = stage else {
+        return Count::Rejected(stage.rejection());
+    };
     sound_path(image, node, out)
 }

@@ -33,9 +33,9 @@ fn answer_after(stage: Stage, image: &[u8], zone: u64, room: usize) -> Count
     requires { ⌜ stageTells stage ≡ imageCheck (now image) ⌝ }
     ensures { λ r. ⌜ countTells r ≡ sectionsAnswer (now (image .entry)) zone room ⌝ }
 {
-    if let Stage::Rejected(rejection) = stage {
-        return Count::Rejected(rejection);
-    }
+    let Stage::Pass = stage else {
+        return Count::Rejected(stage.rejection());
+    };
     zone_answer(image, zone, room)
 }
 

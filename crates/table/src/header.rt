@@ -10,6 +10,13 @@ use super::is_within;
 use super::reject;
 use model::Stage;
 use records::Header;
+use records::Record;
+
+const HEADER_SIZE: u64 = Header::SIZE as u64;
+
+const RECORD_SIZE: u64 = Record::SIZE as u64;
+
+const WORD_SIZE: u64 = 8;
 
 const MAX_LENGTH: u64 = 16777216;
 
@@ -29,13 +36,13 @@ fn laid_out(h: Header) -> bool
     let words_at = h.dimension_offset;
     let data_at = h.data_offset;
     let size = h.data_length;
-    if record_at != 32 {
+    if record_at != HEADER_SIZE {
         return false;
     }
-    if words_at != 32 + 84 * nodes {
+    if words_at != HEADER_SIZE + RECORD_SIZE * nodes {
         return false;
     }
-    if data_at != 32 + 84 * nodes + 8 * words {
+    if data_at != HEADER_SIZE + RECORD_SIZE * nodes + WORD_SIZE * words {
         return false;
     }
     if total < data_at {
@@ -85,7 +92,7 @@ fn layout_stage(image: &[u8]) -> Stage
 pub fn header_stage(image: &[u8]) -> Stage
     ensures { λ r. ⌜ stageTells r ≡ headerCheck (now (image .entry)) ⌝ }
 {
-    if !is_within(image.len() as u64, Header::SIZE as u64, MAX_LENGTH) {
+    if !is_within(image.len() as u64, HEADER_SIZE, MAX_LENGTH) {
         return reject(1, 0);
     }
     let s = word_stage(image);

@@ -50,9 +50,9 @@ pub fn check_table(image: &[u8]) -> Table
     ensures { λ r. ⌜ tableTells r ≡ tableAnswer (now (image .entry)) ⌝ }
 {
     let s = table_stage(image);
-    if let Stage::Rejected(r) = s {
-        return Table::Rejected(r);
-    }
+    let Stage::Pass = s else {
+        return Table::Rejected(s.rejection());
+    };
     let h = Header::read(image);
     Table::Sound {
         nodes: h.node_count,

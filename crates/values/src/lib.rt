@@ -148,8 +148,8 @@ pub fn array_value(image: &[u8], node: u64, k: u64) -> ArrayValue
     ensures { λ r. ⌜ (valueTells r ≡ valueAnswer (now (image .entry)) node k) × NanCases r ⌝ }
 {
     let stage = table::table_stage(image);
-    if let Stage::Rejected(rejection) = stage {
-        return ArrayValue::Rejected(rejection);
-    }
+    let Stage::Pass = stage else {
+        return ArrayValue::Rejected(stage.rejection());
+    };
     sound_value(image, node, k)
 }

@@ -10,11 +10,11 @@ returns : tie.Need-returns
 returns c =
     let f = c .before .before .before .before .before .before in
     let b = f .args .image .now in
-    let e = stage.refuses (c .before .before .before .table-stage .ensures) (c .before .stage .given .1) in
-    refuses b (f .args .node) (f .args .out .now) (no-table b (f .args .node) _ e)
+    let e = stage.rejects (c .before .before .before .table-stage .ensures) (c .before .enum-told2 .given .1) in
+    rw (c .rejection .ensures) (refuses b (f .args .node) (f .args .out .now) (no-table b (f .args .node) _ e))
 
 sound-path-requires : tie.Need-sound-path-requires
 sound-path-requires c κs = let f = c .before .before .before .before .before .before in sound (f .args .image .now) (stage.passes (c .before .before .before .table-stage .ensures) (c .before .enum-told .given .1))
 
 pub path-spec : {M : Type 1} → statement M
-path-spec = tie.close (tie.spec (search needs) (search needs) returns (search needs) sound-path-requires (search needs) (λ c. search needs))
+path-spec = tie.close (tie.spec (search needs) (search needs) (search needs) (search needs) returns sound-path-requires (search needs) (λ c. search needs))

@@ -8,13 +8,13 @@ use Rattle.model.specs.Image.{treeOf}
 use Rattle.model.specs.Records.{TableCounts, tableCounts, tableAnswer}
 use Rattle.model.proofs.Bounds.{table-laid}
 use Rattle.model.proofs.Passed.{then-on, then-off}
-use Rattle.model.proofs.Staging.{passes, refuses}
+use Rattle.model.proofs.Staging.{passes, rejects}
 use Rattle.table.proofs.check_table.Statement.{statement}
 use Rattle.table.proofs.check_table.Tie as tie
 
 returns : tie.Need-returns
 unfolding tableAnswer _gives_
-returns c = sym (then-off _ (refuses (c .before .before .before .table-stage .ensures) (c .before .s .given .1)))
+returns c = rw (c .rejection .ensures) (sym (then-off _ (rejects (c .before .before .before .table-stage .ensures) (c .before .enum-told2 .given .1))))
 
 read-requires : tie.Need-read-requires
 read-requires c κs =
@@ -28,4 +28,4 @@ returns-2 c =
     rw (c .read .ensures) (sym (then-on _ (passes (d .before .before .table-stage .ensures) (d .enum-told .given .1))))
 
 pub check-table-spec : {M : Type 1} → statement M
-check-table-spec = tie.close (tie.spec (search needs) (search needs) returns (search needs) read-requires returns-2)
+check-table-spec = tie.close (tie.spec (search needs) (search needs) (search needs) (search needs) returns read-requires returns-2)
