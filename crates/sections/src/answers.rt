@@ -13,7 +13,7 @@ use model::Count;
 use model::Rejection;
 use model::Stage;
 
-// Rule 40, then 46 where there is room for `room` entries, else the count of the zone's sections.
+// Rule 40, then 46 where the zone has more than `room` sections, else the count of its sections.
 pub fn zone_answer(image: &[u8], zone: u64, room: usize) -> Count
     requires { ⌜ Sound (now image) ⌝ }
     ensures { λ r. ⌜ countTells r ≡ (zoneCheck (treeOf (now (image .entry))) zone room gives length (sectionNodes (treeOf (now (image .entry))) zone)) ⌝ }
