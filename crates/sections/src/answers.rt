@@ -13,7 +13,7 @@ use model::Count;
 use model::Rejection;
 use model::Stage;
 
-// Rule 40, then 46 where there is room for `room` entries, else the count of the zone's sections.
+// Rule 40, then 46 where the zone has more than `room` sections, else the count of its sections.
 fn zone_answer(image: &[u8], zone: u64, room: usize) -> Count
     requires { ⌜ Sound (now image) ⌝ }
     ensures { λ r. ⌜ countTells r ≡ (zoneCheck (treeOf (now (image .entry))) zone room gives length (sectionNodes (treeOf (now (image .entry))) zone)) ⌝ }
@@ -39,7 +39,7 @@ fn answer_after(stage: Stage, image: &[u8], zone: u64, room: usize) -> Count
     zone_answer(image, zone, room)
 }
 
-// The answer of the call: validation's rejection first, then rule 40, then 46 where there is room for `room` entries, else the count of the zone's sections.
+// The answer of the call: validation's rejection first, then rule 40, then 46 where the zone has more than `room` sections, else the count of its sections.
 pub fn sections_answer(image: &[u8], zone: u64, room: usize) -> Count
     ensures { λ r. ⌜ countTells r ≡ sectionsAnswer (now (image .entry)) zone room ⌝ }
 {
