@@ -13,8 +13,8 @@ use model::Count;
 use model::Rejection;
 use model::Stage;
 
-// Rule 40, then 46 where there is room for `room` entries, else the count of the zone's sections.
-pub fn zone_answer(image: &[u8], zone: u64, room: usize) -> Count
+// Rule 40, then 46 where the zone has more than `room` sections, else the count of its sections.
+fn zone_answer(image: &[u8], zone: u64, room: usize) -> Count
     requires { ⌜ Sound (now image) ⌝ }
     ensures { λ r. ⌜ countTells r ≡ (zoneCheck (treeOf (now (image .entry))) zone room gives length (sectionNodes (treeOf (now (image .entry))) zone)) ⌝ }
 {
@@ -29,7 +29,7 @@ pub fn zone_answer(image: &[u8], zone: u64, room: usize) -> Count
 }
 
 // The answer of the call where `stage` is what validation answers: its rejection, then rule 40, then 46, else the count of the zone's sections.
-pub fn answer_after(stage: Stage, image: &[u8], zone: u64, room: usize) -> Count
+fn answer_after(stage: Stage, image: &[u8], zone: u64, room: usize) -> Count
     requires { ⌜ stageTells stage ≡ imageCheck (now image) ⌝ }
     ensures { λ r. ⌜ countTells r ≡ sectionsAnswer (now (image .entry)) zone room ⌝ }
 {
@@ -37,6 +37,13 @@ pub fn answer_after(stage: Stage, image: &[u8], zone: u64, room: usize) -> Count
         return Count::Rejected(stage.rejection());
     };
     zone_answer(image, zone, room)
+}
+
+// The answer of the call: validation's rejection first, then rule 40, then 46 where the zone has more than `room` sections, else the count of its sections.
+pub fn sections_answer(image: &[u8], zone: u64, room: usize) -> Count
+    ensures { λ r. ⌜ countTells r ≡ sectionsAnswer (now (image .entry)) zone room ⌝ }
+{
+    answer_after(validation::image_stage(image), image, zone, room)
 }
 
 // How many entries an answer says are written; 0 where it is a rejection.

@@ -8,6 +8,7 @@ ghost use Rattle.model.specs.Image.{treeOf, nodeCount};
 ghost use Rattle.model.specs.Given.{Accepted};
 ghost use Rattle.model.specs.Sections.{sectionNodes, sectionEntries, entryNumbers, allNumbers, sectionsAnswer, sectionNumbersMemory};
 ghost use Rattle.model.specs.Answers.{countTells};
+use super::answers::sections_answer;
 use super::zones::entry_after;
 use model::Count;
 use model::Section;
@@ -32,7 +33,7 @@ fn put_entry(out: &mut [u64], k: usize, e: Section)
 }
 
 // Writes the entries of the zone's n sections to the front of `out`, in node order; the rest stays.
-pub fn fill(image: &[u8], zone: u64, n: usize, out: &mut [u64])
+fn fill(image: &[u8], zone: u64, n: usize, out: &mut [u64])
     requires { ⌜ Accepted (now image) × (zone < nodeCount (now image)) ⌝ }
     requires { ⌜ (n ≡ length (sectionNodes (treeOf (now image)) zone)) × (9 * n ≤ length (now out)) ⌝ }
     ensures { λ _. ⌜ now (out .exit) ≡ over (now (out .entry)) (allNumbers (sectionEntries (treeOf (now (image .entry))) zone)) ⌝ }
@@ -48,7 +49,7 @@ pub fn fill(image: &[u8], zone: u64, n: usize, out: &mut [u64])
 }
 
 // Writes the entries that an answer tells of; a rejection leaves `out` as it was.
-pub fn write_told(answer: Count, image: &[u8], zone: u64, out: &mut [u64])
+fn write_told(answer: Count, image: &[u8], zone: u64, out: &mut [u64])
     requires { ⌜ countTells answer ≡ sectionsAnswer (now image) zone (length (now out) / 9) ⌝ }
     ensures { λ _. ⌜ now (out .exit) ≡ sectionNumbersMemory (now (image .entry)) zone (now (out .entry)) ⌝ }
 {
@@ -56,4 +57,14 @@ pub fn write_told(answer: Count, image: &[u8], zone: u64, out: &mut [u64])
         return;
     };
     fill(image, zone, n as usize, out);
+}
+
+// The section entries of a zone as flat numbers: validation's rejection first, then rule 40, then 46; nine numbers an entry are written to the front
+// of `out` in node order, the count of entries is answered, and the rest of `out` stays. A rejection leaves `out` as it was.
+pub fn section_entries(image: &[u8], zone: u64, out: &mut [u64]) -> Count
+    ensures { λ r. ⌜ (countTells r ≡ sectionsAnswer (now (image .entry)) zone (length (now (out .entry)) / 9)) × (now (out .exit) ≡ sectionNumbersMemory (now (image .entry)) zone (now (out .entry))) ⌝ }
+{
+    let answer = sections_answer(image, zone, out.len() / ENTRY_LENGTH);
+    write_told(answer, image, zone, out);
+    answer
 }
