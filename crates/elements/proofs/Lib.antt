@@ -5,4 +5,8 @@ pub mod Stages
 pub mod Pushes
 pub mod Stored
 pub mod Ready
-pub mod Lookups
+pub mod Searches
+pub mod FaceLaws
+pub mod RuleLaws
+pub mod ShapeLaws
+pub mod StageLaws

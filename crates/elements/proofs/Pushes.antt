@@ -10,10 +10,10 @@ use lib.Dec.{leb}
 use lib.ListN.{length, getD, set, length-set}
 use lib.Seq.{getD-set-same, getD-set-other}
 use borrow.Author.Tests.{le-leb, lt-leb, leb-true, leb-false}
-use Rattle.model.specs.Lists.{someFrom}
+use Rattle.model.specs.Lists.{someFrom, everyFrom}
 use Rattle.elements.specs.Arrays.{holds, inRanges, Pushed}
 
-or-assoc : (a b c : Bool) → ((a || b) || c) ≡ (a || (b || c))
+pub or-assoc : (a b c : Bool) → ((a || b) || c) ≡ (a || (b || c))
 or-assoc true b c = refl
 or-assoc false b c = refl
 
@@ -34,6 +34,11 @@ pub some-same : (p q : ℕ → Bool) (k i : ℕ) → ((j : ℕ) → i ≤ j → 
 unfolding someFrom
 some-same p q zero i e = refl
 some-same p q (suc k) i e = rw (e i (omega arith) (omega arith), some-same p q k (suc i) (λ j l h. e j (omega arith) (omega arith)))
+
+pub every-same : (p q : ℕ → Bool) (k i : ℕ) → ((j : ℕ) → i ≤ j → j < i + k → p j ≡ q j) → everyFrom p k i ≡ everyFrom q k i
+unfolding everyFrom
+every-same p q zero i e = refl
+every-same p q (suc k) i e = rw (e i (omega arith) (omega arith), every-same p q k (suc i) (λ j l h. e j (omega arith) (omega arith)))
 
 -- a range that ends where the next begins, and both as one
 join : (a l first last f : ℕ) → a ≤ first → l ≡ first - 1 → 1 ≤ first → first ≤ last

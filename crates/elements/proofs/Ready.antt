@@ -1,7 +1,7 @@
 -- Validation has come to section s, and rules 20 to 26 hold there: what rules 27 to 35 may rely on.
-use Prim.Native.Nat.{ℕ, zero, suc, _+_, _*_, _≤_, _<_}
-use mathlib.Core.Path.{_≡_, refl, sym, ap, subst, _∙_}
-use mathlib.Core.Bool.{Bool, true, false, cond, not, _&&_, _||_}
+use Prim.Native.Nat.{ℕ, zero, suc, _<_}
+use mathlib.Core.Path.{_≡_, refl, sym, subst, _∙_}
+use mathlib.Core.Bool.{Bool, true, false, not, _&&_, _||_}
 use mathlib.Core.List.{List, [], _∷_}
 use native.Mathlib.Omega.{arith}
 use lib.Dec.{eqb}
@@ -14,9 +14,10 @@ use Rattle.model.specs.Records.{recordRules, dataSizeLawful, product}
 use Rattle.model.specs.Containment.{role, validated, found, mayHold, containment, Zone, Elements}
 use Rattle.model.specs.Values.{typed, shaped, indexDimension, unstructured, typeLawful, placed, complete, rangeOf, connectivityOf, sidsRules}
 use Rattle.model.proofs.Logic.{untrue, and-first, and-second}
-use Rattle.model.proofs.Passed.{Hold, claim, check-pass}
+use Rattle.model.proofs.Passed.{check-pass}
 use Rattle.model.proofs.Accepted.{record-rule}
-use Rattle.model.proofs.Above.{parent-lower, validated-above, earlier-rule, held-by}
+use Rattle.model.proofs.Parents.{parent-lower, lawful-at}
+use Rattle.model.proofs.Above.{validated-above, earlier-rule, held-by}
 use Rattle.types.specs.Given.{Has}
 use Rattle.types.proofs.Held.{whole-wide, whole-four, shaped-is, has-by}
 use Rattle.elements.specs.Given.{SectionReady}
@@ -43,7 +44,7 @@ module _ (t : Tree) (s : ℕ) (e : role t s ≡ Elements) where
   unfolding placed _⊃_
   placed-is = rw (ne-eqb s 0 (not-root t s e), e)
 
-  complete-is : complete t s ≡ (found t (rangeOf t s) && found t (connectivityOf t s))
+  pub complete-is : complete t s ≡ (found t (rangeOf t s) && found t (connectivityOf t s))
   unfolding complete row
   complete-is = rw e
 
@@ -76,7 +77,7 @@ section-ready {b} {s} g v e c =
     let full = sym (complete-is t s e) ∙ held .1 .1 .1 .0 in
     let own = sym (type-section t s e) ∙ held .1 .1 .1 .1 .0 in
     let z = zone-holds (role t (parent t s)) (and-first (mayHold (role t (parent t s)) Elements) _ p) in
-    let low = parent-lower b (g .sound) s (g .inside) (not-root t s e) in
+    let low = parent-lower t s (lawful-at b (g .sound) s (g .inside)) (not-root t s e) in
     let vz = validated-above b (g .sound) s (g .inside) (not-root t s e) v in
     record {
       inside = g .inside;

@@ -1,6 +1,6 @@
 -- Laws of rows of numbers, over the width.
 use Prim.Native.Nat.{ℕ, zero, suc, _+_, _*_, _-_, _^_, _≤_, _<_}
-use mathlib.Core.Path.{_≡_, refl, sym, _∙_}
+use mathlib.Core.Path.{_≡_, sym}
 use mathlib.Core.Bool.{Bool, true, false, not, _&&_}
 use mathlib.Core.List.{List}
 use native.Mathlib.Nat.{mul-suc, mul-le-mul-left, one-le-pow, pow-succ'}
@@ -14,9 +14,9 @@ use borrow.Author.Tests.{lt-leb, leb-false, not-true}
 use Rattle.model.specs.Lists.{everyFrom}
 use Rattle.model.specs.Bytes.{le, half, negative, below}
 use Rattle.model.specs.Corner.{numberAt}
-use Rattle.model.proofs.Logic.{and-first, and-second}
+use Rattle.model.proofs.Logic.{and-first}
 use Rattle.model.proofs.Reading.{le-step}
-use Rattle.model.proofs.Walks.{everyFrom-step, everyFrom-end}
+use Rattle.model.proofs.Loops.{EveryLeft, every-start, every-more, every-stop}
 use Rattle.elements.specs.Arrays.{Numbers, risesAt}
 
 -- number k of a row lies inside the bytes
@@ -32,25 +32,6 @@ le-bound b g (suc w) p =
     let h = g p .fits in
     rw (le-step w b p, pow-succ') (omega arith)
 
--- a loop that tests every number of a row, number k next: the whole is the rest from here
-pub record Left (p : ℕ → Bool) (n k : ℕ) : Type 0 where
-  pub upto : k ≤ n
-  pub rest : everyFrom p (n - k) k ≡ everyFrom p n 0
-
-module _ {p : ℕ → Bool} {n : ℕ} where
-  pub start : Left p n 0
-  start = record { upto = omega arith; rest = let e : n - 0 ≡ n = omega arith in rw e }
-
-  module _ {k : ℕ} (l : Left p n k) where
-    pub on : k < n → p k ≡ true → Left p n (k + 1)
-    on h e = record { upto = omega arith; rest = sym (everyFrom-step p n k h ∙ rw e) ∙ l .rest }
-
-    pub off : k < n → p k ≡ false → false ≡ everyFrom p n 0
-    off h e = sym (everyFrom-step p n k h ∙ rw e) ∙ l .rest
-
-    pub done : n ≤ k → true ≡ everyFrom p n 0
-    done h = sym (everyFrom-end p n k h) ∙ l .rest
-
 -- of two numbers of which x is not negative: y is above x where it is not negative and greater
 pub below-low : (w x y : ℕ) → x < half w → below w x y ≡ (not (leb (half w) y) && ltb x y)
 unfolding below negative
@@ -65,12 +46,12 @@ half-some w = one-le-pow (8 * w - 1) 2 (omega arith)
 
 -- a loop over start offsets, k of which rose: the next one's predecessor is at hand, and is not negative
 pub record Rising (b : List ℕ) (at w n k last : ℕ) : Type 0 where
-  pub left : Left (risesAt b at w) n k
+  pub left : EveryLeft (risesAt b at w) n k (everyFrom (risesAt b at w) n 0)
   pub here : last ≡ numberAt b at w k
   pub low : last < half w
 
 pub rising-start : {b : List ℕ} {at w n : ℕ} → numberAt b at w 0 ≡ 0 → Rising b at w n 0 0
-rising-start {w = w} e = record { left = start; here = sym e; low = half-some w }
+rising-start {b} {at} {w} {n} e = record { left = every-start (risesAt b at w) n; here = sym e; low = half-some w }
 
 module _ {b : List ℕ} {at w n k last next : ℕ} (r : Rising b at w n k last) (e : next ≡ numberAt b at w (k + 1)) where
   rise-is : {t : Bool} → below w last next ≡ t → risesAt b at w k ≡ t
@@ -78,7 +59,7 @@ module _ {b : List ℕ} {at w n k last next : ℕ} (r : Rising b at w n k last) 
   rise-is f = rw (← add-one k, ← e, ← r .here) f
 
   pub rising-on : k < n → below w last next ≡ true → Rising b at w n (k + 1) next
-  rising-on h f = record { left = on (r .left) h (rise-is f); here = e; low = still-low w last next (r .low) f }
+  rising-on h f = record { left = every-more (r .left) h (rise-is f); here = e; low = still-low w last next (r .low) f }
 
   pub rising-off : k < n → below w last next ≡ false → false ≡ everyFrom (risesAt b at w) n 0
-  rising-off h f = off (r .left) h (rise-is f)
+  rising-off h f = every-stop (r .left) h (rise-is f)

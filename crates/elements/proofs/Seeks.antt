@@ -1,6 +1,6 @@
 -- Laws of a search, and of ranges of faces.
-use Prim.Native.Nat.{ℕ, zero, suc, _+_, _-_, _≤_, _<_}
-use mathlib.Core.Path.{_≡_, refl, sym, _∙_}
+use Prim.Native.Nat.{ℕ, zero, suc, _+_, _≤_, _<_}
+use mathlib.Core.Path.{_≡_, sym, _∙_}
 use mathlib.Core.Bool.{Bool, true, false, cond, _||_}
 use mathlib.Core.List.{List}
 use native.Mathlib.Omega.{arith}
@@ -8,29 +8,10 @@ use native.Mathlib.Nat.{zero-add}
 use lib.Dec.{ltb}
 use borrow.Author.Tests.{lt-ltb, le-ltb}
 use Rattle.model.specs.Lists.{seekFrom, someFrom}
-use Rattle.model.proofs.Walks.{seekFrom-step, seekFrom-end, some-by}
+use Rattle.model.proofs.Walks.{some-by}
 use Rattle.model.specs.Bytes.{magnitude}
 use Rattle.model.specs.Corner.{numberAt}
 use Rattle.elements.specs.Arrays.{holds, inRanges, refersTo}
-
--- a search that has come to j: the whole is the rest from here
-pub record Sought (p : ℕ → Bool) (n j : ℕ) : Type 0 where
-  pub upto : j ≤ n
-  pub rest : seekFrom p (n - j) j ≡ seekFrom p n 0
-
-module _ {p : ℕ → Bool} {n : ℕ} where
-  pub seek-start : Sought p n 0
-  seek-start = record { upto = omega arith; rest = let e : n - 0 ≡ n = omega arith in rw e }
-
-  module _ {j : ℕ} (s : Sought p n j) where
-    pub seek-on : j < n → p j ≡ false → Sought p n (j + 1)
-    seek-on h e = record { upto = omega arith; rest = sym (seekFrom-step p n j h ∙ rw e) ∙ s .rest }
-
-    pub seek-here : j < n → p j ≡ true → j ≡ seekFrom p n 0
-    seek-here h e = sym (seekFrom-step p n j h ∙ rw e) ∙ s .rest
-
-    pub seek-none : n ≤ j → n ≡ seekFrom p n 0
-    seek-none h = let e : n ≡ j = omega arith in e ∙ (sym (seekFrom-end p n j h) ∙ s .rest)
 
 -- a search finds where there is some
 pub seek-some : (p : ℕ → Bool) (k i : ℕ) → ltb (seekFrom p k i) (i + k) ≡ someFrom p k i

@@ -1,33 +1,31 @@
 -- What a section's nodes store, where rules 20 to 26 hold, and how a row of the image's bytes has it.
-use Prim.Native.Nat.{ℕ, zero, suc, _+_, _*_, _-_, _≤_, _<_}
-use mathlib.Core.Path.{_≡_, refl, sym, ap, subst, _∙_}
-use mathlib.Core.Bool.{Bool, true, false, cond, not, _&&_, _||_}
+use Prim.Native.Nat.{ℕ, _+_, _*_, _≤_, _<_}
+use mathlib.Core.Path.{_≡_, sym, ap, subst, _∙_}
+use mathlib.Core.Bool.{true, _&&_}
 use mathlib.Core.List.{List, [], _∷_}
 use native.Mathlib.Omega.{arith}
 use native.Mathlib.Nat.{mul-suc, mul-comm, mul-le-mul-left, mul-one}
 use lib.ListN.{length}
-use lib.Dec.{T, eqb, leb}
+use lib.Dec.{T, leb}
 use borrow.Author.Tests.{leb-true}
 use Rattle.model.specs.Lists.{row}
 use Rattle.model.specs.Bytes.{text, spells}
-use Rattle.model.specs.Rules.{check, passed}
 use Rattle.model.specs.Image.{Tree, treeOf, nodeCount, node, name, parent, width, number, dataOffset, dimensions, I4, I8}
 use Rattle.model.specs.Given.{Sound}
 use Rattle.model.specs.Records.{product}
 use Rattle.model.specs.Containment.{role, found, Elements, IndexRange, DataArray}
-use Rattle.model.specs.Values.{typed, shaped, flat, size, typeLawful, valueLawful, arrayType, sectionArrayType, indexArray, rangeValue, conforming, rangeOf, offsetsOf, connectivityOf, complete, sidsRules}
-use Rattle.model.specs.Elements.{firstElement, lastElement, connectivityLength}
+use Rattle.model.specs.Values.{typed, shaped, flat, size, typeLawful, valueLawful, arrayType, sectionArrayType, indexArray, rangeValue, conforming, rangeOf, offsetsOf, connectivityOf}
+use Rattle.model.specs.Elements.{firstElement, lastElement}
 use Rattle.model.specs.Corner.{numberAt}
 use Rattle.model.proofs.Logic.{and-first, and-second, or-left, or-right}
-use Rattle.model.proofs.Passed.{check-pass, claim}
 use Rattle.model.proofs.Bounds.{node-placed}
 use Rattle.model.proofs.Reading.{number-at}
 use Rattle.model.proofs.Conforming.{conforming-inside, conforming-type, conforming-value, conforming-role, conforming-parent, conforming-name}
 use Rattle.words.specs.Width.{isWidth}
 use Rattle.types.specs.Given.{Has}
-use Rattle.types.proofs.Held.{whole-wide, whole-four, shaped-is, flat-is, bytes-are}
+use Rattle.types.proofs.Held.{whole-wide, shaped-is, flat-is, bytes-are}
 use Rattle.elements.specs.Arrays.{Numbers}
-use Rattle.elements.specs.Given.{Stores, Ranged, SectionReady}
+use Rattle.elements.specs.Given.{Stores, Indexed, Ranged}
 
 -- where a node's numbers start
 abbrev pub startOf : List ℕ → ℕ → ℕ
@@ -55,12 +53,15 @@ module _ {b : List ℕ} (s : Sound b) {j n : ℕ} (a : Stores b j n) where
 stores-by : {b : List ℕ} → Sound b → (j : ℕ) → j < nodeCount b → T (isWidth (width (treeOf b) j)) → (sizes : List ℕ) → dimensions (treeOf b) j ≡ sizes → Stores b j (product sizes)
 stores-by {b} s j h w sizes e = record { inside = h; wide = w; bytes = bytes-are b s j h sizes e }
 
-stores-flat : {b : List ℕ} → Sound b → (j : ℕ) → j < nodeCount b → (typed (treeOf b) j (I4 ∷ I8 ∷ []) && flat (treeOf b) j) ≡ true → Stores b j (size (treeOf b) j)
+stores-flat : {b : List ℕ} → Sound b → (j : ℕ) → j < nodeCount b → (typed (treeOf b) j (I4 ∷ I8 ∷ []) && flat (treeOf b) j) ≡ true → Indexed b j
 unfolding product
 stores-flat {b} s j h e =
     let t = treeOf b in
-    subst (λ (n : ℕ). Stores b j n) (mul-one (size t j))
-    (stores-by s j h (whole-wide t j (and-first (typed t j (I4 ∷ I8 ∷ [])) _ e)) (size t j ∷ []) (flat-is t j (and-second (typed t j (I4 ∷ I8 ∷ [])) _ e)))
+    let f = and-second (typed t j (I4 ∷ I8 ∷ [])) (flat t j) e in
+    record {
+      numbers = subst (λ (n : ℕ). Stores b j n) (mul-one (size t j)) (stores-by s j h (whole-wide t j (and-first (typed t j (I4 ∷ I8 ∷ [])) _ e)) (size t j ∷ []) (flat-is t j f));
+      one-dimension = f;
+    }
 
 pub stores-pair : {b : List ℕ} → Sound b → (j : ℕ) → j < nodeCount b → T (isWidth (width (treeOf b) j)) → shaped (treeOf b) j (2 ∷ []) ≡ true → Stores b j 2
 unfolding product
@@ -87,7 +88,7 @@ module _ (t : Tree) (j : ℕ) where
 -- a conforming index array, and a conforming ElementRange
 module _ {b : List ℕ} (s : Sound b) (i : ℕ) where
   index-stores : role (treeOf b) i ≡ Elements → (n : List ℕ) → ((j : ℕ) → spells (name (treeOf b) j) n ≡ true → indexArray (treeOf b) j ≡ true)
-      → found (treeOf b) (conforming (treeOf b) i DataArray n) ≡ true → Stores b (conforming (treeOf b) i DataArray n) (size (treeOf b) (conforming (treeOf b) i DataArray n))
+      → found (treeOf b) (conforming (treeOf b) i DataArray n) ≡ true → Indexed b (conforming (treeOf b) i DataArray n)
   unfolding treeOf
   index-stores r n f h =
       let t = treeOf b in
@@ -95,11 +96,11 @@ module _ {b : List ℕ} (s : Sound b) (i : ℕ) where
       let e = type-array t j (conforming-role t i DataArray n h) (ap (role t) (conforming-parent t i DataArray n h) ∙ r) (f j (conforming-name t i DataArray n h)) in
       stores-flat s j (conforming-inside t i DataArray n h) (sym e ∙ conforming-type t i DataArray n h)
 
-  pub connectivity-stores : role (treeOf b) i ≡ Elements → found (treeOf b) (connectivityOf (treeOf b) i) ≡ true → Stores b (connectivityOf (treeOf b) i) (connectivityLength (treeOf b) i)
-  unfolding connectivityOf connectivityLength indexArray
+  pub connectivity-stores : role (treeOf b) i ≡ Elements → found (treeOf b) (connectivityOf (treeOf b) i) ≡ true → Indexed b (connectivityOf (treeOf b) i)
+  unfolding connectivityOf indexArray
   connectivity-stores r h = index-stores r (text "ElementConnectivity") (λ j e. or-left _ _ e) h
 
-  pub offsets-stores : role (treeOf b) i ≡ Elements → found (treeOf b) (offsetsOf (treeOf b) i) ≡ true → Stores b (offsetsOf (treeOf b) i) (size (treeOf b) (offsetsOf (treeOf b) i))
+  pub offsets-stores : role (treeOf b) i ≡ Elements → found (treeOf b) (offsetsOf (treeOf b) i) ≡ true → Indexed b (offsetsOf (treeOf b) i)
   unfolding offsetsOf indexArray
   offsets-stores r h = index-stores r (text "ElementStartOffset") (λ j e. or-right (spells (name (treeOf b) j) (text "ElementConnectivity")) _ e) h
 

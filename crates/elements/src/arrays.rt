@@ -1,6 +1,6 @@
 // Rows of numbers of 4 or 8 bytes: n of them from the byte `at` on. Start offsets, and node references.
 ghost use mathlib.Core.Path.{_≡_};
-ghost use Prim.Native.Nat.{suc, _+_, _^_, _<_};
+ghost use Prim.Native.Nat.{_+_, _^_, _<_};
 ghost use lib.Dec.{T};
 ghost use Rattle.words.specs.Width.{isWidth};
 ghost use Rattle.model.specs.Lists.{everyFrom};

@@ -31,7 +31,7 @@ fn first_range(firsts: &[u64], lasts: &[u64], count: usize, f: u64) -> usize
         }
         j += 1;
     }
-    count
+    j
 }
 
 // A range that holds f, the range `hint` asked first; count where none does.
@@ -76,7 +76,7 @@ pub fn all_faces(
 }
 
 // One range more, after the first `count`: a range that follows the last one makes it longer. It answers how many there are.
-fn push(firsts: &mut [u64], lasts: &mut [u64], count: usize, first: u64, last: u64) -> usize
+pub fn push(firsts: &mut [u64], lasts: &mut [u64], count: usize, first: u64, last: u64) -> usize
     requires { ⌜ (count < length (now firsts)) × (count < length (now lasts)) ⌝ }
     requires { ⌜ (1 ≤ first) × (first ≤ last) ⌝ }
     ensures { λ r. ⌜ Pushed (now (firsts .entry)) (now (lasts .entry)) count first last (now (firsts .exit)) (now (lasts .exit)) r ⌝ }

@@ -4,21 +4,16 @@ use mathlib.Core.Path.{_≡_, refl, ap, sym, _∙_}
 use mathlib.Core.Bool.{Bool, true, false, cond, _&&_}
 use mathlib.Core.List.{List, [], _∷_, _++_}
 use native.Mathlib.Omega.{arith}
+use native.Mathlib.Nat.{zero-add}
 use native.Mathlib.Numerals.{add-one}
-use lib.Dec.{eqb}
+use lib.Dec.{eqb, leb}
 use lib.ListN.{length, getD, take, drop, drop-of-length-le, length-drop}
-use lib.Seq.{take-at, drop-append-add, drop-cons, length-take-le}
-use borrow.Author.Tests.{ne-eqb, eq-eqb}
-use Rattle.model.specs.Bytes.{same, spells, blank, text, placeFrom}
-use Rattle.model.specs.Image.{treeOf, nodeCount, recordAt, label}
-use Rattle.model.specs.Containment.{role, Root, knownLabels}
-use Rattle.model.proofs.Reading.{label-at}
-
--- a text padded right with blanks to n bytes
-abbrev pub pad : ℕ → List ℕ → List ℕ
-pad zero x = []
-pad (suc n) [] = 32 ∷ pad n []
-pad (suc n) (y ∷ x) = y ∷ pad n x
+use lib.Seq.{take-all, take-at, drop-append-add, drop-cons, length-take-le}
+use borrow.Author.Tests.{leb-true}
+use Rattle.model.specs.Bytes.{le, same, spells, blank, placeFrom}
+use Rattle.model.proofs.Logic.{and-first, and-second}
+use Rattle.labels.specs.Padded.{pad, fieldWord}
+use Rattle.labels.proofs.Fields.{Bytes, Same, same-more-word, same-stop-word, same-done}
 
 pub length-pad : (n : ℕ) (x : List ℕ) → length (pad n x) ≡ n
 length-pad zero x = refl
@@ -34,6 +29,44 @@ spells-pad zero (z ∷ s) x h l = absurd (omega arith)
 spells-pad (suc n) [] x h l = absurd (omega arith)
 spells-pad (suc n) (z ∷ s) [] h l = ap (λ (r : Bool). eqb z 32 && r) (spells-pad n s [] (omega arith) (omega arith))
 spells-pad (suc n) (z ∷ s) (y ∷ x) h l = ap (λ (r : Bool). eqb z y && r) (spells-pad n s x (omega arith) (omega arith))
+
+-- the field at p against a padded text
+pub field-spells : (b : List ℕ) (p : ℕ) (x : List ℕ) → p + 32 ≤ length b → length x ≤ 32
+    → same (take 32 (drop p b)) (take 32 (drop 0 (pad 32 x))) ≡ spells (take 32 (drop p b)) x
+field-spells b p x h m =
+    let e : length (pad 32 x) ≤ 32 = rw (length-pad 32 x) (omega arith) in
+    rw (take-all 32 (pad 32 x) e) (sym (spells-pad 32 (take 32 (drop p b)) x (length-take-le 32 (drop p b) (rw length-drop (omega arith))) m))
+
+-- its bytes
+abbrev pub allBytes : List ℕ → Bool
+allBytes [] = true
+allBytes (y ∷ x) = leb y 255 && allBytes x
+
+pub pad-bytes : (n : ℕ) (x : List ℕ) → allBytes x ≡ true → Bytes (pad n x)
+pad-bytes zero x e i = omega arith
+pad-bytes (suc n) [] e zero = omega arith
+pad-bytes (suc n) [] e (suc i) = pad-bytes n [] refl i
+pad-bytes (suc n) (y ∷ x) e zero = let l = leb-true y 255 (and-first (leb y 255) (allBytes x) e) in omega arith
+pad-bytes (suc n) (y ∷ x) e (suc i) = pad-bytes n x (and-second (leb y 255) (allBytes x) e) i
+
+pad-full : (x : List ℕ) → 0 + 32 ≤ length (pad 32 x)
+pad-full x = rw (length-pad 32 x) (omega arith)
+
+-- the field at p against the words of a text, at word j
+module _ {b : List ℕ} {p : ℕ} (x : List ℕ) (j : ℕ) (l : Same 32 b p (pad 32 x) 0 (8 * j)) (h : p + 32 ≤ length b) where
+  pub spelling-done : length x ≤ 32 → 4 ≤ j → true ≡ spells (take 32 (drop p b)) x
+  spelling-done m k = same-done l h (pad-full x) (omega arith) ∙ field-spells b p x h m
+
+  module _ (f : Bytes b) (a : allBytes x ≡ true) (k : j < 4) where
+    pub spelling-more : le 8 (drop (p + 8 * j) b) ≡ fieldWord x j → Same 32 b p (pad 32 x) 0 (8 * (j + 1))
+    unfolding fieldWord
+    spelling-more e =
+        let y : 8 * j + 8 ≡ 8 * (j + 1) = omega arith in
+        rw y at (same-more-word l h (pad-full x) 8 (omega arith) f (pad-bytes 32 x a) (rw (zero-add (8 * j)) e))
+
+    pub spelling-stop : length x ≤ 32 → (le 8 (drop (p + 8 * j) b) ≡ fieldWord x j → ⊥) → false ≡ spells (take 32 (drop p b)) x
+    unfolding fieldWord
+    spelling-stop m e = same-stop-word l h (pad-full x) 8 (omega arith) f (pad-bytes 32 x a) (rw (zero-add (8 * j)) e) ∙ field-spells b p x h m
 
 -- padded texts, one after the other
 abbrev pub padded : List (List ℕ) → List ℕ

@@ -1,21 +1,19 @@
 // The placing table and the fixed names: the table's part of rule 20, and rules 21 and 22.
 ghost use mathlib.Core.Path.{_≡_};
-ghost use mathlib.Core.Bool.{_&&_};
 ghost use mathlib.Core.List.{[]};
 ghost use Prim.Native.Nat.{_+_, _*_, _≤_, _<_};
-ghost use lib.Dec.{eqb};
 ghost use lib.ListN.{length, take, drop, getD};
 ghost use Rattle.model.specs.Lists.{among};
 ghost use Rattle.model.specs.Bytes.{spells};
-ghost use Rattle.model.specs.Image.{treeOf, nodeCount, parent};
-ghost use Rattle.model.specs.Bounds.{Laid};
+ghost use Rattle.model.specs.Image.{treeOf, nodeCount};
 ghost use Rattle.model.specs.Given.{Sound};
-ghost use Rattle.model.specs.Containment.{role, mayHold, onceOnly};
+ghost use Rattle.model.specs.Containment.{mayHold, onceOnly};
 ghost use Rattle.model.specs.Values.{named, second};
 ghost use Rattle.labels.specs.Cells.{fixedTexts, cellOf};
 use super::roles;
 use super::roles::role_of;
 use super::texts::same_fields;
+use super::tree::is_child_as;
 use records::Record;
 
 // The fixed names, each padded to 32 bytes.
@@ -107,14 +105,6 @@ fn once_only(role: u64) -> bool
     role == roles::GRID_LOCATION
 }
 
-// Is node j a child of node up, of this role?
-fn is_kin(image: &[u8], up: usize, kind: u64, j: usize) -> bool
-    requires { ⌜ Laid (now image) × (j < nodeCount (now image)) ⌝ }
-    ensures { λ r. ⌜ r ≡ (eqb (parent (treeOf (now (image .entry))) j) up && eqb (role (treeOf (now (image .entry))) j) kind) ⌝ }
-{
-    records::parent_of(image, j) == up && role_of(image, j) == kind
-}
-
 // Rule 22: is node i a second child of a role allowed once? Siblings stand after the parent, so the search starts there.
 pub fn second(image: &[u8], i: usize) -> bool
     requires { ⌜ Sound (now image) × (i < nodeCount (now image)) ⌝ }
@@ -127,7 +117,7 @@ pub fn second(image: &[u8], i: usize) -> bool
     let up = records::parent_of(image, i);
     let mut j = up + 1;
     while j < i {
-        if is_kin(image, up, role, j) {
+        if is_child_as(image, up, role, j) {
             return true;
         }
         j += 1;

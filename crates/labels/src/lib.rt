@@ -12,6 +12,7 @@ pub use texts::same_at;
 pub use texts::same_fields;
 pub use texts::spells_at;
 pub use tree::child;
+pub use tree::is_child_as;
 pub use tree::is_zone;
 pub use tree::node_count;
 pub use tree::section_of;

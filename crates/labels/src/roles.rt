@@ -7,7 +7,7 @@ ghost use Rattle.model.specs.Bytes.{spells};
 ghost use Rattle.model.specs.Image.{treeOf, nodeCount};
 ghost use Rattle.model.specs.Bounds.{Laid};
 ghost use Rattle.model.specs.Containment.{role, knownLabels};
-use super::texts::same_fields;
+ghost use Rattle.labels.specs.Padded.{fieldWord};
 use records::Record;
 
 pub const LIBRARY_VERSION: u64 = 1;
@@ -38,27 +38,90 @@ pub const USER_DEFINED_DATA: u64 = 13;
 
 pub const ROOT: u64 = 14;
 
-// The known labels in the order of their numbers, each padded to 32 bytes.
-const LABELS: [u8; 416] = *b"CGNSLibraryVersion_t            \
-CGNSBase_t                      \
-Zone_t                          \
-ZoneType_t                      \
-GridCoordinates_t               \
-FlowSolution_t                  \
-Elements_t                      \
-IndexRange_t                    \
-Rind_t                          \
-GridLocation_t                  \
-DataArray_t                     \
-Descriptor_t                    \
-UserDefinedData_t               ";
+// Eight blanks.
+const BLANKS: u64 = 2314885530818453536;
 
-// Does a field hold the known label k, counted from 0?
+// The known labels as words, each label padded to 32 bytes. Here are the first eight bytes of label k, counted from 0.
+fn first_word(k: usize) -> u64
+    requires { ⌜ k < 13 ⌝ }
+    ensures { λ r. ⌜ r ≡ fieldWord (getD knownLabels k []) 0 ⌝ }
+{
+    match k {
+        0 => 8242266044577498947, // CGNSLibr
+        1 => 7310293557645821763, // CGNSBase
+        2 => 2314978161540886362, // Zone_t
+        3 => 7309475598608265050, // ZoneType
+        4 => 8245931777976791623, // GridCoor
+        5 => 8461260204199078982, // FlowSolu
+        6 => 8319395793566264389, // Elements
+        7 => 7953729093963640393, // IndexRan
+        8 => 2314978161524107602, // Rind_t
+        9 => 7017575018266194503, // GridLoca
+        10 => 7021800394157482308, // DataArra
+        11 => 8390322045806929220, // Descript
+        _ => 7594869166258352981, // UserDefi
+    }
+}
+
+fn second_word(k: usize) -> u64
+    requires { ⌜ k < 13 ⌝ }
+    ensures { λ r. ⌜ r ≡ fieldWord (getD knownLabels k []) 1 ⌝ }
+{
+    match k {
+        0 => 7598542775872221793, // aryVersi
+        1 => 2314885530818475103, // _t
+        2 => 2314885530818453536, // blanks
+        3 => 2314885530818475103, // _t
+        4 => 6877952606450116964, // dinates_
+        5 => 2314978161691945332, // tion_t
+        6 => 2314885530818475103, // _t
+        7 => 2314885532231886183, // ge_t
+        8 => 2314885530818453536, // blanks
+        9 => 2314978161691945332, // tion_t
+        10 => 2314885530823974777, // y_t
+        11 => 2314885532231889519, // or_t
+        _ => 6872902467452167534, // nedData_
+    }
+}
+
+fn third_word(k: usize) -> u64
+    requires { ⌜ k < 13 ⌝ }
+    ensures { λ r. ⌜ r ≡ fieldWord (getD knownLabels k []) 2 ⌝ }
+{
+    match k {
+        0 => 2314885532231888495, // on_t
+        4 => 2314885530818453620, // t
+        12 => 2314885530818453620, // t
+        _ => BLANKS,
+    }
+}
+
+// Word j of label k.
+fn label_word(k: usize, j: usize) -> u64
+    requires { ⌜ (k < 13) × (j < 4) ⌝ }
+    ensures { λ r. ⌜ r ≡ fieldWord (getD knownLabels k []) j ⌝ }
+{
+    match j {
+        0 => first_word(k),
+        1 => second_word(k),
+        2 => third_word(k),
+        _ => BLANKS,
+    }
+}
+
+// Does a field hold the known label k, counted from 0? It leaves off at the first word that differs.
 fn label_is(image: &[u8], at: usize, k: usize) -> bool
     requires { ⌜ (at + 32 ≤ length (now image)) × (k < 13) ⌝ }
     ensures { λ r. ⌜ r ≡ spells (take 32 (drop at (now (image .entry)))) (getD knownLabels k []) ⌝ }
 {
-    same_fields(image, at, &LABELS, 32 * k)
+    let mut j = 0;
+    while j < 4 {
+        if words::u64_at(image, at + 8 * j) != label_word(k, j) {
+            return false;
+        }
+        j += 1;
+    }
+    true
 }
 
 // The role of node i: 1 to 13 for a known label, 0 for any other, 14 for the root whatever its label.

@@ -1,11 +1,13 @@
 // The tree that the records make: children looked up by role and name, validated nodes, zones and sections.
 ghost use mathlib.Core.Path.{_≡_};
 ghost use Prim.Native.Nat.{_+_, _≤_, _<_};
+ghost use mathlib.Core.Bool.{_&&_};
+ghost use lib.Dec.{eqb};
 ghost use lib.ListN.{length};
-ghost use Rattle.model.specs.Image.{treeOf, nodeCount};
+ghost use Rattle.model.specs.Image.{treeOf, nodeCount, parent};
 ghost use Rattle.model.specs.Bounds.{Laid};
 ghost use Rattle.model.specs.Given.{Sound};
-ghost use Rattle.model.specs.Containment.{isChild, child, validated, validatedAs, isZone, sectionOf};
+ghost use Rattle.model.specs.Containment.{role, isChild, child, validated, validatedAs, isZone, sectionOf};
 use super::roles;
 use super::roles::role_of;
 use super::texts::spells_at;
@@ -18,6 +20,14 @@ pub fn node_count(image: &[u8]) -> usize
     ensures { λ r. ⌜ (r ≡ nodeCount (now (image .entry))) × (r ≤ 4096) ⌝ }
 {
     words::u32_at(image, Header::NODE_COUNT) as usize
+}
+
+// Is node j a child of node up, of this role? Where up is a validated zone and the role is that of Elements_t, these are its sections.
+pub fn is_child_as(image: &[u8], up: usize, kind: u64, j: usize) -> bool
+    requires { ⌜ Laid (now image) × (j < nodeCount (now image)) ⌝ }
+    ensures { λ r. ⌜ r ≡ (eqb (parent (treeOf (now (image .entry))) j) up && eqb (role (treeOf (now (image .entry))) j) kind) ⌝ }
+{
+    records::parent_of(image, j) == up && role_of(image, j) == kind
 }
 
 // Is node j a child of node i with this role and this name?

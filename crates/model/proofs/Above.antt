@@ -1,66 +1,22 @@
--- What stands above a validated node: a validated node with a lower number, of a kind that the placing table lets hold it.
-use Prim.Native.Nat.{ℕ, zero, suc, _+_, _-_, _≤_, _<_}
-use mathlib.Core.Path.{_≡_, refl, sym, subst, ap, _∙_}
-use mathlib.Core.Bool.{Bool, true, false, cond, not, _&&_, _||_}
+-- What stands above a validated node: a validated node, of a kind that the placing table lets hold it. Where validation has come to a node, the rules hold at those before it.
+use Prim.Native.Nat.{ℕ, _<_}
+use mathlib.Core.Path.{_≡_, refl, sym, _∙_}
+use mathlib.Core.Bool.{Bool, true, false, cond}
 use mathlib.Core.List.{List, [], _∷_}
-use native.Mathlib.Omega.{arith}
-use native.Mathlib.Nat.{add-zero}
-use lib.Dec.{eqb, ltb}
-use borrow.Author.Tests.{ltb-true, eqb-true, ne-eqb}
+use lib.Dec.{eqb}
 use Rattle.model.specs.Lists.{Row, _has_, row, among}
-use Rattle.model.specs.Rules.{passed, check}
-use Rattle.model.specs.Image.{Tree, treeOf, nodeCount, parent}
-use Rattle.model.specs.Records.{recordRules, parentLawful}
+use Rattle.model.specs.Image.{treeOf, nodeCount, parent}
 use Rattle.model.specs.Given.{Sound, NodesTo}
-use Rattle.model.specs.Containment.{role, containment, mayHold, validated, validatedWithin, UserDefinedData}
+use Rattle.model.specs.Containment.{containment, mayHold, validated}
 use Rattle.model.specs.Values.{sidsRules}
 use Rattle.model.specs.Validation.{nodeRules, nodeCheckAt}
-use Rattle.model.proofs.Logic.{untrue, and-first, and-second, and-both, or-left, or-right}
+use Rattle.model.proofs.Logic.{untrue, and-second}
 use Rattle.model.proofs.Passed.{Hold, Claim, claim, check-pass, hold-left}
-use Rattle.model.proofs.Accepted.{record-rule}
-
--- rule 7
-pub parent-lower : (b : List ℕ) → Sound b → (i : ℕ) → i < nodeCount b → (i ≡ 0 → ⊥) → parent (treeOf b) i < i
-unfolding recordRules parentLawful
-parent-lower b s i h n = ltb-true _ _ (rw (ne-eqb i 0 n) at (record-rule b (s .table) 7 i h))
-
--- one step up is spared where a node's number is no more than the steps
-module _ (t : Tree) (n : ℕ) (lower : (j : ℕ) → j < n → (j ≡ 0 → ⊥) → parent t j < j) where
-  within-less : (d j : ℕ) → j ≤ d → j < n → validatedWithin t (suc d) j ≡ true → validatedWithin t d j ≡ true
-  unfolding validatedWithin
-  within-less zero j l h e = let z : j ≡ 0 = omega arith in rw z
-  within-less (suc d) j l h e = by-test (eqb j 0) refl e (λ m. within-less d (parent t j) (omega (arith, lower j h m)) (omega (arith, lower j h m)))
-    where
-      known : Bool
-      known = ltb 0 (role t j) && not (eqb (role t (parent t j)) UserDefinedData)
-
-      by-test : (a : Bool) → eqb j 0 ≡ a → (a || (known && validatedWithin t (suc d) (parent t j))) ≡ true
-          → ((j ≡ 0 → ⊥) → validatedWithin t (suc d) (parent t j) ≡ true → validatedWithin t d (parent t j) ≡ true)
-          → (a || (known && validatedWithin t d (parent t j))) ≡ true
-      by-test true p q f = refl
-      by-test false p q f =
-          let m : j ≡ 0 → ⊥ = λ z. untrue (sym p ∙ ap (λ (k : ℕ). eqb k 0) z) in
-          and-both known (validatedWithin t d (parent t j)) (and-first known _ q) (f m (and-second known _ q))
-
-  within-own : (k j : ℕ) → j < n → validatedWithin t (j + k) j ≡ true → validatedWithin t j j ≡ true
-  within-own zero j h e = rw add-zero at e
-  within-own (suc k) j h e =
-      let p : j + suc k ≡ suc (j + k) = omega arith in
-      within-own k j h (within-less (j + k) j (omega arith) h (rw p at e))
+use Rattle.model.proofs.Validated.{joins, validated-step}
 
 -- the parent of a validated node is validated
-module _ (b : List ℕ) (s : Sound b) where
-  pub validated-above : (i : ℕ) → i < nodeCount b → (i ≡ 0 → ⊥) → validated (treeOf b) i ≡ true → validated (treeOf b) (parent (treeOf b) i) ≡ true
-  unfolding validated validatedWithin
-  validated-above zero h n e = absurd (n refl)
-  validated-above (suc m) h n e =
-      let t = treeOf b in
-      let l = parent-lower b s (suc m) h n in
-      let p : m ≡ parent t (suc m) + (m - parent t (suc m)) = omega arith in
-      let known = ltb 0 (role t (suc m)) && not (eqb (role t (parent t (suc m))) UserDefinedData) in
-      let q : (known && validatedWithin t m (parent t (suc m))) ≡ true = rw (ne-eqb (suc m) 0 n) at e in
-      within-own t (nodeCount b) (λ j. parent-lower b s j) (m - parent t (suc m)) (parent t (suc m)) (omega arith)
-      (subst (λ (d : ℕ). validatedWithin t d (parent t (suc m)) ≡ true) p (and-second known _ q))
+pub validated-above : (b : List ℕ) → Sound b → (i : ℕ) → i < nodeCount b → (i ≡ 0 → ⊥) → validated (treeOf b) i ≡ true → validated (treeOf b) (parent (treeOf b) i) ≡ true
+validated-above b s i h n e = and-second (joins (treeOf b) i) _ (sym (validated-step b s i h n) ∙ e)
 
 -- validation has come to node i: the rules hold at a validated node before it
 pub earlier-holds : (b : List ℕ) (i : ℕ) → NodesTo b i → (j : ℕ) → j < i → validated (treeOf b) j ≡ true → Hold (sidsRules (treeOf b) j)

@@ -20,10 +20,12 @@ pub mod NoneNegative
 pub mod ZoneEntries
 pub mod Demand3
 pub mod Staging
-pub mod Above
+pub mod Parents
+pub mod Known
 pub mod Joins
 pub mod Loops
-pub mod Parents
 pub mod Children
 pub mod Validated
 pub mod Sections
+pub mod Above
+pub mod LookedUp

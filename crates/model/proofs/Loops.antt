@@ -4,7 +4,7 @@ use mathlib.Core.Path.{_≡_, refl, sym, ap, _∙_}
 use mathlib.Core.Bool.{Bool, true, false, cond, _&&_, _||_}
 use native.Mathlib.Omega.{arith}
 use native.Mathlib.Nat.{add-zero}
-use Rattle.model.specs.Lists.{everyFrom, someFrom, seekFrom}
+use Rattle.model.specs.Lists.{everyFrom, someFrom, seekFrom, countFrom, listFrom}
 use Rattle.model.proofs.Walks.{everyFrom-step, everyFrom-end, someFrom-step, someFrom-end, seekFrom-step, seekFrom-end}
 
 -- numbers where the test fails are passed over
@@ -24,6 +24,22 @@ module _ (p : ℕ → Bool) where
       let e : suc m + k ≡ suc (m + k) = omega arith in
       let g : suc i + m ≡ i + suc m = omega arith in
       rw (e, f i (omega arith) (omega arith), ← g) (seek-skip m k (suc i) (λ j l h. f j (omega arith) (omega arith)))
+
+  pub count-skip : (m k i : ℕ) → ((j : ℕ) → i ≤ j → j < i + m → p j ≡ false) → countFrom p (m + k) i ≡ countFrom p k (i + m)
+  unfolding countFrom
+  count-skip zero k i f = let e : 0 + k ≡ k = omega arith in rw (e, add-zero i)
+  count-skip (suc m) k i f =
+      let e : suc m + k ≡ suc (m + k) = omega arith in
+      let g : suc i + m ≡ i + suc m = omega arith in
+      rw (e, f i (omega arith) (omega arith), ← g) (count-skip m k (suc i) (λ j l h. f j (omega arith) (omega arith)))
+
+  pub list-skip : (m k i : ℕ) → ((j : ℕ) → i ≤ j → j < i + m → p j ≡ false) → listFrom p (m + k) i ≡ listFrom p k (i + m)
+  unfolding listFrom
+  list-skip zero k i f = let e : 0 + k ≡ k = omega arith in rw (e, add-zero i)
+  list-skip (suc m) k i f =
+      let e : suc m + k ≡ suc (m + k) = omega arith in
+      let g : suc i + m ≡ i + suc m = omega arith in
+      rw (e, f i (omega arith) (omega arith), ← g) (list-skip m k (suc i) (λ j l h. f j (omega arith) (omega arith)))
 
 pub record EveryLeft (p : ℕ → Bool) (n i : ℕ) (w : Bool) : Type 0 where
   pub inside : i ≤ n

@@ -1,5 +1,5 @@
 -- The sections of a validated zone: its Elements_t children.
-use Prim.Native.Nat.{ℕ, _<_}
+use Prim.Native.Nat.{ℕ, _≤_, _<_}
 use mathlib.Core.Path.{_≡_, refl, ap, sym, _∙_}
 use mathlib.Core.Bool.{Bool, true, false, _&&_}
 use mathlib.Core.List.{List}
@@ -10,6 +10,7 @@ use Rattle.model.specs.Image.{Tree, treeOf, nodeCount, parent}
 use Rattle.model.specs.Containment.{role, validated, validatedAs, isZone, sectionOf, Root, Zone, Elements, UserDefinedData}
 use Rattle.model.specs.Given.{Sound}
 use Rattle.model.proofs.Logic.{and-first, and-second, untrue}
+use Rattle.model.proofs.Children.{no-child}
 use Rattle.model.proofs.Validated.{validated-child}
 
 -- a zone that a test found
@@ -32,6 +33,11 @@ zone-is b z e =
 pub not-root : (t : Tree) (i r : ℕ) → role t i ≡ r → (r ≡ Root → ⊥) → i ≡ 0 → ⊥
 unfolding role
 not-root t i r e n z = n (sym e ∙ rw z)
+
+-- no node up to the zone is a section of it
+pub no-section : (b : List ℕ) → Sound b → (z : ℕ) → z < nodeCount b → (i : ℕ) → i ≤ z → sectionOf (treeOf b) z i ≡ false
+unfolding sectionOf
+no-section b s z h i l = rw (no-child b s z h i l)
 
 module _ (b : List ℕ) (s : Sound b) (z : ℕ) (zone : role (treeOf b) z ≡ Zone) (v : validated (treeOf b) z ≡ true) where
   pub section-is-child : (i : ℕ) → i < nodeCount b → sectionOf (treeOf b) z i ≡ (eqb (parent (treeOf b) i) z && eqb (role (treeOf b) i) Elements)

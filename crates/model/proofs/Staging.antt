@@ -7,7 +7,7 @@ use Rattle.model.specs.declared.Rejection.{Rejection}
 use Rattle.model.specs.declared.Stage.{Stage}
 use Rattle.model.specs.declared.Stage.the-variants as Stage
 use Rattle.model.specs.Rules.{Answer, rejected, answer, rejection, Check, passed, Rule, _unless_, check, _then_}
-use Rattle.model.specs.Answers.{stageTells}
+use Rattle.model.specs.Answers.{stageTells, rejectionOf}
 use Rattle.model.proofs.Passed.{then-on, then-off}
 
 -- the first rule is broken, or holds and the rest decides
@@ -42,3 +42,7 @@ module _ {s : Stage} {a : Check} (e : stageTells s ≡ a) where
   -- the rest is
   pub go : {x rest : Check} → s ≡ Stage.Pass → x ≡ rest → x ≡ (a then rest)
   go {x} {rest} q f = f ∙ sym (then-on rest (passes q))
+
+  -- where it did not pass, its rejection is the check's
+  pub rejects : {r : Rejection} → s ≡ Stage.Rejected r → a ≡ rejected (rejectionOf s)
+  rejects q = sym e ∙ ap stageTells q ∙ ap (λ x. rejected (rejectionOf x)) (sym q)

@@ -5,6 +5,8 @@ use mathlib.Core.Bool.{true, false}
 use mathlib.Core.List.{List, [], _∷_}
 use lib.ListN.{take}
 use lib.IntN.{ℤ}
+use mir.Syntax.{w64}
+use mir.Val.{ofZ}
 use lib.Ieee.{binary32, binary64, isNan, nanBits, toBits}
 use Rattle.model.specs.declared.Stage.{Stage}
 use Rattle.model.specs.declared.Stage.the-variants as Stage
@@ -22,7 +24,8 @@ use Rattle.model.specs.declared.ArrayValue.{ArrayValue}
 use Rattle.model.specs.declared.ArrayValue.the-variants as ArrayValue
 use Rattle.model.specs.declared.FaceUsage.{FaceUsage}
 use Rattle.model.specs.declared.FaceUsage.the-variants as FaceUsage
-use Rattle.model.specs.Rules.{Answer, rejected, answer, Check, passed}
+use Rattle.model.specs.declared.Rejection.{Rejection}
+use Rattle.model.specs.Rules.{Answer, rejected, answer, rejection, Check, passed}
 use Rattle.model.specs.Records.{TableCounts}
 use Rattle.model.specs.Validation.{Counts}
 use Rattle.model.specs.ArrayValue.{Value, whole, single, double}
@@ -30,6 +33,11 @@ use Rattle.model.specs.ArrayValue.{Value, whole, single, double}
 abbrev pub stageTells : Stage → Check
 stageTells Stage.Pass = passed
 stageTells (Stage.Rejected r) = rejected r
+
+-- why a stage did not pass; no rule where it did
+abbrev pub rejectionOf : Stage → Rejection
+rejectionOf Stage.Pass = rejection 0 0
+rejectionOf (Stage.Rejected r) = r
 
 abbrev pub tableTells : Table → Answer TableCounts
 tableTells (Table.Sound n d x) = answer (record { nodes = n; dimensions = d; bytes = x })
@@ -69,6 +77,15 @@ NanCases (ArrayValue.Double x) = isNan x ≡ false
 NanCases (ArrayValue.SingleNan bits) = nanBits binary32 bits ≡ true
 NanCases (ArrayValue.DoubleNan bits) = nanBits binary64 bits ≡ true
 NanCases (ArrayValue.Rejected r) = Unit {0}
+
+-- the bits of a value, a whole number's at 64 bits; 0 for a refusal
+abbrev pub bitsOf : ArrayValue → ℕ
+bitsOf (ArrayValue.Whole n) = ofZ w64 n
+bitsOf (ArrayValue.Single x) = toBits binary32 x
+bitsOf (ArrayValue.Double x) = toBits binary64 x
+bitsOf (ArrayValue.SingleNan bits) = bits
+bitsOf (ArrayValue.DoubleNan bits) = bits
+bitsOf (ArrayValue.Rejected r) = 0
 
 abbrev pub usageTells : FaceUsage → Answer ℕ
 usageTells (FaceUsage.Faces n) = answer n

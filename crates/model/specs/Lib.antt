@@ -19,5 +19,6 @@ pub mod Answers
 pub mod Given
 pub mod Reads
 pub mod Demand3
+pub mod ReadList
 pub mod Build
 pub mod Computed

@@ -1,6 +1,7 @@
 // The types that contracts name: a rejection, the answer of each call, a section. What they mean stands in specs/.
 ghost use mathlib.Core.Path.{_≡_};
 ghost use Rattle.model.specs.Rules.{rejection, repetition};
+ghost use Rattle.model.specs.Answers.{rejectionOf};
 
 // Why a call is refused: document 01's rule number, the node (0 where the rule names none) and, for rule 45 alone, the element.
 pub struct Rejection {
@@ -37,6 +38,18 @@ impl Rejection {
 pub enum Stage {
     Pass,
     Rejected(Rejection),
+}
+
+impl Stage {
+    // Why a stage did not pass; no rule where it did.
+    pub fn rejection(self) -> Rejection
+        ensures { λ r. ⌜ r ≡ rejectionOf self ⌝ }
+    {
+        match self {
+            Stage::Rejected(r) => r,
+            Stage::Pass => Rejection::at(0, 0),
+        }
+    }
 }
 
 // Rules 1 to 18: the table's counts.

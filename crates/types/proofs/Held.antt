@@ -1,7 +1,7 @@
 -- What a data type and a shape say of the numbers that a node stores.
 use Prim.Native.Nat.{ℕ, zero, suc, _+_, _*_, _-_, _≤_, _<_}
 use mathlib.Core.Path.{_≡_, refl, sym, ap, _∙_}
-use mathlib.Core.Bool.{Bool, true, false, cond, not, _&&_, _||_}
+use mathlib.Core.Bool.{Bool, true, false, not, _||_}
 use mathlib.Core.List.{List, [], _∷_}
 use native.Mathlib.Omega.{arith}
 use native.Mathlib.Nat.{mul-suc, mul-comm, mul-le-mul-left}
@@ -10,17 +10,16 @@ use lib.Seq.{drop-drop}
 use lib.Dec.{T, eqb}
 use borrow.Author.Tests.{eqb-true}
 use Rattle.model.specs.Lists.{among}
-use Rattle.model.specs.Bytes.{numbers, same}
+use Rattle.model.specs.Bytes.{numbers}
 use Rattle.model.specs.Image.{Tree, treeOf, nodeCount, node, dimensions, dataType, width, widths, stored, dataOffset, I4, I8}
 use Rattle.model.specs.Given.{Sound}
 use Rattle.model.specs.Records.{product, dataSizeLawful, recordRules}
-use Rattle.model.specs.Values.{typed, shaped, flat, size, reads}
+use Rattle.model.specs.Values.{typed, shaped, flat, size}
 use Rattle.model.proofs.Logic.{and-second}
 use Rattle.model.proofs.Accepted.{record-rule}
-use Rattle.model.proofs.Bounds.{node-placed}
 use Rattle.words.specs.Width.{isWidth}
 use Rattle.types.specs.Given.{Has}
-use Rattle.types.proofs.Same.{same-is, same-not, part-length}
+use Rattle.types.proofs.Same.{same-is}
 
 numbers-length : (w n : ℕ) (s : List ℕ) → length (numbers w n s) ≡ n
 unfolding numbers
@@ -41,6 +40,16 @@ module _ (t : Tree) (i : ℕ) where
       by-test : (a : Bool) → (a || false) ≡ true → a ≡ true
       by-test true e = refl
       by-test false e = e
+
+  -- one of four types is one of the first two or one of the others
+  pub four-types : (a b c d : ℕ) → typed t i (a ∷ b ∷ c ∷ d ∷ []) ≡ (typed t i (a ∷ b ∷ []) || typed t i (c ∷ d ∷ []))
+  unfolding typed among
+  four-types a b c d = by-test (eqb (dataType t i) a) (eqb (dataType t i) b) _
+    where
+      by-test : (x y z : Bool) → (x || (y || z)) ≡ ((x || (y || false)) || z)
+      by-test true y z = refl
+      by-test false true z = refl
+      by-test false false z = refl
 
   -- an I4 is 4 bytes wide, an I4 or I8 is 4 or 8 wide
   pub four-wide : typed t i (I4 ∷ []) ≡ true → width t i ≡ 4
@@ -72,6 +81,10 @@ module _ (t : Tree) (i : ℕ) where
       single (x ∷ []) h = refl
       single (x ∷ y ∷ l) h = absurd (omega arith)
 
+pub or-none : (a : Bool) → (a || false) ≡ a
+or-none true = refl
+or-none false = refl
+
 -- rule 16: as many bytes as the numbers take
 pub bytes-are : (b : List ℕ) → Sound b → (i : ℕ) → i < nodeCount b → (sizes : List ℕ) → dimensions (treeOf b) i ≡ sizes
     → node (treeOf b) i .dataSize ≡ product sizes * width (treeOf b) i
@@ -81,27 +94,9 @@ bytes-are b s i h sizes e =
     sym (eqb-true _ _ (and-second (not (among 0 (dimensions (treeOf b) i))) _ r)) ∙ ap (λ (l : List ℕ). product l * width (treeOf b) i) e
 
 -- the data bytes of a node, in the image
-module _ (b : List ℕ) (s : Sound b) (i : ℕ) (h : i < nodeCount b) where
-  stored-is : stored (treeOf b) i ≡ take (node (treeOf b) i .dataSize) (drop (treeOf b .areaAt + node (treeOf b) i .dataAt) b)
-  unfolding stored treeOf
-  stored-is = ap (take (node (treeOf b) i .dataSize)) (drop-drop (node (treeOf b) i .dataAt) (dataOffset b) b)
-
-  stored-length : length (stored (treeOf b) i) ≡ node (treeOf b) i .dataSize
-  unfolding treeOf
-  stored-length =
-      let p = node-placed b (s .table) i h in
-      let l = s .laid in
-      ap length stored-is ∙ part-length b (dataOffset b + node (treeOf b) i .dataAt) (node (treeOf b) i .dataSize) (omega arith)
-
-  -- a text of another length; a text of that length
-  pub reads-not : (u : List ℕ) → (node (treeOf b) i .dataSize ≡ length u → ⊥) → false ≡ reads (treeOf b) i u
-  unfolding reads
-  reads-not u n = sym (same-not (stored (treeOf b) i) u (λ e. n (sym stored-length ∙ e)))
-
-  pub reads-is : (u : List ℕ) → node (treeOf b) i .dataSize ≡ length u
-      → same (take (length u) (drop (treeOf b .areaAt + node (treeOf b) i .dataAt) b)) u ≡ reads (treeOf b) i u
-  unfolding reads
-  reads-is u e = rw (stored-is, e)
+pub stored-is : (b : List ℕ) (i : ℕ) → stored (treeOf b) i ≡ take (node (treeOf b) i .dataSize) (drop (treeOf b .areaAt + node (treeOf b) i .dataAt) b)
+unfolding stored treeOf
+stored-is b i = ap (take (node (treeOf b) i .dataSize)) (drop-drop (node (treeOf b) i .dataAt) (dataOffset b) b)
 
 -- which numbers can be read
 scaled : (w k n : ℕ) → k < n → w * k + w ≤ n * w

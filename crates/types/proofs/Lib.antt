@@ -1,4 +1,4 @@
 pub mod Same
 pub mod Held
-pub mod Joins
-pub mod Loops
+pub mod Missing
+pub mod Roles

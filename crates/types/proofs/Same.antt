@@ -1,12 +1,11 @@
 -- Two lists of bytes, or of numbers, as a loop compares them.
-use Prim.Native.Nat.{ℕ, zero, suc, _+_, _-_, _≤_, _<_}
+use Prim.Native.Nat.{ℕ, suc, _+_, _-_, _≤_, _<_}
 use mathlib.Core.Path.{_≡_, refl, sym, ap, _∙_}
 use mathlib.Core.Bool.{Bool, true, false, _&&_}
 use mathlib.Core.List.{List, [], _∷_}
-use native.Mathlib.Omega.{arith}
 use native.Mathlib.Numerals.{add-one}
-use lib.ListN.{length, getD, take, drop, drop-of-length-le, length-drop}
-use lib.Seq.{drop-cons, length-take-le, getD-take, getD-drop}
+use lib.ListN.{length, getD, take, drop, drop-of-length-le}
+use lib.Seq.{drop-cons, length-take-le, getD-take}
 use lib.Dec.{eqb}
 use borrow.Author.Tests.{eqb-true, eq-eqb, ne-eqb}
 use Rattle.model.specs.Bytes.{same}
@@ -47,27 +46,6 @@ module _ (s u : List ℕ) (k : ℕ) where
   pub same-end : length s ≤ k → length u ≤ k → true ≡ same (drop k s) (drop k u)
   unfolding same
   same-end h l = rw (drop-of-length-le s h, drop-of-length-le u l)
-
--- n bytes from a place on
-pub part-length : (b : List ℕ) (at n : ℕ) → at + n ≤ length b → length (take n (drop at b)) ≡ n
-part-length b at n h = length-take-le n (drop at b) (rw length-drop (omega arith))
-
-pub part-at : (b : List ℕ) (at n k : ℕ) → k < n → getD (take n (drop at b)) k 0 ≡ getD b (at + k) 0
-part-at b at n k h = rw (getD-take, getD-drop)
-
--- a text against the bytes from a place on, at its byte k
-module _ (b u : List ℕ) (at k : ℕ) (fits : at + length u ≤ length b) where
-  pub text-on : k < length u → getD b (at + k) 0 ≡ getD u k 0
-      → same (drop (k + 1) (take (length u) (drop at b))) (drop (k + 1) u) ≡ same (drop k (take (length u) (drop at b))) (drop k u)
-  text-on h e =
-      same-on (take (length u) (drop at b)) u k (rw (part-length b at (length u) fits) h) h (part-at b at (length u) k h ∙ e)
-
-  pub text-off : k < length u → (getD b (at + k) 0 ≡ getD u k 0 → ⊥) → false ≡ same (drop k (take (length u) (drop at b))) (drop k u)
-  text-off h n =
-      same-off (take (length u) (drop at b)) u k (rw (part-length b at (length u) fits) h) h (λ e. n (sym (part-at b at (length u) k h) ∙ e))
-
-  pub text-end : length u ≤ k → true ≡ same (drop k (take (length u) (drop at b))) (drop k u)
-  text-end h = same-end (take (length u) (drop at b)) u k (rw (part-length b at (length u) fits) h) h
 
 -- the first n of some numbers
 module _ (s u : List ℕ) (n k : ℕ) (e : length s ≡ n) (l : n ≤ length u) where

@@ -27,5 +27,4 @@ pub record Based (b : List ℕ) (z : ℕ) : Type 0 where
 pub record Ready (b : List ℕ) (i : ℕ) : Type 0 where
   pub inside : i < nodeCount b
   pub zone : role (treeOf b) i ≡ Zone → Based b i
-  pub above : role (treeOf b) i ≡ Rind → parent (treeOf b) i < nodeCount b
   pub rind : role (treeOf b) i ≡ Rind → Based b (zoneAbove (treeOf b) i)

@@ -1,9 +1,9 @@
 -- Laws of two's complement and of the magnitude, over half the patterns and over the width.
 use mathlib.Core.Path.{_≡_, refl, ap, sym, _∙_}
 use mathlib.Core.Bool.{Bool, true, false, cond}
-use Prim.Native.Nat.{ℕ, zero, suc, _+_, _*_, _-_, _^_, _≤_, _<_}
+use Prim.Native.Nat.{ℕ, zero, suc, _+_, _*_, _-_, _%_, _^_, _≤_, _<_}
 use native.Mathlib.Omega.{arith}
-use borrow.Author.Tests.{lt-leb, le-leb, le-ltb, ne-eqb, ltb-true, leb-true, leb-false}
+use borrow.Author.Tests.{lt-leb, le-leb, lt-ltb, le-ltb, ne-eqb, ltb-true, leb-true, leb-false}
 use lib.IntN.{ℤ, pos, negsuc, natAbs, _-ℤ_}
 use lib.Signed.{ltZ, mag, nonNeg}
 use lib.Dec.{T, ltb, leb, eqb, eqb→eq}
@@ -89,3 +89,28 @@ fits32 x h = by-test (leb (half 4) x) refl
     by-test : (t : Bool) → leb (half 4) x ≡ t → SFits w32 (cond t (negsuc (2 * half 4 - suc x)) (pos x))
     by-test true e = record { sfits = omega (arith, leb-true (half 4) x e) }
     by-test false e = record { sfits = leb-false _ _ e }
+
+-- the upper half of 2 ^ 32 patterns moved below 0
+module _ (x : ℕ) (l : x < 4294967296) where
+  pub extended : toZ w64 ((x + 2147483648) % 4294967296) -ℤ pos 2147483648 ≡ twos 2147483648 x
+  unfolding twos
+  extended = ap (λ z. z -ℤ pos 2147483648) (toZ-pos w64 {n = (x + 2147483648) % 4294967296} (omega arith)) ∙ by-test (leb 2147483648 x) refl
+    where
+      by-test : (t : Bool) → leb 2147483648 x ≡ t
+          → pos ((x + 2147483648) % 4294967296) -ℤ pos 2147483648 ≡ cond t (negsuc (2147483648 + 2147483648 - suc x)) (pos x)
+      by-test true e =
+          let h = leb-true 2147483648 x e in
+          let m : (x + 2147483648) % 4294967296 ≡ x - 2147483648 = omega arith in
+          rw (m, lt-ltb (x - 2147483648) 2147483648 (omega arith)) (ap negsuc (omega arith))
+      by-test false e =
+          let h = leb-false 2147483648 x e in
+          let m : (x + 2147483648) % 4294967296 ≡ x + 2147483648 = omega arith in
+          rw (m, le-ltb (x + 2147483648) 2147483648 (omega arith)) (ap pos (omega arith))
+
+  pub extended-fits : SFits w64 (twos 2147483648 x)
+  unfolding twos
+  extended-fits = by-test (leb 2147483648 x) refl
+    where
+      by-test : (t : Bool) → leb 2147483648 x ≡ t → SFits w64 (cond t (negsuc (2147483648 + 2147483648 - suc x)) (pos x))
+      by-test true e = record { sfits = omega (arith, leb-true 2147483648 x e) }
+      by-test false e = record { sfits = omega (arith, leb-false 2147483648 x e) }

@@ -63,13 +63,21 @@ fn twos_complement(x: u64, half: u64) -> i64
     }
 }
 
+// The same of 32 bits, with no branch: the upper half of the patterns moves below 0.
+fn sign_extended(x: u64) -> i64
+    requires { ⌜ x < 4294967296 ⌝ }
+    ensures { λ r. ⌜ r ≡ twos 2147483648 x ⌝ }
+{
+    ((x + 2147483648) % 4294967296) as i64 - 2147483648
+}
+
 // The signed number in `width` bytes from `at`, 4 or 8.
 pub fn signed_at(s: &[u8], at: usize, width: usize) -> i64
     requires { ⌜ (T (isWidth width)) × (at + width ≤ length (now s)) ⌝ }
     ensures { λ r. ⌜ r ≡ signed width (le width (drop at (now (s .entry)))) ⌝ }
 {
     if width == 4 {
-        twos_complement(u32_at(s, at), 2147483648)
+        sign_extended(u32_at(s, at))
     } else {
         twos_complement(u64_at(s, at), 9223372036854775808)
     }

@@ -4,7 +4,8 @@ use Prim.Native.Nat.{_-_}
 use native.Mathlib.Omega.{arith}
 use borrow.Author.Needs.{needs}
 use borrow.Author.Tests.{not-true, not-false}
-use Rattle.elements.proofs.Rows.{Rising, rising-start, rising-on, rising-off, done}
+use Rattle.model.proofs.Loops.{every-done}
+use Rattle.elements.proofs.Rows.{Rising, rising-start, rising-on, rising-off}
 use Rattle.elements.proofs.arrays.all_rise.Statement.{statement}
 use Rattle.elements.proofs.arrays.all_rise.Tie as tie
 
@@ -26,7 +27,7 @@ loop-again c =
     rising-on (c .before .before .before .before .loop .inv) (c .before .before .number-at .ensures) (omega arith) (sym (c .before .rises .ensures) ∙ not-false _ (c .if1 .left))
 
 returns-2 : tie.Need-returns-2 Inv-loop μ-loop
-returns-2 c = done (c .before .loop .inv .left) (omega arith)
+returns-2 c = every-done (c .before .loop .inv .left) (omega arith)
 
 pub all-rise-spec : {M : Type 1} → statement M
 all-rise-spec = tie.close (tie.spec Inv-loop μ-loop loop-holds (search needs) (search needs) (λ c κs. search needs)

@@ -1,5 +1,3 @@
-use native.Mathlib.Omega.{arith}
-use borrow.Author.Needs.{needs}
 use Rattle.model.specs.Bytes.{half}
 use Rattle.words.proofs.Signed.{eight}
 use Rattle.elements.proofs.arrays.half_of.Statement.{statement}

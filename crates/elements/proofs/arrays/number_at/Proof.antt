@@ -1,6 +1,5 @@
 -- Each width's branch reads a word of that width, which lies inside the bytes.
 use native.Mathlib.Omega.{arith}
-use borrow.Author.Needs.{needs}
 use Rattle.model.specs.Corner.{numberAt}
 use Rattle.words.proofs.Signed.{eight}
 use Rattle.elements.proofs.Rows.{room}

@@ -1,5 +1,3 @@
-use native.Mathlib.Omega.{arith}
-use borrow.Author.Needs.{needs}
 use borrow.Author.Tests.{eq-eqb, ne-eqb}
 use Rattle.model.specs.Elements.{hasOffsets}
 use Rattle.elements.proofs.element_types.has_offsets.Statement.{statement}

@@ -3,27 +3,28 @@ use Prim.Native.Nat.{_-_}
 use native.Mathlib.Omega.{arith}
 use borrow.Author.Needs.{needs}
 use Rattle.elements.specs.Arrays.{holds}
-use Rattle.elements.proofs.Seeks.{Sought, seek-start, seek-on, seek-here, seek-none}
+use Rattle.model.specs.Lists.{seekFrom}
+use Rattle.model.proofs.Loops.{SeekLeft, seek-start, seek-more, seek-stop, seek-done}
 use Rattle.elements.proofs.ranges.first_range.Statement.{statement}
 use Rattle.elements.proofs.ranges.first_range.Tie as tie
 
 abbrev Inv-loop : tie.InvT-loop
-Inv-loop firsts lasts count f j₀ j = Sought (holds firsts lasts f) count j
+Inv-loop firsts lasts count f j₀ j = SeekLeft (holds firsts lasts f) count j (seekFrom (holds firsts lasts f) count 0)
 
 abbrev μ-loop : tie.MeasureT-loop
 μ-loop firsts lasts count f j₀ j = count - j
 
 loop-holds : tie.Need-loop-holds Inv-loop μ-loop
-loop-holds c = seek-start
+loop-holds c = seek-start _ _ 0 (omega arith) (λ j h. absurd (omega arith))
 
 returns : tie.Need-returns Inv-loop μ-loop
-returns c = seek-here (c .before .before .before .loop .inv) (omega arith) (sym (c .before .holds .ensures) ∙ c .if1 .taken)
+returns c = seek-stop (c .before .before .before .loop .inv) (omega arith) (sym (c .before .holds .ensures) ∙ c .if1 .taken)
 
 loop-again : tie.Need-loop-again Inv-loop μ-loop
-loop-again c = seek-on (c .before .before .before .loop .inv) (omega arith) (sym (c .before .holds .ensures) ∙ c .if1 .left)
+loop-again c = seek-more (c .before .before .before .loop .inv) (omega arith) (sym (c .before .holds .ensures) ∙ c .if1 .left)
 
 returns-2 : tie.Need-returns-2 Inv-loop μ-loop
-returns-2 c = seek-none (c .before .loop .inv) (omega arith)
+returns-2 c = seek-done (c .before .loop .inv) (omega arith)
 
 pub first-range-spec : {M : Type 1} → statement M
 first-range-spec = tie.close (tie.spec Inv-loop μ-loop loop-holds (search needs) returns (search needs) (search needs)

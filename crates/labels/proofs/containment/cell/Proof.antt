@@ -1,3 +1,4 @@
+-- The table is what the placing table and the fixed names give, cell by cell.
 use mathlib.Core.Path.{_≡_, _∙_}
 use Rattle.model.specs.Lists.{among, row}
 use Rattle.model.specs.Bytes.{spells, blank, text, placeFrom}

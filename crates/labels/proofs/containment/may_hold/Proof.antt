@@ -1,3 +1,4 @@
+-- A dot.
 use Rattle.labels.proofs.Grid.{cell-held}
 use native.Mathlib.Omega.{arith}
 use borrow.Author.Needs.{needs}

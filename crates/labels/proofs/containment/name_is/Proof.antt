@@ -1,3 +1,4 @@
+-- A row of the table of fixed names.
 use Rattle.labels.proofs.Known.{fixed-short}
 use mathlib.Core.Path.{_≡_, _∙_}
 use Rattle.model.specs.Bytes.{text}

@@ -1,3 +1,4 @@
+-- The cell tells the fixed name; the root has none.
 use Prim.Native.Nat.{ℕ, _-_}
 use mathlib.Core.Path.{_≡_, ap, _∙_}
 use mathlib.Core.List.{List, []}

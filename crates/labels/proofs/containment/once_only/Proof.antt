@@ -1,3 +1,4 @@
+-- One number of the list after the other.
 use Rattle.model.specs.Containment.{onceOnly}
 use Rattle.labels.proofs.Kin.{among-here, among-later, among-last}
 use native.Mathlib.Omega.{arith}

@@ -1,3 +1,4 @@
+-- No node up to the parent is a sibling, so the search starts after it.
 use Prim.Native.Nat.{_-_}
 use mathlib.Core.Path.{_≡_, sym, _∙_}
 use borrow.Author.Tests.{not-true, not-false}
@@ -32,13 +33,13 @@ returns-2 c =
     let l = c .before .before .before in
     let o = l .before .before .before in
     is-second _ _ (o .before .role-of .ensures .0) (sym (o .once-only .ensures) ∙ not-false _ (l .before .before .if1 .left))
-    (some-stop (l .loop .inv) (omega arith) (kin-told _ _ _ (l .before .parent-of .ensures .0) (o .before .role-of .ensures .0) (c .before .is-kin .ensures) (c .if2 .taken)))
+    (some-stop (l .loop .inv) (omega arith) (kin-told _ _ _ (l .before .parent-of .ensures .0) (o .before .role-of .ensures .0) (c .before .is-child-as .ensures) (c .if2 .taken)))
 
 loop-again : tie.Need-loop-again Inv-loop μ-loop
 loop-again c =
     let l = c .before .before .before in
     let o = l .before .before .before in
-    some-more (l .loop .inv) (omega arith) (kin-told _ _ _ (l .before .parent-of .ensures .0) (o .before .role-of .ensures .0) (c .before .is-kin .ensures) (c .if2 .left))
+    some-more (l .loop .inv) (omega arith) (kin-told _ _ _ (l .before .parent-of .ensures .0) (o .before .role-of .ensures .0) (c .before .is-child-as .ensures) (c .if2 .left))
 
 returns-3 : tie.Need-returns-3 Inv-loop μ-loop
 returns-3 c =

@@ -1,3 +1,4 @@
+-- The search for the label among the known ones, one after the other.
 use Prim.Native.Nat.{_-_}
 use mathlib.Core.Path.{_≡_, sym, _∙_}
 use lib.ListN.{take, drop}

@@ -1,3 +1,4 @@
+-- The bytes against so many blanks.
 use Prim.Native.Nat.{_-_}
 use mathlib.Core.Path.{_≡_, sym, _∙_}
 use lib.ListN.{take, drop, replicate, length-replicate, length-drop}

@@ -1,3 +1,4 @@
+-- Byte by byte; texts of different lengths differ.
 use native.Mathlib.Nat.{zero-add}
 use Prim.Native.Nat.{_-_}
 use mathlib.Core.Path.{_≡_, sym, _∙_}

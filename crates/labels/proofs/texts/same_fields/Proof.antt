@@ -1,3 +1,4 @@
+-- Word by word: what is left gives the whole.
 use Prim.Native.Nat.{_+_, _*_, _-_}
 use mathlib.Core.Path.{_≡_, sym, _∙_}
 use Rattle.labels.proofs.Fields.{Same, same-start, same-more-word, same-stop-word, same-done}

@@ -1,3 +1,4 @@
+-- The text, then blanks.
 use mathlib.Core.Path.{_≡_, sym, _∙_}
 use Rattle.model.proofs.Joins.{and-on, and-done}
 use borrow.Author.Tests.{not-true, not-false}

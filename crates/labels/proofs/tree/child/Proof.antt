@@ -1,3 +1,4 @@
+-- No node up to i is a child of i, so the search starts after it.
 use Prim.Native.Nat.{_-_}
 use mathlib.Core.Path.{_≡_, sym, _∙_}
 use Rattle.model.specs.Image.{treeOf, nodeCount}

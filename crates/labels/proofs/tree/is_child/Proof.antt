@@ -1,3 +1,4 @@
+-- The parent decides, then the role, then the name.
 use Prim.Native.Nat.{ℕ}
 use mathlib.Core.Path.{_≡_, ap, _∙_}
 use mathlib.Core.List.{List}

@@ -1,3 +1,4 @@
+-- A number past the last node is no zone.
 use Rattle.labels.proofs.Kin.{some-node, no-node}
 use native.Mathlib.Omega.{arith}
 use borrow.Author.Needs.{needs}

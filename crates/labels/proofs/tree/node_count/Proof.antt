@@ -1,3 +1,4 @@
+-- The header's third word.
 use mathlib.Core.Path.{_≡_, _∙_}
 use Rattle.model.specs.Image.{nodeCount}
 use Rattle.labels.proofs.Kin.{count-at}

@@ -1,3 +1,4 @@
+-- The parent decides, then what it is validated as.
 use Rattle.model.specs.Containment.{sectionOf}
 use Rattle.labels.proofs.Kin.{unlike, alike}
 use native.Mathlib.Omega.{arith}

@@ -1,3 +1,4 @@
+-- The node number falls at each step up.
 use Rattle.labels.proofs.Climbing.{Climb, climb-start, climb-root, climb-unknown, climb-falls, climb-foreign, climb-more}
 use native.Mathlib.Omega.{arith}
 use borrow.Author.Needs.{needs}

@@ -1,3 +1,4 @@
+-- The role decides, then the way up.
 use Rattle.model.specs.Containment.{validatedAs}
 use Rattle.labels.proofs.Kin.{unlike, alike}
 use native.Mathlib.Omega.{arith}

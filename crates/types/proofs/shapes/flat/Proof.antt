@@ -1,5 +1,4 @@
 use mathlib.Core.Path.{ap}
-use lib.Dec.{eqb}
 use borrow.Author.Needs.{needs}
 use Rattle.model.specs.Values.{flat}
 use Rattle.types.proofs.Held.{rank-is}

@@ -1,6 +1,7 @@
+use mathlib.Core.Path.{_∙_}
 use borrow.Author.Needs.{needs}
 use Rattle.model.specs.Values.{zoneTypeShape}
-use Rattle.types.proofs.Joins.{and-done, and-on}
+use Rattle.model.proofs.Joins.{and-done, and-on}
 use Rattle.types.proofs.shapes.text_shape.Statement.{statement}
 use Rattle.types.proofs.shapes.text_shape.Tie as tie
 
@@ -10,7 +11,7 @@ returns c = and-on (c .before .before .typed .ensures) (c .before .if1 .taken) (
 
 returns-2 : tie.Need-returns-2
 unfolding zoneTypeShape
-returns-2 c = and-done _ (c .before .typed .ensures) (c .if1 .left)
+returns-2 c = (c .if1 .left) ∙ and-done _ (c .before .typed .ensures) (c .if1 .left)
 
 pub text-shape-spec : {M : Type 1} → statement M
 text-shape-spec = tie.close (tie.spec (search needs) (search needs) returns returns-2)

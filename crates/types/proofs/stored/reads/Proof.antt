@@ -1,33 +1,23 @@
--- The bytes are compared where the node has as many as the text.
 use native.Mathlib.Omega.{arith}
-use mathlib.Core.Path.{_≡_, sym, ap, _∙_}
+use mathlib.Core.Path.{_≡_, ap}
 use borrow.Author.Needs.{needs}
 use Rattle.model.specs.Image.{treeOf, node}
-use Rattle.types.proofs.Held.{reads-not, reads-is}
+use Rattle.model.specs.Values.{reads}
+use Rattle.types.proofs.Held.{stored-is}
 use Rattle.types.proofs.stored.reads.Statement.{statement}
 use Rattle.types.proofs.stored.reads.Tie as tie
 
-returns : tie.Need-returns
-returns c =
-    let d = c .before .before in
-    let a = d .before .before .before .args in
-    let e : d .read .result .«data_size» ≡ node (treeOf (a .image .now)) (a .i) .dataSize = ap (λ r. r .«data_size») (d .read .ensures) in
-    reads-not (a .image .now) (search needs) (a .i) (search needs) (a .text .now) (λ l. c .if1 .taken (e ∙ l))
-
-starts-requires : tie.Need-starts-requires
-starts-requires c κs =
-    let d = c .before .before .before in
-    let a = d .before .before .before .args in
-    let e : d .read .result .«data_size» ≡ node (treeOf (a .image .now)) (a .i) .dataSize = ap (λ r. r .«data_size») (d .read .ensures) in
+same-at-requires : tie.Need-same-at-requires
+same-at-requires c κs =
+    let a = c .before .before .before .before .args in
+    let e : c .read .result .«data_size» ≡ node (treeOf (a .image .now)) (a .i) .dataSize = ap (λ r. r .«data_size») (c .read .ensures) in
     omega arith
 
-returns-2 : tie.Need-returns-2
-returns-2 c =
-    let d = c .before .before .before .before in
-    let a = d .before .before .before .args in
-    let e : d .read .result .«data_size» ≡ node (treeOf (a .image .now)) (a .i) .dataSize = ap (λ r. r .«data_size») (d .read .ensures) in
-    rw (c .before .data-start .ensures .0) at (c .starts .ensures)
-    ∙ reads-is (a .image .now) (search needs) (a .i) (search needs) (a .text .now) (sym e ∙ c .before .before .if1 .left)
+returns : tie.Need-returns
+unfolding reads
+returns c =
+    rw (stored-is _ _)
+    (rw (c .before .before .data-start .ensures .0, ap (λ r. r .«data_size») (c .before .read .ensures)) at (c .same-at .ensures))
 
 pub reads-spec : {M : Type 1} → statement M
-reads-spec = tie.close (tie.spec (search needs) returns (λ c κs. search needs) starts-requires returns-2)
+reads-spec = tie.close (tie.spec (λ c κs. search needs) (search needs) same-at-requires returns)

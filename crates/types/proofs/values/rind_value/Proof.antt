@@ -1,22 +1,19 @@
 -- What is left of the numbers decides.
-use native.Mathlib.Omega.{arith}
-use Prim.Native.Nat.{_≤_, _<_, _-_}
-use mathlib.Core.Path.{_≡_, refl, sym, ap, _∙_}
+use Prim.Native.Nat.{_-_}
+use mathlib.Core.Path.{_≡_, sym, ap, _∙_}
 use lib.ListN.{length}
 use borrow.Author.Needs.{needs}
 use borrow.Author.Tests.{not-true, not-false}
-use Rattle.model.specs.Lists.{everyFrom}
 use Rattle.model.specs.Image.{treeOf, node}
 use Rattle.model.specs.Values.{rindValue, notNegative, size}
 use Rattle.model.proofs.Bounds.{node-placed}
 use Rattle.types.proofs.Held.{rank-is, flat-is, whole-four, has-flat}
-use Rattle.types.proofs.Loops.{every-on, every-off, every-end}
+use Rattle.model.proofs.Loops.{EveryLeft, every-start, every-more, every-stop, every-done}
 use Rattle.types.proofs.values.rind_value.Statement.{statement}
 use Rattle.types.proofs.values.rind_value.Tie as tie
 
 abbrev Inv-loop : tie.InvT-loop
-Inv-loop image i n k₀ k =
-    ((k ≤ n) × (n ≡ size (treeOf image) i)) × (everyFrom (notNegative (treeOf image) i) (n - k) k ≡ rindValue (treeOf image) i)
+Inv-loop image i n k₀ k = (n ≡ size (treeOf image) i) × EveryLeft (notNegative (treeOf image) i) n k (rindValue (treeOf image) i)
 
 abbrev μ-loop : tie.MeasureT-loop
 μ-loop image i n k₀ k = n - k
@@ -30,11 +27,7 @@ dimension-requires c κs =
 
 loop-holds : tie.Need-loop-holds Inv-loop μ-loop
 unfolding rindValue size
-loop-holds c =
-    let a = c .before .before .args in
-    let e : c .dimension .result ≡ size (treeOf (a .image .now)) (a .i) = c .dimension .ensures in
-    let z : c .dimension .result - 0 ≡ size (treeOf (a .image .now)) (a .i) = omega arith in
-    ((search needs, e), ap (λ m. everyFrom (notNegative (treeOf (a .image .now)) (a .i)) m 0) z)
+loop-holds c = (c .dimension .ensures, rw (← c .dimension .ensures) (every-start _ _))
 
 not-negative-requires : tie.Need-not-negative-requires Inv-loop μ-loop
 not-negative-requires c κs =
@@ -44,18 +37,15 @@ not-negative-requires c κs =
 
 returns : tie.Need-returns Inv-loop μ-loop
 returns c =
-    let l = c .before .before .before in
-    every-off _ _ (l .loop .k) (c .before .before .loop-test .taken) (sym (c .before .not-negative .ensures) ∙ not-true _ (c .if1 .taken)) ∙ l .loop .inv .1
+    every-stop (c .before .before .before .loop .inv .1) (c .before .before .loop-test .taken) (sym (c .before .not-negative .ensures) ∙ not-true _ (c .if1 .taken))
 
 loop-again : tie.Need-loop-again Inv-loop μ-loop
 loop-again c =
-    let l = c .before .before .before in (
-      (search needs, l .loop .inv .0 .1),
-      every-on _ _ (l .loop .k) (c .before .before .loop-test .taken) (sym (c .before .not-negative .ensures) ∙ not-false _ (c .if1 .left)) ∙ l .loop .inv .1,
-    )
+    let l = c .before .before .before in
+    (l .loop .inv .0, every-more (l .loop .inv .1) (c .before .before .loop-test .taken) (sym (c .before .not-negative .ensures) ∙ not-false _ (c .if1 .left)))
 
 returns-2 : tie.Need-returns-2 Inv-loop μ-loop
-returns-2 c = every-end _ _ (c .before .loop .k) (c .loop-test .left) ∙ c .before .loop .inv .1
+returns-2 c = every-done (c .before .loop .inv .1) (c .loop-test .left)
 
 pub rind-value-spec : {M : Type 1} → statement M
 rind-value-spec = tie.close (tie.spec Inv-loop μ-loop dimension-requires loop-holds not-negative-requires returns (search needs) (search needs) loop-again returns-2)

@@ -1,0 +1,5 @@
+pub mod Widths
+pub mod Ranges
+pub mod Outcomes
+pub mod Written
+pub mod AnsweredRun

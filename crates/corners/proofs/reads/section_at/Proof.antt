@@ -1,0 +1,16 @@
+use mathlib.Core.Path.{refl}
+use borrow.Author.Needs.{needs}
+use Rattle.model.specs.Reads.{sectionAt}
+use Rattle.corners.proofs.reads.section_at.Statement.{statement}
+use Rattle.corners.proofs.reads.section_at.Tie as tie
+
+returns : tie.Need-returns
+unfolding sectionAt
+returns c = refl
+
+pub section-at-spec : {M : Type 1} → statement M
+section-at-spec = tie.close (tie.spec (search needs) (search needs) (search needs) (search needs) (search needs)
+    (search needs) (search needs) (search needs) (search needs) (search needs) (search needs) (search needs)
+    (search needs) (search needs) (search needs) (search needs) (search needs) (search needs) (search needs)
+    (search needs) (search needs) (search needs) (search needs) (search needs) (search needs) (search needs)
+    (search needs) returns)

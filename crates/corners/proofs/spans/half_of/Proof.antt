@@ -1,0 +1,15 @@
+use Rattle.model.specs.Bytes.{half}
+use Rattle.words.proofs.Signed.{eight}
+use Rattle.corners.proofs.spans.half_of.Statement.{statement}
+use Rattle.corners.proofs.spans.half_of.Tie as tie
+
+returns : tie.Need-returns
+unfolding half
+returns c = rw (c .if1 .taken)
+
+returns-2 : tie.Need-returns-2
+unfolding half
+returns-2 c = rw (eight _ (c .before .pre) (c .if1 .left))
+
+pub half-of-spec : {M : Type 1} → statement M
+half-of-spec = tie.close (tie.spec returns returns-2)

@@ -1,0 +1,55 @@
+-- Where an element's corners stand in its section's connectivity, as the reader finds it out.
+use Prim.Native.Nat.{ℕ, suc, _+_, _*_, _-_, _≤_, _<_}
+use mathlib.Core.Path.{_≡_}
+use mathlib.Core.Bool.{Bool, true, false, not, _&&_}
+use mathlib.Core.List.{List, [], _∷_}
+use lib.Dec.{leb, ltb}
+use lib.IntN.{ℤ}
+use Rattle.model.specs.declared.Section.{Section}
+use Rattle.model.specs.Bytes.{negative, below, signed}
+use Rattle.model.specs.Rules.{_unless_, Answer, check, _gives_}
+use Rattle.model.specs.Corner.{inside, numberAt, entryStart, readable}
+use Rattle.corners.specs.declared.spans.Span.{Span}
+use Rattle.corners.specs.declared.spans.Span.the-variants as Span
+
+-- a span that holds on a condition
+abbrev pub provided : Bool → Span → Span
+provided true s = s
+provided false s = Span.Unreadable
+
+-- an element of a type with a fixed number of nodes
+unfoldable pub fixedSpan : ℕ → ℕ → ℕ → Span
+fixedSpan k nodes length =
+    provided (ltb (k * nodes) (suc k * nodes) && leb (suc k * nodes) length) (Span.Range (k * nodes) (suc k * nodes))
+
+-- an element between two start offsets, as their bits: start is not negative and before end
+unfoldable pub rangeBetween : ℕ → ℕ → ℕ → ℕ → Span
+rangeBetween w start end length =
+    provided ((not (negative w start) && below w start end) && leb end length) (Span.Range start end)
+
+unfoldable pub offsetSpan : List ℕ → ℕ → ℕ → ℕ → ℕ → Span
+offsetSpan b at w k length =
+    provided (inside b at w (k + 2)) (rangeBetween w (numberAt b at w k) (numberAt b at w (suc k)) length)
+
+-- the k-th element of a section, where rule 43 is kept
+unfoldable pub spanOf : List ℕ → Section → ℕ → Span
+spanOf b e k = provided (readable b e k) (Span.Range (entryStart b e k) (entryStart b e (suc k)))
+
+-- a range has a corner, and lies within the connectivity
+abbrev pub SpanIn : ℕ → Span → Type 0
+SpanIn length (Span.Range start end) = (start < end) × (end ≤ length)
+SpanIn length Span.Unreadable = Unit
+
+-- and the connectivity lies in the image
+abbrev pub SpanInside : List ℕ → Section → Span → Type 0
+SpanInside b e (Span.Range start end) =
+    (start < end)
+    × (end ≤ e .«connectivity_length»)
+    × (inside b (e .«connectivity_at») (e .«connectivity_width») (e .«connectivity_length») ≡ true)
+SpanInside b e Span.Unreadable = Unit
+
+-- what is left to check once the element's range is known: 42, and the number
+unfoldable pub cornerIn : List ℕ → Section → ℕ → ℕ → ℕ → Answer ℤ
+cornerIn b e start end corner =
+    check 0 (42 unless (leb 1 corner && leb corner (end - start)) ∷ [])
+    gives signed (e .«connectivity_width») (numberAt b (e .«connectivity_at») (e .«connectivity_width») (start + (corner - 1)))

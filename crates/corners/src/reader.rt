@@ -1,0 +1,50 @@
+// The corner reader: no verdict first, nothing is assumed of the image or of the entry.
+ghost use mathlib.Core.Path.{_≡_};
+ghost use mathlib.Core.Bool.{true};
+ghost use Prim.Native.Nat.{_≤_, _<_};
+ghost use Rattle.model.specs.Corner.{inside};
+ghost use Rattle.model.specs.Answers.{cornerTells};
+ghost use Rattle.model.specs.Reads.{CornerRead};
+ghost use Rattle.corners.specs.Spans.{cornerIn};
+use super::rows::signed_number_at;
+use super::spans::Span;
+use super::spans::element_span;
+use model::Corner;
+use model::Rejection;
+use model::Section;
+
+// A corner, counted from 1, of the element that stands from `start` on and before `end` in the connectivity.
+fn corner_in(image: &[u8], section: Section, start: u64, end: u64, corner: u64) -> Corner
+    requires { ⌜ (start < end) × (end ≤ section .«connectivity_length»)
+        × (inside (now image) (section .«connectivity_at») (section .«connectivity_width») (section .«connectivity_length») ≡ true) ⌝ }
+    ensures { λ r. ⌜ cornerTells r ≡ cornerIn (now (image .entry)) section start end corner ⌝ }
+{
+    if corner < 1 {
+        return Corner::Rejected(Rejection::at(42, 0));
+    }
+    if end - start < corner {
+        return Corner::Rejected(Rejection::at(42, 0));
+    }
+    let at = section.connectivity_at;
+    let width = section.connectivity_width;
+    Corner::Number(signed_number_at(image, at, width, start + (corner - 1)))
+}
+
+// The number stored at an element's corner; 41, then 43, then 42. The image stays as it is.
+pub fn corner(image: &[u8], section: Section, element: u64, corner: u64) -> Corner
+    ensures { λ r. ⌜ CornerRead (now (image .entry)) section element corner r (now (image .exit)) ⌝ }
+{
+    let first = section.first;
+    let last = section.last;
+    if element < first {
+        return Corner::Rejected(Rejection::at(41, 0));
+    }
+    if last < element {
+        return Corner::Rejected(Rejection::at(41, 0));
+    }
+    let span = element_span(image, section, element - first);
+    let Span::Range { start, end } = span else {
+        return Corner::Rejected(Rejection::at(43, 0));
+    };
+    corner_in(image, section, start, end, corner)
+}

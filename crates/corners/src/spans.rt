@@ -1,0 +1,104 @@
+// Where an element's corners stand in its section's connectivity.
+ghost use mathlib.Core.Path.{_≡_};
+ghost use Prim.Native.Nat.{_≤_, _<_, _^_};
+ghost use lib.Dec.{T};
+ghost use Rattle.model.specs.Bytes.{half};
+ghost use Rattle.words.specs.Width.{isWidth};
+ghost use Rattle.corners.specs.Spans.{SpanIn, SpanInside, fixedSpan, rangeBetween, offsetSpan, spanOf};
+use super::rows::inside;
+use super::rows::number_at;
+use element_types::has_offsets;
+use element_types::nodes_per;
+use model::Section;
+
+// From `start` on and before `end`, counted from 0.
+pub enum Span {
+    Range { start: u64, end: u64 },
+    Unreadable,
+}
+
+// The k-th element of a type with `nodes` per element, in a connectivity of `length` numbers.
+fn fixed_span(k: u64, nodes: u64, length: u64) -> Span
+    requires { ⌜ (nodes ≤ 27) × (length < 2 ^ 62) ⌝ }
+    ensures { λ r. ⌜ (r ≡ fixedSpan k nodes length) × SpanIn length r ⌝ }
+{
+    if nodes == 0 {
+        return Span::Unreadable;
+    }
+    // then k * nodes is beyond the length, and perhaps beyond 64 bits
+    if length / 32 < k / 32 * nodes {
+        return Span::Unreadable;
+    }
+    let start = k * nodes;
+    if length < start + nodes {
+        return Span::Unreadable;
+    }
+    Span::Range {
+        start,
+        end: start + nodes,
+    }
+}
+
+// Half of the bit patterns of a width: the others are negative.
+fn half_of(width: u64) -> u64
+    requires { ⌜ T (isWidth width) ⌝ }
+    ensures { λ r. ⌜ r ≡ half width ⌝ }
+{
+    if width == 4 {
+        0x8000_0000
+    } else {
+        0x8000_0000_0000_0000
+    }
+}
+
+// An element from a start offset to the next one, as their bits.
+fn range_between(start: u64, end: u64, width: u64, length: u64) -> Span
+    requires { ⌜ T (isWidth width) ⌝ }
+    ensures { λ r. ⌜ (r ≡ rangeBetween width start end length) × SpanIn length r ⌝ }
+{
+    if half_of(width) <= end {
+        return Span::Unreadable;
+    }
+    if end <= start {
+        return Span::Unreadable;
+    }
+    if length < end {
+        return Span::Unreadable;
+    }
+    Span::Range { start, end }
+}
+
+// The k-th element by its start offsets, in a connectivity of `length` numbers.
+fn offset_span(image: &[u8], at: u64, width: u64, k: u64, length: u64) -> Span
+    ensures { λ r. ⌜ (r ≡ offsetSpan (now (image .entry)) at width k length) × SpanIn length r ⌝ }
+{
+    // no image has so many numbers; below it k + 2 fits in 64 bits
+    if 0x4000_0000_0000_0000 <= k {
+        return Span::Unreadable;
+    }
+    if inside(image, at, width, k + 2) {
+        let start = number_at(image, at, width, k);
+        let end = number_at(image, at, width, k + 1);
+        return range_between(start, end, width, length);
+    }
+    Span::Unreadable
+}
+
+// The k-th element of a section: all that rule 43 asks.
+pub fn element_span(image: &[u8], section: Section, k: u64) -> Span
+    ensures { λ r. ⌜ (r ≡ spanOf (now (image .entry)) section k) × SpanInside (now (image .entry)) section r ⌝ }
+{
+    let length = section.connectivity_length;
+    if inside(
+        image,
+        section.connectivity_at,
+        section.connectivity_width,
+        length,
+    ) {
+        if has_offsets(section.element_type) {
+            return offset_span(image, section.offsets_at, section.offsets_width, k, length);
+        }
+        return fixed_span(k, nodes_per(section.element_type), length);
+    }
+    Span::Unreadable
+}

@@ -1,0 +1,107 @@
+// Answers calls on images, both from standard input: a line a call, in the independent program's words.
+// The input is 64-bit words: of each image its length and the number of calls, then its bytes, then twelve words a call.
+
+mod print;
+
+// Word k of a call: its number, then its arguments.
+fn word(call: &[u8; 96], k: usize) -> u64 {
+    if k < 12 {
+        return words::u64_at(call, 8 * k);
+    }
+    0
+}
+
+// The path call with the first n bytes of a buffer lent.
+fn path_on(image: &[u8], node: u64, out: &mut [u8], n: usize) {
+    if out.len() < n {
+        return;
+    }
+    print::count(paths::path(image, node, &mut out[..n]), b"length ");
+}
+
+// The first n bytes of a buffer.
+fn memory(out: &[u8], n: usize) {
+    if out.len() < n {
+        return;
+    }
+    print::bytes(&out[..n]);
+}
+
+// The path call with room for so many bytes, each 170 before; the memory afterwards.
+fn path_into(image: &[u8], node: u64, room: u64) {
+    let mut out = [170u8; 1024];
+    path_on(image, node, &mut out, room as usize);
+    memory(&out, room as usize);
+}
+
+// Answers one call on an image, and says whether there was one.
+fn one_call(image: &[u8]) -> bool {
+    let mut call = [0u8; 96];
+    let got = io::read_full(0, &mut call);
+    if got < 96 {
+        return false;
+    }
+    let kind = word(&call, 0);
+    let node = word(&call, 1);
+    let number = word(&call, 2);
+    if kind == 2 {
+        print::table(table::check_table(image));
+    }
+    if kind == 3 {
+        path_into(image, node, number);
+    }
+    if kind == 7 {
+        print::value(values::array_value(image, node, number));
+    }
+    io::write_all(1, b"\n");
+    true
+}
+
+// Answers the calls on an image, and says whether all were there.
+fn calls_on(image: &[u8], calls: u64) -> bool {
+    let mut left = calls;
+    while left > 0 && one_call(image) {
+        left -= 1;
+    }
+    left == 0
+}
+
+// Reads n bytes into the buffer; says whether all were there.
+fn read_image(buffer: &mut [u8], n: usize) -> bool {
+    if buffer.len() < n {
+        return false;
+    }
+    let got = io::read_full(0, &mut buffer[..n]);
+    got == n
+}
+
+// Answers the calls on the image of n bytes in the buffer; says whether all were there.
+fn image_in(buffer: &[u8], n: usize, calls: u64) -> bool {
+    if buffer.len() < n {
+        return false;
+    }
+    calls_on(&buffer[..n], calls)
+}
+
+// Reads an image and answers the calls on it; says whether there was one.
+fn one_image() -> bool {
+    let mut head = [0u8; 96];
+    let got = io::read_full(0, &mut head[..16]);
+    if got < 16 {
+        return false;
+    }
+    let length = word(&head, 0) as usize;
+    let calls = word(&head, 1);
+    let mut buffer = io::large_buffer();
+    if read_image(&mut buffer, length) {
+        return image_in(&buffer, length, calls);
+    }
+    false
+}
+
+fn main() {
+    let mut turns: u64 = 1000000;
+    while turns > 0 && one_image() {
+        turns -= 1;
+    }
+}

@@ -1,0 +1,103 @@
+// Answers as lines of text, in the independent program's words.
+ghost use Rattle.model.specs.Answers.{NanCases};
+use model::ArrayValue;
+use model::Count;
+use model::Rejection;
+use model::Table;
+
+// `refuse`, the rule and the node, and of 45 the element.
+fn refusal(r: Rejection) {
+    io::write_all(1, b"refuse ");
+    io::print_decimal(1, r.rule);
+    io::write_all(1, b" ");
+    io::print_decimal(1, r.node);
+    if r.rule == 45 {
+        io::write_all(1, b" ");
+        io::print_decimal(1, r.element);
+    }
+}
+
+// A word and a number.
+fn pair(word: &[u8], x: u64) {
+    io::write_all(1, word);
+    io::print_decimal(1, x);
+}
+
+// A signed number.
+fn signed(x: i64) {
+    if x < 0 {
+        io::write_all(1, b"-");
+    }
+    io::print_decimal(1, words::magnitude64(x));
+}
+
+// The bits of a single.
+fn single(bits: u32) {
+    pair(b"single ", bits as u64);
+}
+
+// The bytes of lent memory, after `room`.
+pub fn bytes(out: &[u8]) {
+    io::write_all(1, b" room");
+    each_byte(out);
+}
+
+fn each_byte(out: &[u8]) {
+    let mut k = 0;
+    while k < out.len() {
+        pair(b" ", words::byte_at(out, k));
+        k += 1;
+    }
+}
+
+pub fn table(t: Table) {
+    match t {
+        Table::Sound {
+            nodes,
+            dimensions: _,
+            bytes: _,
+        } => {
+            pair(b"accept ", nodes);
+        }
+        Table::Rejected(r) => {
+            refusal(r);
+        }
+    }
+}
+
+pub fn count(c: Count, word: &[u8]) {
+    match c {
+        Count::Of(n) => {
+            pair(word, n);
+        }
+        Count::Rejected(r) => {
+            refusal(r);
+        }
+    }
+}
+
+pub fn value(v: ArrayValue)
+    requires { ⌜ NanCases v ⌝ }
+{
+    match v {
+        ArrayValue::Whole(n) => {
+            io::write_all(1, b"whole ");
+            signed(n);
+        }
+        ArrayValue::Single(x) => {
+            single(f32::to_bits(x));
+        }
+        ArrayValue::Double(x) => {
+            pair(b"double ", f64::to_bits(x));
+        }
+        ArrayValue::SingleNan(b) => {
+            single(b);
+        }
+        ArrayValue::DoubleNan(b) => {
+            pair(b"double ", b);
+        }
+        ArrayValue::Rejected(r) => {
+            refusal(r);
+        }
+    }
+}

@@ -1,0 +1,50 @@
+// Element types by their number: nodes per element, and which types are taken.
+ghost use mathlib.Core.Path.{_≡_};
+ghost use Prim.Native.Nat.{_≤_};
+ghost use Rattle.model.specs.Elements.{nodesPer, hasOffsets, taken};
+
+pub const NGON: u64 = 22;
+
+pub const NFACE: u64 = 23;
+
+// Nodes per element of a type; 0 for a type with no fixed number.
+pub fn nodes_per(element_type: u64) -> u64
+    ensures { λ r. ⌜ (r ≡ nodesPer «element_type») × (r ≤ 27) ⌝ }
+{
+    match element_type {
+        2 => 1,
+        3 => 2,
+        4 => 3,
+        5 => 3,
+        6 => 6,
+        7 => 4,
+        8 => 8,
+        9 => 9,
+        10 => 4,
+        11 => 10,
+        12 => 5,
+        13 => 14,
+        14 => 6,
+        15 => 15,
+        16 => 18,
+        17 => 8,
+        18 => 20,
+        19 => 27,
+        21 => 13,
+        _ => 0,
+    }
+}
+
+// Whether the elements of a type are found by start offsets.
+pub fn has_offsets(element_type: u64) -> bool
+    ensures { λ r. ⌜ r ≡ hasOffsets «element_type» ⌝ }
+{
+    element_type == NGON || element_type == NFACE
+}
+
+// Whether a type is taken.
+pub fn taken(element_type: u64) -> bool
+    ensures { λ r. ⌜ r ≡ taken «element_type» ⌝ }
+{
+    0 < nodes_per(element_type) || has_offsets(element_type)
+}

@@ -1,0 +1,6 @@
+pub mod Walk
+pub mod After
+pub mod Parts
+pub mod Filling
+pub mod Room
+pub mod Told

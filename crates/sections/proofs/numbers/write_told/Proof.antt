@@ -1,0 +1,32 @@
+use Prim.Native.Nat.{_/_}
+use mathlib.Core.Path.{_≡_, sym, ap, _∙_}
+use lib.ListN.{length}
+use Rattle.model.specs.Sections.{sectionNumbersMemory}
+use Rattle.model.specs.Answers.{countTells}
+use Rattle.sections.proofs.Told.{counts, count-leaves, rejection-leaves}
+use native.Mathlib.Omega.{arith}
+use borrow.Author.Needs.{needs}
+use Rattle.sections.proofs.numbers.write_told.Statement.{statement}
+use Rattle.sections.proofs.numbers.write_told.Tie as tie
+
+returns : tie.Need-returns
+unfolding sectionNumbersMemory
+returns c =
+    let d = c .before .before .before .before in
+    rejection-leaves _ _ _ _ _ (sym (ap countTells (c .enum-told .given .1)) ∙ d .pre)
+
+fill-requires : tie.Need-fill-requires
+fill-requires c κs =
+    let d = c .before .before in
+    let q = counts _ _ _ (sym (ap countTells (d .answer .given .1)) ∙ d .before .before .before .before .pre) in
+    ((q .is-accepted, q .zone-inside), (q .all, omega (arith, q .fits)))
+
+returns-2 : tie.Need-returns-2
+unfolding sectionNumbersMemory
+returns-2 c =
+    let w = c .before .before in
+    let d = w .before .before .before in
+    w .fill .ensures ∙ count-leaves _ _ _ _ _ (sym (ap countTells (d .answer .given .1)) ∙ d .before .before .before .before .pre)
+
+pub write-told-spec : {M : Type 1} → statement M
+write-told-spec = tie.close (tie.spec (search needs) (search needs) returns fill-requires (search needs) returns-2)

@@ -1,0 +1,50 @@
+// What the calls for a zone's sections answer.
+ghost use mathlib.Core.Path.{_≡_};
+ghost use lib.ListN.{length};
+ghost use Rattle.model.specs.Rules.{_gives_};
+ghost use Rattle.model.specs.Image.{treeOf};
+ghost use Rattle.model.specs.Given.{Sound};
+ghost use Rattle.model.specs.Sections.{sectionNodes, sectionsAnswer};
+ghost use Rattle.model.specs.Answers.{countTells, stageTells};
+ghost use Rattle.model.specs.Validation.{imageCheck};
+ghost use Rattle.sections.specs.After.{zoneCheck, entriesTold};
+use super::zones::section_count;
+use model::Count;
+use model::Rejection;
+use model::Stage;
+
+// Rule 40, then 46 where there is room for `room` entries, else the count of the zone's sections.
+pub fn zone_answer(image: &[u8], zone: u64, room: usize) -> Count
+    requires { ⌜ Sound (now image) ⌝ }
+    ensures { λ r. ⌜ countTells r ≡ (zoneCheck (treeOf (now (image .entry))) zone room gives length (sectionNodes (treeOf (now (image .entry))) zone)) ⌝ }
+{
+    if !labels::is_zone(image, zone) {
+        return Count::Rejected(Rejection::at(40, 0));
+    }
+    let n = section_count(image, zone as usize);
+    if room < n {
+        return Count::Rejected(Rejection::at(46, 0));
+    }
+    Count::Of(n as u64)
+}
+
+// The answer of the call where `stage` is what validation answers: its rejection, then rule 40, then 46, else the count of the zone's sections.
+pub fn answer_after(stage: Stage, image: &[u8], zone: u64, room: usize) -> Count
+    requires { ⌜ stageTells stage ≡ imageCheck (now image) ⌝ }
+    ensures { λ r. ⌜ countTells r ≡ sectionsAnswer (now (image .entry)) zone room ⌝ }
+{
+    let Stage::Pass = stage else {
+        return Count::Rejected(stage.rejection());
+    };
+    zone_answer(image, zone, room)
+}
+
+// How many entries an answer says are written; 0 where it is a rejection.
+pub fn entries_told(answer: Count) -> usize
+    ensures { λ r. ⌜ r ≡ entriesTold answer ⌝ }
+{
+    match answer {
+        Count::Of(n) => n as usize,
+        Count::Rejected(_) => 0,
+    }
+}

@@ -1,0 +1,67 @@
+// The entry of one section of an accepted image. What is looked up under it conforms (rules 24 and 25 hold at every validated node).
+ghost use mathlib.Core.Path.{_≡_};
+ghost use Prim.Native.Nat.{_≤_, _<_};
+ghost use Rattle.model.specs.Image.{treeOf, nodeCount, width};
+ghost use Rattle.model.specs.Values.{flat, size};
+ghost use Rattle.model.specs.Given.{Sound};
+ghost use Rattle.model.specs.Sections.{dataStart, entry};
+ghost use Rattle.sections.specs.After.{AcceptedSection};
+ghost use mathlib.Core.Bool.{true};
+use model::Section;
+
+const INDEX_RANGE: u64 = 8;
+
+const DATA_ARRAY: u64 = 11;
+
+// Where the data of node j start, counted from the image's start; 0 for the node count, which stands for a missing node.
+fn start_of(image: &[u8], j: usize) -> u64
+    requires { ⌜ Sound (now image) × (j ≤ nodeCount (now image)) ⌝ }
+    ensures { λ r. ⌜ r ≡ dataStart (treeOf (now (image .entry))) j ⌝ }
+{
+    if j < labels::node_count(image) {
+        records::data_start(image, j) as u64
+    } else {
+        0
+    }
+}
+
+// The width of what node j stores; 0 for a missing node.
+fn width_at(image: &[u8], j: usize) -> u64
+    requires { ⌜ Sound (now image) × (j ≤ nodeCount (now image)) ⌝ }
+    ensures { λ r. ⌜ r ≡ width (treeOf (now (image .entry))) j ⌝ }
+{
+    if j < labels::node_count(image) {
+        records::width_of(records::data_type_of(image, j))
+    } else {
+        0
+    }
+}
+
+// How many numbers node j stores, which has one dimension.
+fn size_of(image: &[u8], j: usize) -> u64
+    requires { ⌜ (Sound (now image) × (j < nodeCount (now image))) × (flat (treeOf (now image)) j ≡ true) ⌝ }
+    ensures { λ r. ⌜ r ≡ size (treeOf (now (image .entry))) j ⌝ }
+{
+    records::dimension(image, j, 0)
+}
+
+// The entry of section s: its type, its range, and where its start offsets and its connectivity stand.
+pub fn entry_of(image: &[u8], s: usize) -> Section
+    requires { ⌜ AcceptedSection (now image) s ⌝ }
+    ensures { λ r. ⌜ r ≡ entry (treeOf (now (image .entry))) s ⌝ }
+{
+    let range = labels::child(image, s, INDEX_RANGE, b"ElementRange");
+    let offsets = labels::child(image, s, DATA_ARRAY, b"ElementStartOffset");
+    let connectivity = labels::child(image, s, DATA_ARRAY, b"ElementConnectivity");
+    Section {
+        node: s as u64,
+        element_type: types::whole(image, s, 0),
+        first: types::whole(image, range, 0),
+        last: types::whole(image, range, 1),
+        offsets_at: start_of(image, offsets),
+        offsets_width: width_at(image, offsets),
+        connectivity_at: start_of(image, connectivity),
+        connectivity_width: width_at(image, connectivity),
+        connectivity_length: size_of(image, connectivity),
+    }
+}

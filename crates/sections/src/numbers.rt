@@ -1,0 +1,59 @@
+// Section entries as flat numbers, nine to an entry.
+ghost use mathlib.Core.Path.{_≡_};
+ghost use Prim.Native.Nat.{_+_, _*_, _/_, _≤_, _<_};
+ghost use lib.ListN.{length};
+ghost use lib.Seq.{sets};
+ghost use Rattle.model.specs.Lists.{over};
+ghost use Rattle.model.specs.Image.{treeOf, nodeCount};
+ghost use Rattle.model.specs.Given.{Accepted};
+ghost use Rattle.model.specs.Sections.{sectionNodes, sectionEntries, entryNumbers, allNumbers, sectionsAnswer, sectionNumbersMemory};
+ghost use Rattle.model.specs.Answers.{countTells};
+use super::zones::entry_after;
+use model::Count;
+use model::Section;
+
+// How many numbers an entry has.
+pub const ENTRY_LENGTH: usize = 9;
+
+// Writes the numbers of an entry to `out` from k on.
+fn put_entry(out: &mut [u64], k: usize, e: Section)
+    requires { ⌜ k + 9 ≤ length (now out) ⌝ }
+    ensures { λ _. ⌜ now (out .exit) ≡ sets (now (out .entry)) k (entryNumbers e) ⌝ }
+{
+    out[k] = e.node;
+    out[k + 1] = e.element_type;
+    out[k + 2] = e.first;
+    out[k + 3] = e.last;
+    out[k + 4] = e.offsets_at;
+    out[k + 5] = e.offsets_width;
+    out[k + 6] = e.connectivity_at;
+    out[k + 7] = e.connectivity_width;
+    out[k + 8] = e.connectivity_length;
+}
+
+// Writes the entries of the zone's n sections to the front of `out`, in node order; the rest stays.
+pub fn fill(image: &[u8], zone: u64, n: usize, out: &mut [u64])
+    requires { ⌜ Accepted (now image) × (zone < nodeCount (now image)) ⌝ }
+    requires { ⌜ (n ≡ length (sectionNodes (treeOf (now image)) zone)) × (9 * n ≤ length (now out)) ⌝ }
+    ensures { λ _. ⌜ now (out .exit) ≡ over (now (out .entry)) (allNumbers (sectionEntries (treeOf (now (image .entry))) zone)) ⌝ }
+{
+    let mut at = zone;
+    let mut k = 0;
+    while k < n {
+        let e = entry_after(image, zone, at);
+        at = e.node;
+        put_entry(out, ENTRY_LENGTH * k, e);
+        k += 1;
+    }
+}
+
+// Writes the entries that an answer tells of; a rejection leaves `out` as it was.
+pub fn write_told(answer: Count, image: &[u8], zone: u64, out: &mut [u64])
+    requires { ⌜ countTells answer ≡ sectionsAnswer (now image) zone (length (now out) / 9) ⌝ }
+    ensures { λ _. ⌜ now (out .exit) ≡ sectionNumbersMemory (now (image .entry)) zone (now (out .entry)) ⌝ }
+{
+    let Count::Of(n) = answer else {
+        return;
+    };
+    fill(image, zone, n as usize, out);
+}

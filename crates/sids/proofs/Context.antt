@@ -1,0 +1,182 @@
+-- Where validation has come to node i: what stands above a validated node that is placed as the table has it.
+use Prim.Native.Nat.{ℕ, _≤_, _<_}
+use mathlib.Core.Path.{_≡_, refl, sym, ap, _∙_}
+use mathlib.Core.Bool.{Bool, true, false, _||_}
+use mathlib.Core.List.{List, [], _∷_, _++_}
+use native.Mathlib.Omega.{arith}
+use lib.Dec.{eqb}
+use borrow.Author.Tests.{eqb-true, ne-eqb}
+use Rattle.model.specs.Lists.{among}
+use Rattle.model.specs.Rules.{check, passed, Check, _then_}
+use Rattle.model.specs.Image.{Tree, treeOf, nodeCount, parent}
+use Rattle.model.specs.Given.{NodesTo, Accepted}
+use Rattle.model.specs.Records.{tableCheck}
+use Rattle.model.specs.Validation.{imageCheck, nodeCheck, nodeCheckAt}
+use Rattle.model.specs.Containment.{role, validated, mayHold, containment, Base, Zone, Elements, Rind, GridCoordinates, FlowSolution, DataArray}
+use Rattle.model.specs.Values.{placed, typeLawful, valueLawful, zoneAbove, sidsRules, sizedArray}
+use Rattle.model.proofs.Logic.{untrue, and-first, and-second}
+use Rattle.model.proofs.Parents.{parent-lower, lawful-at}
+use Rattle.model.proofs.Passed.{then-second, checkFrom-at}
+use Rattle.model.proofs.Accepted.{sids-rule}
+use Rattle.model.proofs.Staging.{check-append}
+use Rattle.model.proofs.Sections.{not-root}
+use Rattle.model.proofs.Above.{validated-above, earlier-rule, held-by}
+use Rattle.types.specs.Given.{Based, Ready}
+use Rattle.types.proofs.Held.{or-none}
+use Rattle.sids.specs.Given.{Shaped, Held}
+use Rattle.sids.specs.Groups.{placeRules, contentRules, sizeRules}
+
+-- a list of one; what may hold a zone; what holds the three kinds of nodes under a zone
+among-one : (x y : ℕ) → among x (y ∷ []) ≡ true → x ≡ y
+unfolding among
+among-one x y e = eqb-true x y (sym (or-none (eqb x y)) ∙ e)
+
+base-holds : (above : ℕ) → mayHold above Zone ≡ true → above ≡ Base
+unfolding containment among
+base-holds above e = among-one above Base (held-by above Zone e)
+
+zone-holds : (above r : ℕ) → among r (GridCoordinates ∷ FlowSolution ∷ Elements ∷ []) ≡ true → mayHold above r ≡ true → above ≡ Zone
+unfolding containment among
+zone-holds above r k e = by-test (eqb r 5) refl (eqb r 6) refl (eqb r 7) refl k
+  where
+    by-test : (x : Bool) → eqb r 5 ≡ x → (y : Bool) → eqb r 6 ≡ y → (z : Bool) → eqb r 7 ≡ z → (x || (y || (z || false))) ≡ true → above ≡ Zone
+    by-test true p y q z s h = among-one above Zone (held-by above 5 (rw (← eqb-true r 5 p) e))
+    by-test false p true q z s h = among-one above Zone (held-by above 6 (rw (← eqb-true r 6 q) e))
+    by-test false p false q true s h = among-one above Zone (held-by above 7 (rw (← eqb-true r 7 s) e))
+    by-test false p false q false s h = untrue h
+
+rind-under : (above : ℕ) → mayHold above Rind ≡ true → among above (GridCoordinates ∷ FlowSolution ∷ Elements ∷ []) ≡ true
+unfolding containment among
+rind-under above e = held-by above Rind e
+
+no-root : (t : Tree) (j r : ℕ) → among r (GridCoordinates ∷ FlowSolution ∷ Elements ∷ []) ≡ true → role t j ≡ r → j ≡ 0 → ⊥
+unfolding among
+no-root t j r k e = not-root t j r e (λ (z : r ≡ 14). untrue (rw z at k))
+
+-- a node that is no root is one of the table's
+placed-held : (t : Tree) (i : ℕ) → (i ≡ 0 → ⊥) → placed t i ≡ true → mayHold (role t (parent t i)) (role t i) ≡ true
+unfolding placed
+placed-held t i n e = and-first (mayHold (role t (parent t i)) (role t i)) _ (rw (ne-eqb i 0 n) at e)
+
+module _ (b : List ℕ) (i : ℕ) (g : NodesTo b i) where
+  -- a validated node up to i, in its place
+  record Placed (j : ℕ) : Type 0 where
+    upto : j ≤ i
+    is-validated : validated (treeOf b) j ≡ true
+    place : placed (treeOf b) j ≡ true
+
+  record Above (j : ℕ) : Type 0 where
+    inside : parent (treeOf b) j < nodeCount b
+    before : parent (treeOf b) j < i
+    upper : Placed (parent (treeOf b) j)
+    type : typeLawful (treeOf b) (parent (treeOf b) j) ≡ true
+    value : valueLawful (treeOf b) (parent (treeOf b) j) ≡ true
+    holds : mayHold (role (treeOf b) (parent (treeOf b) j)) (role (treeOf b) j) ≡ true
+
+  above : (j : ℕ) → Placed j → (j ≡ 0 → ⊥) → Above j
+  unfolding sidsRules
+  above j p n =
+      let t = treeOf b in
+      let l = parent-lower t j (lawful-at b (g .sound) j (omega arith)) n in
+      let v = validated-above b (g .sound) j (omega arith) n (p .is-validated) in
+      let o : parent t j < i = omega arith in
+      record {
+        inside = omega arith;
+        before = o;
+        upper = record { upto = omega arith; is-validated = v; place = earlier-rule b i g 20 (parent t j) o v };
+        type = earlier-rule b i g 24 (parent t j) o v;
+        value = earlier-rule b i g 25 (parent t j) o v;
+        holds = placed-held t j n (p .place);
+      }
+
+  based : (j : ℕ) → Placed j → role (treeOf b) j ≡ Zone → Based b j
+  based j p e =
+      let a = above j p (not-root (treeOf b) j Zone e (λ (z : _≡_ {A = ℕ} 3 14). absurd (omega arith))) in
+      record {
+        inside = omega arith;
+        above = a .inside;
+        base = base-holds (role (treeOf b) (parent (treeOf b) j)) (rw e at (a .holds));
+        type = a .type;
+        value = a .value;
+      }
+
+  -- one of those three kinds stands under a zone that meets 24 and 25
+  held : (j : ℕ) → Placed j → among (role (treeOf b) j) (GridCoordinates ∷ FlowSolution ∷ Elements ∷ []) ≡ true → Held b j
+  held j p k =
+      let t = treeOf b in
+      let a = above j p (no-root t j (role t j) k refl) in
+      let z = zone-holds (role t (parent t j)) (role t j) k (a .holds) in
+      record { inside = omega arith; zone = record { based = based (parent t j) (a .upper) z; zone = z; type = a .type }; value = a .value }
+
+  module _ (v : validated (treeOf b) i ≡ true) (q : placed (treeOf b) i ≡ true) where
+    here : Placed i
+    here = record { upto = omega arith; is-validated = v; place = q }
+
+    pub ready : Ready b i
+    unfolding zoneAbove
+    ready =
+        record {
+          inside = g .inside;
+          zone = λ e. based i here e;
+          rind = λ e. rind-based e;
+        }
+      where
+        rind-based : role (treeOf b) i ≡ Rind → Based b (parent (treeOf b) (parent (treeOf b) i))
+        rind-based e =
+            let n = not-root (treeOf b) i Rind e (λ (z : _≡_ {A = ℕ} 9 14). absurd (omega arith)) in
+            let a = above i here n in
+            held (parent (treeOf b) i) (a .upper) (rind-under (role (treeOf b) (parent (treeOf b) i)) (rw e at (a .holds))) .zone .based
+
+    -- the zone of a section
+    pub section-held : role (treeOf b) i ≡ Elements → Held b i
+    unfolding among
+    section-held e = held i here (rw e)
+
+    -- the zone of a coordinate or flow array
+    pub sized-held : sizedArray (treeOf b) i ≡ true → Held b (parent (treeOf b) i)
+    unfolding sizedArray among
+    sized-held e =
+        let t = treeOf b in
+        let d = eqb-true (role t i) DataArray (and-first (eqb (role t i) DataArray) _ e) in
+        let n = not-root t i DataArray d (λ (z : _≡_ {A = ℕ} 11 14). absurd (omega arith)) in
+        held (parent t i) (above i here n .upper) (three (eqb (role t (parent t i)) 5) (eqb (role t (parent t i)) 6) _ (and-second (eqb (role t i) DataArray) _ e))
+      where
+        three : (x y z : Bool) → (x || (y || false)) ≡ true → (x || (y || z)) ≡ true
+        three true y z h = refl
+        three false true z h = refl
+        three false false z h = untrue h
+
+-- no rule is left
+pub no-rule : (node : ℕ) → check node [] ≡ passed
+unfolding check
+no-rule node = refl
+
+-- the groups are the whole
+pub sids-groups : (t : Tree) (i : ℕ) → check i (sidsRules t i) ≡ (check i (placeRules t i) then (check i (contentRules t i) then check i (sizeRules t i)))
+unfolding sidsRules
+sids-groups t i =
+    check-append i (placeRules t i) (contentRules t i ++ sizeRules t i)
+    ∙ ap (λ (c : Check). check i (placeRules t i) then c) (check-append i (contentRules t i) (sizeRules t i))
+
+-- an accepted image: validation has come to every node
+pub accepted-to : (b : List ℕ) → Accepted b → (i : ℕ) → i < nodeCount b → NodesTo b i
+unfolding imageCheck nodeCheck treeOf
+accepted-to b a i h =
+    record {
+      sound = a .sound;
+      inside = h;
+      before = λ j l. checkFrom-at (nodeCheckAt (treeOf b)) (nodeCount b) 0 j (then-second (tableCheck b) _ (a .image)) (omega arith) (omega arith);
+    }
+
+module _ (b : List ℕ) (a : Accepted b) (i : ℕ) (h : i < nodeCount b) (v : validated (treeOf b) i ≡ true) where
+  place : placed (treeOf b) i ≡ true
+  unfolding sidsRules
+  place = sids-rule b (a .image) 20 i h v
+
+  -- the zone of a coordinate or flow array, and a zone itself
+  pub accepted-held : sizedArray (treeOf b) i ≡ true → Held b (parent (treeOf b) i)
+  accepted-held = sized-held b i (accepted-to b a i h) v place
+
+  pub accepted-zone : role (treeOf b) i ≡ Zone → Shaped b i
+  unfolding sidsRules
+  accepted-zone e = record { based = ready b i (accepted-to b a i h) v place .zone e; zone = e; type = sids-rule b (a .image) 24 i h v }

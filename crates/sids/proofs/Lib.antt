@@ -1,0 +1,4 @@
+pub mod Zones
+pub mod Found
+pub mod Rinds
+pub mod Context

@@ -1,0 +1,109 @@
+// A zone's sizes.
+ghost use mathlib.Core.Path.{_≡_};
+ghost use Prim.Native.Nat.{_+_, _*_, _≤_, _<_};
+ghost use Rattle.model.specs.Image.{treeOf, number};
+ghost use Rattle.model.specs.Given.{Sound};
+ghost use mathlib.Core.Bool.{cond};
+ghost use Rattle.model.specs.Values.{indexDimension, zoneValue};
+ghost use Rattle.sids.specs.Given.{Shaped};
+ghost use Rattle.sids.specs.Sizes.{direction, directions, zoneSizes, sizeIn, structuredIn, unstructuredIn};
+
+// The size in direction d of n, of those that stand from `from` on; 0 where the zone lacks it.
+fn size_at(image: &[u8], z: usize, n: usize, from: usize, d: usize) -> u64
+    requires { ⌜ Sound (now image) × Shaped (now image) z ⌝ }
+    requires { ⌜ (n ≡ indexDimension (treeOf (now image)) z) × ((n ≤ 3) × (from + n ≤ 3 * n)) ⌝ }
+    ensures { λ r. ⌜ r ≡ direction (λ k. number (treeOf (now (image .entry))) z (from + k)) n d ⌝ }
+{
+    if d < n {
+        return types::whole(image, z, from + d);
+    }
+    0
+}
+
+// The sizes that stand from `from` on, direction by direction.
+fn sizes_from(image: &[u8], z: usize, n: usize, from: usize) -> [u64; 3]
+    requires { ⌜ Sound (now image) × Shaped (now image) z ⌝ }
+    requires { ⌜ (n ≡ indexDimension (treeOf (now image)) z) × ((n ≤ 3) × (from + n ≤ 3 * n)) ⌝ }
+    ensures { λ r. ⌜ r ≡ directions (λ k. number (treeOf (now (image .entry))) z (from + k)) n ⌝ }
+{
+    let i = size_at(image, z, n, from, 0);
+    let j = size_at(image, z, n, from, 1);
+    let k = size_at(image, z, n, from, 2);
+    [i, j, k]
+}
+
+// VertexSize, CellSize and VertexSizeBoundary of zone z, one row each.
+pub fn zone_sizes(image: &[u8], z: usize) -> [[u64; 3]; 3]
+    requires { ⌜ Sound (now image) × Shaped (now image) z ⌝ }
+    ensures { λ r. ⌜ r ≡ zoneSizes (treeOf (now (image .entry))) z ⌝ }
+{
+    let n = types::index_dimension(image, z) as usize;
+    let vertices = sizes_from(image, z, n, 0);
+    let cells = sizes_from(image, z, n, n);
+    let boundary = sizes_from(image, z, n, 2 * n);
+    [vertices, cells, boundary]
+}
+
+// Structured, in one direction: VertexSize at least 2, CellSize = VertexSize − 1, boundary 0.
+fn structured_sizes(vertices: u64, cells: u64, boundary: u64) -> bool
+    ensures { λ r. ⌜ r ≡ structuredIn vertices cells boundary ⌝ }
+{
+    if vertices < 2 {
+        return false;
+    }
+    if types::MAX_NUMBER < vertices {
+        return false;
+    }
+    if cells != vertices - 1 {
+        return false;
+    }
+    boundary == 0
+}
+
+// Unstructured: VertexSize at least 1, CellSize at least 0, boundary 0 to VertexSize.
+fn unstructured_sizes(vertices: u64, cells: u64, boundary: u64) -> bool
+    ensures { λ r. ⌜ r ≡ unstructuredIn vertices cells boundary ⌝ }
+{
+    if vertices < 1 {
+        return false;
+    }
+    if types::MAX_NUMBER < vertices {
+        return false;
+    }
+    if types::MAX_NUMBER < cells {
+        return false;
+    }
+    boundary <= vertices
+}
+
+// The sizes in direction d are permitted.
+fn sizes_permitted(structured: bool, sizes: [[u64; 3]; 3], d: usize) -> bool
+    requires { ⌜ d < 3 ⌝ }
+    ensures { λ r. ⌜ r ≡ cond structured (structuredIn (sizeIn sizes 0 d) (sizeIn sizes 1 d) (sizeIn sizes 2 d)) (unstructuredIn (sizeIn sizes 0 d) (sizeIn sizes 1 d) (sizeIn sizes 2 d)) ⌝ }
+{
+    let vertices = sizes[0][d];
+    let cells = sizes[1][d];
+    let boundary = sizes[2][d];
+    if structured {
+        return structured_sizes(vertices, cells, boundary);
+    }
+    unstructured_sizes(vertices, cells, boundary)
+}
+
+// Rule 25 of Zone_t, direction by direction.
+pub fn zone_value(image: &[u8], z: usize) -> bool
+    requires { ⌜ Sound (now image) × Shaped (now image) z ⌝ }
+    ensures { λ r. ⌜ r ≡ zoneValue (treeOf (now (image .entry))) z ⌝ }
+{
+    let n = types::index_dimension(image, z) as usize;
+    let structured = types::structured(image, z);
+    let sizes = zone_sizes(image, z);
+    let mut d = 0;
+    while d < n {
+        if !sizes_permitted(structured, sizes, d) {
+            return false;
+        }
+        d += 1;
+    }
+    true
+}

@@ -1,0 +1,62 @@
+// The check of rules 1 to 18: header, node records, trailing words and bytes. It reads no data bytes.
+ghost use mathlib.Core.Path.{_≡_};
+ghost use mathlib.Core.Bool.{Bool};
+ghost use Prim.Native.Nat.{_+_, _*_, _≤_, _<_};
+ghost use Rattle.model.specs.Rules.{rejected, rejection};
+ghost use Rattle.model.specs.Records.{tableCheck, tableAnswer};
+ghost use Rattle.model.specs.Answers.{stageTells, tableTells};
+ghost use Rattle.table.specs.Groups.{isWithin};
+
+mod header;
+mod sizes;
+mod stages;
+mod tree;
+
+use model::Rejection;
+use model::Stage;
+use model::Table;
+use records::Header;
+
+// The answer of a stage that a rule ends.
+fn reject(rule: u64, node: usize) -> Stage
+    ensures { λ r. ⌜ stageTells r ≡ rejected (rejection rule node) ⌝ }
+{
+    Stage::Rejected(Rejection::at(rule, node as u64))
+}
+
+// Whether x is one of low to high.
+fn is_within(x: u64, low: u64, high: u64) -> bool
+    ensures { λ r. ⌜ r ≡ isWithin x low high ⌝ }
+{
+    if x < low {
+        return false;
+    }
+    x <= high
+}
+
+// Rules 1 to 18 as one stage.
+pub fn table_stage(image: &[u8]) -> Stage
+    ensures { λ r. ⌜ stageTells r ≡ tableCheck (now (image .entry)) ⌝ }
+{
+    let s = header::header_stage(image);
+    let Stage::Pass = s else {
+        return s;
+    };
+    stages::records_stage(image)
+}
+
+// Rules 1 to 18: the first that is broken, or how many nodes, dimension words and data bytes the image has.
+pub fn check_table(image: &[u8]) -> Table
+    ensures { λ r. ⌜ tableTells r ≡ tableAnswer (now (image .entry)) ⌝ }
+{
+    let s = table_stage(image);
+    let Stage::Pass = s else {
+        return Table::Rejected(s.rejection());
+    };
+    let h = Header::read(image);
+    Table::Sound {
+        nodes: h.node_count,
+        dimensions: h.word_count,
+        bytes: h.data_length,
+    }
+}

@@ -1,0 +1,156 @@
+-- Texts byte by byte, as loops over their bytes meet them.
+use Prim.Native.Nat.{ℕ, zero, suc, _+_, _-_, _≤_, _<_}
+use mathlib.Core.Path.{_≡_, refl, sym, ap, subst, _∙_}
+use mathlib.Core.Bool.{Bool, true, false, cond, not, _&&_, _||_}
+use mathlib.Core.List.{List, [], _∷_}
+use native.Mathlib.Omega.{arith}
+use native.Mathlib.Numerals.{add-one}
+use lib.Dec.{eqb, leb}
+use lib.ListN.{length, getD, take, drop, length-drop, drop-of-length-le}
+use lib.Seq.{drop-cons, drop-length, length-take-le, getD-take, getD-drop}
+use borrow.Author.Tests.{eq-eqb, ne-eqb, leb-true}
+use Rattle.model.specs.Lists.{among, someFrom, seekFrom}
+use Rattle.model.specs.Bytes.{same}
+use Rattle.model.specs.Records.{printable, labelLawful}
+use Rattle.model.proofs.Walks.{someFrom-step, seekFrom-step}
+use Rattle.model.proofs.Logic.{untrue, and-first}
+use Rattle.texts.specs.Texts.{textAt, textByte, textBytes, differAt, firstDifference}
+
+module _ (b : List ℕ) (at : ℕ) (h : at + 32 ≤ length b) where
+  pub text-length : length (textAt b at) ≡ 32
+  text-length = length-take-le 32 (drop at b) (rw length-drop (omega arith))
+
+  pub text-byte : (k : ℕ) → k < 32 → getD (textAt b at) k 0 ≡ getD b (at + k) 0
+  text-byte k l = getD-take 32 (drop at b) k 0 l ∙ getD-drop at b k 0
+
+  -- the first byte, whatever stands for none
+  pub text-first : (d : ℕ) → getD (textAt b at) 0 d ≡ getD b at 0
+  text-first d = rw (drop-cons b at 0 (omega arith))
+
+regroup : (a p e m : Bool) → (a && p && not (e || m)) ≡ (a && not e && (p && not m))
+regroup false p e m = refl
+regroup true p false m = refl
+regroup true false true m = refl
+regroup true true true m = refl
+
+-- a text's bytes from index k on
+module _ (z : ℕ) (s : List ℕ) (k : ℕ) (h : k < length s) where
+  bytes-step : textBytes z (drop k s) ≡ (textByte z (getD s k 0) && textBytes z (drop (k + 1) s))
+  unfolding printable among
+  bytes-step = rw (add-one k, drop-cons s k 0 h) (regroup (leb 32 (getD s k 0) && leb (getD s k 0) 126) (printable (drop (suc k) s)) (eqb z (getD s k 0)) (among z (drop (suc k) s)))
+
+  bytes-on : textByte z (getD s k 0) ≡ true → textBytes z (drop (k + 1) s) ≡ textBytes z (drop k s)
+  bytes-on e = rw (bytes-step, e)
+
+  bytes-off : textByte z (getD s k 0) ≡ false → textBytes z (drop k s) ≡ false
+  bytes-off e = rw (bytes-step, e)
+
+-- byte k of a text was read as x
+module _ (b : List ℕ) (at : ℕ) (h : at + 32 ≤ length b) (k : ℕ) (l : k < 32) {x : ℕ} (e : x ≡ getD b (at + k) 0) where
+  byte-is : getD (textAt b at) k 0 ≡ x
+  byte-is = text-byte b at h k l ∙ sym e
+
+  below : k < length (textAt b at)
+  below = rw (text-length b at h) l
+
+  pub byte-on : (z : ℕ) → textByte z x ≡ true → textBytes z (drop (k + 1) (textAt b at)) ≡ textBytes z (drop k (textAt b at))
+  byte-on z f = bytes-on z (textAt b at) k below (ap (textByte z) byte-is ∙ f)
+
+  pub byte-off : (z : ℕ) → textByte z x ≡ false → textBytes z (drop k (textAt b at)) ≡ false
+  byte-off z f = bytes-off z (textAt b at) k below (ap (textByte z) byte-is ∙ f)
+
+pub bytes-end : (z : ℕ) (b : List ℕ) (at : ℕ) → at + 32 ≤ length b → (k : ℕ) → 32 ≤ k → textBytes z (drop k (textAt b at)) ≡ true
+unfolding printable among
+bytes-end z b at h k l = rw (drop-of-length-le (textAt b at) {i = k} (rw (text-length b at h) l))
+
+-- the first byte decides, or the others do
+module _ (z : ℕ) (s : List ℕ) where
+  pub blank-first : getD s 0 32 ≡ 32 → (labelLawful s && not (among z s)) ≡ false
+  unfolding labelLawful
+  blank-first e = rw (eq-eqb (getD s 0 32) 32 e) (both (printable s) (not (among z s)))
+    where
+      both : (p n : Bool) → (p && false && n) ≡ false
+      both true n = refl
+      both false n = refl
+
+  pub not-blank : (getD s 0 32 ≡ 32 → ⊥) → (labelLawful s && not (among z s)) ≡ textBytes z s
+  unfolding labelLawful
+  not-blank e = rw (ne-eqb (getD s 0 32) 32 e) (both (printable s) (not (among z s)))
+    where
+      both : (p n : Bool) → (p && true && n) ≡ (p && n)
+      both true n = refl
+      both false n = refl
+
+-- no text has a byte 0
+no-zero : (s : List ℕ) → printable s ≡ true → among 0 s ≡ false
+unfolding printable among
+no-zero [] e = refl
+no-zero (x ∷ s) e =
+    let l = leb-true 32 x (and-first (leb 32 x) _ (and-first (leb 32 x && leb x 126) _ e)) in
+    rw (ne-eqb 0 x (λ (q : 0 ≡ x). absurd (omega arith))) (no-zero s (tail (leb 32 x && leb x 126) e))
+  where
+    tail : (t : Bool) → (t && printable s) ≡ true → printable s ≡ true
+    tail true q = q
+    tail false q = untrue q
+
+pub no-zero-barred : (s : List ℕ) → (labelLawful s && not (among 0 s)) ≡ labelLawful s
+unfolding labelLawful
+no-zero-barred s = by-test (printable s) refl
+  where
+    by-test : (t : Bool) → printable s ≡ t → (t && not (eqb (getD s 0 32) 32) && not (among 0 s)) ≡ (t && not (eqb (getD s 0 32) 32))
+    by-test false e = refl
+    by-test true e = rw (no-zero s e) (last (not (eqb (getD s 0 32) 32)))
+      where
+        last : (t : Bool) → (t && true) ≡ t
+        last true = refl
+        last false = refl
+
+-- two texts are the same where they differ nowhere
+same-from : (k i : ℕ) (x y : List ℕ) → i + k ≡ length x → i + k ≡ length y → same (drop i x) (drop i y) ≡ eqb (seekFrom (differAt x y) k i) (i + k)
+unfolding seekFrom same differAt
+same-from zero i x y e f =
+    rw (drop-of-length-le x {i = i} (omega arith), drop-of-length-le y {i = i} (omega arith), eq-eqb i (i + 0) (omega arith))
+same-from (suc k) i x y e f =
+    rw (drop-cons x i 0 (omega arith), drop-cons y i 0 (omega arith)) (by-test (eqb (getD x i 0) (getD y i 0)) refl (same-from k (suc i) x y (omega arith) (omega arith)))
+  where
+    by-test : (t : Bool) → eqb (getD x i 0) (getD y i 0) ≡ t
+        → same (drop (suc i) x) (drop (suc i) y) ≡ eqb (seekFrom (differAt x y) k (suc i)) (suc i + k)
+        → (t && same (drop (suc i) x) (drop (suc i) y)) ≡ eqb (cond (differAt x y i) i (seekFrom (differAt x y) k (suc i))) (i + suc k)
+    by-test true q r = let g : suc i + k ≡ i + suc k = omega arith in rw q (rw g at r)
+    by-test false q r = rw q (sym (ne-eqb i (i + suc k) (λ (z : i ≡ i + suc k). absurd (omega arith))))
+
+pub same-by : (x y : List ℕ) → length x ≡ 32 → length y ≡ 32 → eqb (firstDifference x y) 32 ≡ same x y
+unfolding firstDifference
+same-by x y e f = sym (same-from 32 0 x y (sym e) (sym f))
+
+-- byte k of two texts was read as x and as y
+module _ (b : List ℕ) (p q : ℕ) (h : p + 32 ≤ length b) (m : q + 32 ≤ length b) (k : ℕ) (l : k < 32) {x y : ℕ} (e : x ≡ getD b (p + k) 0) (f : y ≡ getD b (q + k) 0) where
+  pub differs : (x ≡ y → ⊥) → differAt (textAt b p) (textAt b q) k ≡ true
+  unfolding differAt
+  differs n = rw (text-byte b p h k l, text-byte b q m k l, ← e, ← f, ne-eqb x y n)
+
+  pub agrees : x ≡ y → differAt (textAt b p) (textAt b q) k ≡ false
+  unfolding differAt
+  agrees n = rw (text-byte b p h k l, text-byte b q m k l, ← e, ← f, eq-eqb x y n)
+
+-- a search that ends at i, one that goes on, one that is at its end
+module _ (p : ℕ → Bool) (n i : ℕ) where
+  pub seek-here : i < n → p i ≡ true → seekFrom p (n - i) i ≡ i
+  seek-here h e = rw e at (seekFrom-step p n i h)
+
+  pub seek-on : i < n → p i ≡ false → seekFrom p (n - (i + 1)) (i + 1) ≡ seekFrom p (n - i) i
+  seek-on h e = sym (rw e at (seekFrom-step p n i h))
+
+  pub some-here : i < n → p i ≡ true → someFrom p (n - i) i ≡ true
+  some-here h e = rw e at (someFrom-step p n i h)
+
+  pub some-on : i < n → p i ≡ false → someFrom p (n - (i + 1)) (i + 1) ≡ someFrom p (n - i) i
+  some-on h e = sym (rw e at (someFrom-step p n i h))
+
+-- numbers at which a test fails need no look
+pub some-from : (p : ℕ → Bool) (n i : ℕ) → i ≤ n → ((j : ℕ) → j < i → p j ≡ false) → someFrom p (n - i) i ≡ someFrom p n 0
+some-from p n zero h f = let e : n - 0 ≡ n = omega arith in rw e
+some-from p n (suc i) h f =
+    let s = someFrom-step p n i (omega arith) in
+    let r = some-from p n i (omega arith) (λ j l. f j (omega arith)) in
+    sym (rw (f i (omega arith), add-one i) at s) ∙ r

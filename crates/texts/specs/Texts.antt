@@ -1,0 +1,28 @@
+-- Texts of 32 bytes in an image, byte by byte.
+use Prim.Native.Nat.{ℕ}
+use mathlib.Core.Bool.{Bool, not, _&&_}
+use mathlib.Core.List.{List}
+use lib.Dec.{eqb, leb}
+use lib.ListN.{getD, take, drop}
+use Rattle.model.specs.Lists.{seekFrom, among}
+use Rattle.model.specs.Records.{printable}
+
+-- the text that starts at a byte offset
+abbrev pub textAt : List ℕ → ℕ → List ℕ
+textAt b at = take 32 (drop at b)
+
+-- a byte of a text: 32 to 126, and not the one that is barred
+abbrev pub textByte : ℕ → ℕ → Bool
+textByte barred x = leb 32 x && leb x 126 && not (eqb barred x)
+
+-- all bytes of a text
+abbrev pub textBytes : ℕ → List ℕ → Bool
+textBytes barred s = printable s && not (among barred s)
+
+-- two texts differ at index k
+unfoldable pub differAt : List ℕ → List ℕ → ℕ → Bool
+differAt x y k = not (eqb (getD x k 0) (getD y k 0))
+
+-- the first index at which two texts differ; 32 where they are the same
+unfoldable pub firstDifference : List ℕ → List ℕ → ℕ
+firstDifference x y = seekFrom (differAt x y) 32 0

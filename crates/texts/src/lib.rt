@@ -1,0 +1,122 @@
+// Names and labels of the node records: the tests of rules 9, 10 and 11.
+ghost use mathlib.Core.Path.{_≡_};
+ghost use mathlib.Core.Bool.{true, not, _&&_};
+ghost use Prim.Native.Nat.{_+_, _*_, _≤_, _<_};
+ghost use lib.ListN.{length};
+ghost use Rattle.model.specs.Lists.{among};
+ghost use Rattle.model.specs.Image.{treeOf, nodeCount, name, label, parent};
+ghost use Rattle.model.specs.Records.{nameLawful, labelLawful, namesake, nameTaken, parentLawful};
+ghost use Rattle.model.specs.Bounds.{Laid};
+ghost use Rattle.model.specs.Given.{RecordsTo};
+ghost use Rattle.texts.specs.Texts.{textAt, textByte, textBytes, firstDifference};
+use records::Record;
+
+const BLANK: u64 = 32;
+
+const SLASH: u64 = 47;
+
+// Whether a byte may stand in a text that bars one byte.
+fn is_text_byte(x: u64, barred: u64) -> bool
+    ensures { λ r. ⌜ r ≡ textByte barred x ⌝ }
+{
+    if x < 32 {
+        return false;
+    }
+    if 126 < x {
+        return false;
+    }
+    barred != x
+}
+
+// Whether all 32 bytes from `at` may.
+fn all_text_bytes(image: &[u8], at: usize, barred: u64) -> bool
+    requires { ⌜ at + 32 ≤ length (now image) ⌝ }
+    ensures { λ r. ⌜ r ≡ textBytes barred (textAt (now (image .entry)) at) ⌝ }
+{
+    let mut k: usize = 0;
+    while k < 32 {
+        if !is_text_byte(words::byte_at(image, at + k), barred) {
+            return false;
+        }
+        k += 1;
+    }
+    true
+}
+
+// Whether the 32 bytes from `at` are a lawful text without the barred byte.
+fn is_text(image: &[u8], at: usize, barred: u64) -> bool
+    requires { ⌜ at + 32 ≤ length (now image) ⌝ }
+    ensures { λ r. ⌜ r ≡ (labelLawful (textAt (now (image .entry)) at) && not (among barred (textAt (now (image .entry)) at))) ⌝ }
+{
+    if words::byte_at(image, at) == BLANK {
+        return false;
+    }
+    all_text_bytes(image, at, barred)
+}
+
+// Rule 9: whether the name of node i is lawful. A name has no slash.
+pub fn name_lawful(image: &[u8], i: usize) -> bool
+    requires { ⌜ Laid (now image) × (i < nodeCount (now image)) ⌝ }
+    ensures { λ r. ⌜ r ≡ nameLawful (name (treeOf (now (image .entry))) i) ⌝ }
+{
+    is_text(image, Record::at(i) + Record::NAME, SLASH)
+}
+
+// Rule 10: whether the label of node i is lawful. Byte 0 is barred, as it is in every text.
+pub fn label_lawful(image: &[u8], i: usize) -> bool
+    requires { ⌜ Laid (now image) × (i < nodeCount (now image)) ⌝ }
+    ensures { λ r. ⌜ r ≡ labelLawful (label (treeOf (now (image .entry))) i) ⌝ }
+{
+    is_text(image, Record::at(i) + Record::LABEL, 0)
+}
+
+// The first index at which the texts from p and from q differ; 32 where they are the same.
+pub fn first_difference(image: &[u8], p: usize, q: usize) -> usize
+    requires { ⌜ (p + 32 ≤ length (now image)) × (q + 32 ≤ length (now image)) ⌝ }
+    ensures { λ r. ⌜ r ≡ firstDifference (textAt (now (image .entry)) p) (textAt (now (image .entry)) q) ⌝ }
+{
+    let mut k: usize = 0;
+    while k < 32 {
+        if words::byte_at(image, p + k) != words::byte_at(image, q + k) {
+            return k;
+        }
+        k += 1;
+    }
+    32
+}
+
+// Whether node j has the parent `up` of node i, and its name.
+fn is_namesake(image: &[u8], i: usize, up: usize, j: usize) -> bool
+    requires { ⌜ Laid (now image) × (i < nodeCount (now image)) ⌝ }
+    requires { ⌜ (up ≡ parent (treeOf (now image)) i) × (j < nodeCount (now image)) ⌝ }
+    ensures { λ r. ⌜ r ≡ namesake (treeOf (now (image .entry))) i j ⌝ }
+{
+    if records::parent_of(image, j) != up {
+        return false;
+    }
+    first_difference(
+        image,
+        Record::at(j) + Record::NAME,
+        Record::at(i) + Record::NAME,
+    )
+        == Record::TEXT_SIZE
+}
+
+// Rule 11: whether an earlier sibling of node i has its name. Siblings stand after the parent, so the search starts there.
+pub fn name_taken(image: &[u8], i: usize) -> bool
+    requires { ⌜ RecordsTo (now image) i × (parentLawful (treeOf (now image)) i ≡ true) ⌝ }
+    ensures { λ r. ⌜ r ≡ nameTaken (treeOf (now (image .entry))) i ⌝ }
+{
+    if i == 0 {
+        return false;
+    }
+    let up = records::parent_of(image, i);
+    let mut j = up + 1;
+    while j < i {
+        if is_namesake(image, i, up, j) {
+            return true;
+        }
+        j += 1;
+    }
+    false
+}

@@ -1,0 +1,56 @@
+// Rule 24 of DataArray_t.
+ghost use mathlib.Core.Path.{_≡_};
+ghost use mathlib.Core.List.{[], _∷_};
+ghost use Prim.Native.Nat.{_<_};
+ghost use Rattle.model.specs.Image.{treeOf, nodeCount, parent, I4, I8, R4, R8};
+ghost use Rattle.model.specs.Given.{Sound};
+ghost use Rattle.model.specs.Values.{typed, indexArray, sectionArrayType, arrayType};
+use super::shapes;
+use super::shapes::flat;
+use super::shapes::typed;
+use super::shapes::typed_either;
+use labels::roles;
+use records::Record;
+
+// The name is ElementConnectivity or ElementStartOffset.
+fn index_array(image: &[u8], i: usize) -> bool
+    requires { ⌜ Sound (now image) × (i < nodeCount (now image)) ⌝ }
+    ensures { λ r. ⌜ r ≡ indexArray (treeOf (now (image .entry))) i ⌝ }
+{
+    let at = Record::at(i) + Record::NAME;
+    labels::spells_at(image, at, b"ElementConnectivity")
+        || labels::spells_at(image, at, b"ElementStartOffset")
+}
+
+// Under a section: those two I4 or I8 with one dimension, others anything but MT.
+fn section_array_type(image: &[u8], i: usize) -> bool
+    requires { ⌜ Sound (now image) × (i < nodeCount (now image)) ⌝ }
+    ensures { λ r. ⌜ r ≡ sectionArrayType (treeOf (now (image .entry))) i ⌝ }
+{
+    if !index_array(image, i) {
+        return !typed(image, i, shapes::MT);
+    }
+    typed_either(image, i, shapes::I4, shapes::I8) && flat(image, i)
+}
+
+// I4, I8, R4 or R8.
+fn number_type(image: &[u8], i: usize) -> bool
+    requires { ⌜ Sound (now image) × (i < nodeCount (now image)) ⌝ }
+    ensures { λ r. ⌜ r ≡ typed (treeOf (now (image .entry))) i (I4 ∷ I8 ∷ R4 ∷ R8 ∷ []) ⌝ }
+{
+    typed_either(image, i, shapes::I4, shapes::I8) || typed_either(image, i, shapes::R4, shapes::R8)
+}
+
+// DataArray_t: R4 or R8 under coordinates; I4, I8, R4, R8 under flow; under a section as above.
+pub fn array_type(image: &[u8], i: usize) -> bool
+    requires { ⌜ (Sound (now image) × (i < nodeCount (now image))) × (parent (treeOf (now image)) i < nodeCount (now image)) ⌝ }
+    ensures { λ r. ⌜ r ≡ arrayType (treeOf (now (image .entry))) i ⌝ }
+{
+    let role = labels::role_of(image, records::parent_of(image, i));
+    match role {
+        roles::GRID_COORDINATES => typed_either(image, i, shapes::R4, shapes::R8),
+        roles::FLOW_SOLUTION => number_type(image, i),
+        roles::ELEMENTS => section_array_type(image, i),
+        _ => false,
+    }
+}

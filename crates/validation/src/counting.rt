@@ -1,0 +1,45 @@
+// How many nodes are validated, and how many of them have a role.
+ghost use mathlib.Core.Path.{_≡_};
+ghost use mathlib.Core.Bool.{cond};
+ghost use Prim.Native.Nat.{_<_, _≤_};
+ghost use Rattle.model.specs.Lists.{countFrom};
+ghost use Rattle.model.specs.Image.{treeOf, nodeCount};
+ghost use Rattle.model.specs.Containment.{validated, validatedAs};
+ghost use Rattle.model.specs.Given.{Sound};
+
+// 1 for a test that holds, 0 for one that does not.
+fn unit(test: bool) -> u64
+    ensures { λ r. ⌜ (r ≡ cond test 1 0) × (r ≤ 1) ⌝ }
+{
+    if test { 1 } else { 0 }
+}
+
+// How many nodes are validated.
+pub fn count_validated(image: &[u8]) -> u64
+    requires { ⌜ Sound (now image) ⌝ }
+    ensures { λ r. ⌜ (r ≡ countFrom (validated (treeOf (now (image .entry)))) (nodeCount (now (image .entry))) 0) × (r ≤ nodeCount (now (image .entry))) ⌝ }
+{
+    let n = labels::node_count(image);
+    let mut count: u64 = 0;
+    let mut i = 0;
+    while i < n {
+        count += unit(labels::validated(image, i));
+        i += 1;
+    }
+    count
+}
+
+// How many validated nodes have a role.
+pub fn count_as(image: &[u8], role: u64) -> u64
+    requires { ⌜ Sound (now image) ⌝ }
+    ensures { λ r. ⌜ r ≡ countFrom (validatedAs (treeOf (now (image .entry))) role) (nodeCount (now (image .entry))) 0 ⌝ }
+{
+    let n = labels::node_count(image);
+    let mut count: u64 = 0;
+    let mut i = 0;
+    while i < n {
+        count += unit(labels::validated_as(image, role, i));
+        i += 1;
+    }
+    count
+}

@@ -1,0 +1,103 @@
+// Validation of an image: every rule in the stated order, and the four counts of an acceptance. The DataSize of an array.
+ghost use mathlib.Core.Path.{_≡_};
+ghost use mathlib.Core.Bool.{true, cond};
+ghost use mathlib.Core.List.{[]};
+ghost use lib.Dec.{eqb};
+ghost use Rattle.model.specs.Rules.{answer, check, passed};
+ghost use Rattle.model.specs.Image.{treeOf};
+ghost use Rattle.model.specs.Containment.{role, Elements, validated};
+ghost use Rattle.model.specs.Values.{sidsRules};
+ghost use Rattle.model.specs.Elements.{elementRules};
+ghost use Rattle.model.specs.Validation.{nodeCheckAt, nodeCheck, imageCheck, counts, validation};
+ghost use Rattle.model.specs.Given.{Sound, NodesTo};
+ghost use Rattle.model.specs.Answers.{stageTells, validationTells};
+
+mod counting;
+
+use labels::roles::ELEMENTS;
+use labels::roles::ZONE;
+use model::Stage;
+use model::Validation;
+
+// Rules 27 to 35 where node i is a section.
+fn section_stage(image: &[u8], i: usize) -> Stage
+    requires { ⌜ NodesTo (now image) i × (validated (treeOf (now image)) i ≡ true) ⌝ }
+    requires { ⌜ check i (sidsRules (treeOf (now image)) i) ≡ passed ⌝ }
+    ensures { λ r. ⌜ stageTells r ≡ check i (cond (eqb (role (treeOf (now (image .entry))) i) Elements) (elementRules (treeOf (now (image .entry))) i) []) ⌝ }
+{
+    if labels::role_of(image, i) == ELEMENTS {
+        return elements::element_stage(image, i);
+    }
+    Stage::Pass
+}
+
+// Rules 20 to 35 at node i, to which validation has come; a node that is not validated is skipped.
+fn node_stage(image: &[u8], i: usize) -> Stage
+    requires { ⌜ NodesTo (now image) i ⌝ }
+    ensures { λ r. ⌜ stageTells r ≡ nodeCheckAt (treeOf (now (image .entry))) i ⌝ }
+{
+    if !labels::validated(image, i) {
+        return Stage::Pass;
+    }
+    let s = sids::sids_stage(image, i);
+    let Stage::Pass = s else {
+        return s;
+    };
+    section_stage(image, i)
+}
+
+// Rules 20 to 35 at every node, the lowest first.
+fn nodes_stage(image: &[u8]) -> Stage
+    requires { ⌜ Sound (now image) ⌝ }
+    ensures { λ r. ⌜ stageTells r ≡ nodeCheck (treeOf (now (image .entry))) ⌝ }
+{
+    let n = labels::node_count(image);
+    let mut i = 0;
+    while i < n {
+        let s = node_stage(image, i);
+        let Stage::Pass = s else {
+            return s;
+        };
+        i += 1;
+    }
+    Stage::Pass
+}
+
+// Every rule, 1 to 35, as one stage.
+pub fn image_stage(image: &[u8]) -> Stage
+    ensures { λ r. ⌜ stageTells r ≡ imageCheck (now (image .entry)) ⌝ }
+{
+    let s = table::table_stage(image);
+    let Stage::Pass = s else {
+        return s;
+    };
+    nodes_stage(image)
+}
+
+// The four counts of an image in which rules 1 to 18 hold.
+fn accepted(image: &[u8]) -> Validation
+    requires { ⌜ Sound (now image) ⌝ }
+    ensures { λ r. ⌜ validationTells r ≡ answer (counts (treeOf (now (image .entry)))) ⌝ }
+{
+    let n = labels::node_count(image) as u64;
+    let validated = counting::count_validated(image);
+    let zones = counting::count_as(image, ZONE);
+    let sections = counting::count_as(image, ELEMENTS);
+    Validation::Accepted {
+        validated,
+        skipped: n - validated,
+        zones,
+        sections,
+    }
+}
+
+// Whether the image meets every rule: the counts of validated nodes, skipped nodes, zones and sections; otherwise the first broken rule and its node.
+pub fn validate(image: &[u8]) -> Validation
+    ensures { λ r. ⌜ validationTells r ≡ validation (now (image .entry)) ⌝ }
+{
+    let s = image_stage(image);
+    let Stage::Pass = s else {
+        return Validation::Rejected(s.rejection());
+    };
+    accepted(image)
+}
