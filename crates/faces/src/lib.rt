@@ -17,15 +17,23 @@ use model::Stage;
 
 // The usage of a zone's faces after the image's check: its rejection, then 40, 44, 45, or F with the first F bytes written. Bytes after them never
 // change; on 45 the first F are 0, and every other rejection leaves them all.
-pub fn usage_after(verdict: Stage, image: &[u8], zone: u64, out: &mut [u8]) -> FaceUsage
+fn usage_after(verdict: Stage, image: &[u8], zone: u64, out: &mut [u8]) -> FaceUsage
     requires { ⌜ stageTells verdict ≡ imageCheck (now image) ⌝ }
     ensures { λ r. ⌜ (usageTells r ≡ usageAnswer (now (image .entry)) zone (length (now (out .entry)))) × (now (out .exit) ≡ usageMemory (now (image .entry)) zone (now (out .entry))) ⌝ }
 {
-    if let Stage::Rejected(r) = verdict {
-        return FaceUsage::Rejected(r);
-    }
+    let Stage::Pass = verdict else {
+        return FaceUsage::Rejected(verdict.rejection());
+    };
     if !labels::is_zone(image, zone) {
         return FaceUsage::Rejected(Rejection::at(40, 0));
     }
     zone::zone_usage(image, zone as usize, out)
+}
+
+// The usage of a zone's faces: validation's rejection, then 40, 44, 45, or how many faces the zone has, a byte for each written in front of `out`. On 45
+// those bytes are 0; every other rejection leaves `out` as it was, and bytes after them never change.
+pub fn face_usage(image: &[u8], zone: u64, out: &mut [u8]) -> FaceUsage
+    ensures { λ r. ⌜ (usageTells r ≡ usageAnswer (now (image .entry)) zone (length (now (out .entry)))) × (now (out .exit) ≡ usageMemory (now (image .entry)) zone (now (out .entry))) ⌝ }
+{
+    usage_after(validation::image_stage(image), image, zone, out)
 }

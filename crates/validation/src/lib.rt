@@ -12,7 +12,10 @@ ghost use Rattle.model.specs.Validation.{nodeCheckAt, nodeCheck, imageCheck, co
 ghost use Rattle.model.specs.Given.{Sound, NodesTo};
 ghost use Rattle.model.specs.Answers.{stageTells, validationTells};
 
-mod counting;
+mod counting; // counting.rt: how many nodes are validated
+mod sizes; // sizes.rt: the DataSize of an array
+
+pub use sizes::data_size;
 
 use labels::roles::ELEMENTS;
 use labels::roles::ZONE;

@@ -1,0 +1,64 @@
+// The DataSize of a coordinate or flow array.
+ghost use mathlib.Core.Path.{_≡_};
+ghost use mathlib.Core.Bool.{true, _&&_};
+ghost use Prim.Native.Nat.{_<_};
+ghost use lib.Dec.{ltb};
+ghost use Rattle.model.specs.Rules.{answer};
+ghost use Rattle.model.specs.Image.{treeOf, nodeCount, parent};
+ghost use Rattle.model.specs.Containment.{validated};
+ghost use Rattle.model.specs.Values.{sizedArray, dataSizes};
+ghost use Rattle.model.specs.DataSize.{isSizedArray, dataSizeAnswer};
+ghost use Rattle.model.specs.Given.{Sound, Accepted};
+ghost use Rattle.model.specs.Answers.{dataSizeTells};
+ghost use Rattle.validation.specs.Sizes.{Absent};
+
+use model::DataSize;
+use model::Rejection;
+use model::Stage;
+
+// Whether a number is that of a validated coordinate or flow array.
+fn is_sized_array(image: &[u8], node: u64) -> bool
+    requires { ⌜ Sound (now image) ⌝ }
+    ensures { λ r. ⌜ r ≡ isSizedArray (treeOf (now (image .entry))) node ⌝ }
+{
+    let n = labels::node_count(image) as u64;
+    if n <= node {
+        return false;
+    }
+    let i = node as usize;
+    if !sids::sized_array(image, i) {
+        return false;
+    }
+    labels::validated(image, i)
+}
+
+// The sizes of a coordinate or flow array of an accepted image.
+fn array_sizes(image: &[u8], i: usize) -> DataSize
+    requires { ⌜ Accepted (now image) × (i < nodeCount (now image)) ⌝ }
+    requires { ⌜ (sizedArray (treeOf (now image)) i ≡ true) × (validated (treeOf (now image)) i ≡ true) ⌝ }
+    ensures { λ r. ⌜ (dataSizeTells r ≡ answer (dataSizes (treeOf (now (image .entry))) (parent (treeOf (now (image .entry))) i))) × Absent r ⌝ }
+{
+    let up = records::parent_of(image, i);
+    let n = types::index_dimension(image, records::parent_of(image, up));
+    let sizes = sids::data_sizes(image, up);
+    DataSize::Sizes {
+        directions: n,
+        i: sizes[0],
+        j: sizes[1],
+        k: sizes[2],
+    }
+}
+
+// The DataSize of a coordinate or flow array in each direction: validation's rejection, then 40. A direction that the zone lacks is 0.
+pub fn data_size(image: &[u8], node: u64) -> DataSize
+    ensures { λ r. ⌜ (dataSizeTells r ≡ dataSizeAnswer (now (image .entry)) node) × Absent r ⌝ }
+{
+    let s = crate::image_stage(image);
+    let Stage::Pass = s else {
+        return DataSize::Rejected(s.rejection());
+    };
+    if !is_sized_array(image, node) {
+        return DataSize::Rejected(Rejection::at(40, 0));
+    }
+    array_sizes(image, node as usize)
+}
