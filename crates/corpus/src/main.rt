@@ -36,12 +36,30 @@ fn path_into(image: &[u8], node: u64, room: u64) {
     memory(&out, room as usize);
 }
 
+// Face usage with the first n bytes of a buffer lent.
+fn usage_on(image: &[u8], zone: u64, out: &mut [u8], n: usize) {
+    if out.len() < n {
+        return;
+    }
+    print::usage(faces::face_usage(image, zone, &mut out[..n]));
+}
+
+// Face usage with room for so many bytes, each 170 before; the memory afterwards.
+fn usage_into(image: &[u8], zone: u64, room: u64) {
+    let mut out = [170u8; 1024];
+    usage_on(image, zone, &mut out, room as usize);
+    memory(&out, room as usize);
+}
+
 // The section entries with the first n numbers of a buffer lent.
 fn entries_on(image: &[u8], zone: u64, out: &mut [u64], n: usize) {
     if out.len() < n {
         return;
     }
-    print::count(sections::section_entries(image, zone, &mut out[..n]), b"entries ");
+    print::count(
+        sections::section_entries(image, zone, &mut out[..n]),
+        b"entries ",
+    );
 }
 
 // The first n numbers of a buffer.
@@ -109,6 +127,9 @@ fn one_call(image: &[u8]) -> bool {
     }
     if kind == 7 {
         print::value(values::array_value(image, node, number));
+    }
+    if kind == 8 {
+        usage_into(image, node, number);
     }
     io::write_all(1, b"\n");
     true

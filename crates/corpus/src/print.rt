@@ -4,6 +4,7 @@ use model::ArrayValue;
 use model::Corner;
 use model::Count;
 use model::DataSize;
+use model::FaceUsage;
 use model::Rejection;
 use model::Table;
 use model::Validation;
@@ -141,7 +142,12 @@ pub fn validation(v: Validation) {
 // As many sizes as there are directions.
 pub fn sizes(d: DataSize) {
     match d {
-        DataSize::Sizes { directions, i, j, k } => {
+        DataSize::Sizes {
+            directions,
+            i,
+            j,
+            k,
+        } => {
             pair(b"sizes ", directions);
             pair(b" ", i);
             if 1 < directions {
@@ -164,6 +170,17 @@ pub fn corner(c: Corner) {
             signed(n);
         }
         Corner::Rejected(r) => {
+            refusal(r);
+        }
+    }
+}
+
+pub fn usage(u: FaceUsage) {
+    match u {
+        FaceUsage::Faces(n) => {
+            pair(b"usage ", n);
+        }
+        FaceUsage::Rejected(r) => {
             refusal(r);
         }
     }
