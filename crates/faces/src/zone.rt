@@ -37,10 +37,10 @@ fn fill(
     let faces = bases[count];
     clear(out, faces as usize);
     let s = use_nodes(image, z, firsts, lasts, bases, count, out);
-    if let Stage::Rejected(r) = s {
+    let Stage::Pass = s else {
         clear(out, faces as usize);
-        return FaceUsage::Rejected(r);
-    }
+        return FaceUsage::Rejected(s.rejection());
+    };
     FaceUsage::Faces(faces)
 }
 
