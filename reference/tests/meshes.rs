@@ -45,3 +45,11 @@ fn samples_are_small_and_named_by_their_rule() {
         assert_eq!(rule, named, "{name}");
     }
 }
+
+#[test]
+fn samples_are_the_committed_ones() {
+    let folder = std::path::Path::new(env!("CARGO_MANIFEST_DIR")).join("../examples");
+    for (name, image) in samples() {
+        assert!(std::fs::read(folder.join(format!("{name}.img"))).is_ok_and(|bytes| bytes == image), "{name}");
+    }
+}
