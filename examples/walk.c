@@ -1,7 +1,7 @@
 /* walk IMAGE: validates an image, then walks every cell to its faces to its nodes and prints what it found; or says in words
  * what is wrong, and where. Exit status 0 for an accepted image, 1 otherwise.
  *
- *     cc -I include examples/walk.c dist/libgongaurora.a -o walk
+ *     cc -I dist examples/walk.c dist/libgongaurora.a -o walk
  */
 #include "gongaurora.h"
 

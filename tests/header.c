@@ -60,6 +60,8 @@ static void check_sections(const char *folder)
     for (k = 0; k < 27; k++) ((uint64_t *)(void *)sections)[k] = 7;
     found = gongaurora_sections(image, length, 3, sections, 1);
     CHECK(found.rule == GONGAURORA_RULE_ROOM && found.node == 0 && found.count == 0 && faces->node == 7);
+    found = gongaurora_sections(image, length, 3, NULL, 0);
+    CHECK(found.rule == GONGAURORA_RULE_ROOM && found.count == 0);
     found = gongaurora_sections(image, length, 2, sections, 3);
     CHECK(found.rule == GONGAURORA_RULE_NO_SUCH_NODE && found.count == 0);
     found = gongaurora_sections(image, length, 3, sections, 3);
@@ -92,6 +94,8 @@ static void check_face_usage(const char *folder)
     load(folder, "tetrahedron.img");
     answer = gongaurora_face_usage(image, length, 3, use, 3);
     CHECK(answer.rule == GONGAURORA_RULE_USAGE_ROOM && answer.node == 0 && answer.count == 0 && use[0] == 9);
+    answer = gongaurora_face_usage(image, length, 3, NULL, 0);
+    CHECK(answer.rule == GONGAURORA_RULE_USAGE_ROOM);
     answer = gongaurora_face_usage(image, length, 3, use, 5);
     CHECK(answer.rule == 0 && answer.node == 0 && answer.element == 0 && answer.count == 4);
     CHECK(use[0] == GONGAURORA_FORWARD && use[1] == 1 && use[2] == 1 && use[3] == 1 && use[4] == 9);
@@ -109,6 +113,8 @@ static void check_path(const char *folder)
     memset(path, '*', sizeof path);
     answer = gongaurora_path(image, length, 10, path, 29);
     CHECK(answer.rule == GONGAURORA_RULE_ROOM && answer.node == 0 && path[0] == '*');
+    answer = gongaurora_path(image, length, 10, NULL, 0);
+    CHECK(answer.rule == GONGAURORA_RULE_ROOM);
     answer = gongaurora_path(image, length, 10, path, sizeof path);
     CHECK(answer.rule == 0 && answer.node == 0 && answer.count == 30);
     CHECK(memcmp(path, "/Base/Zone1/Faces/ElementRange*", 31) == 0);
