@@ -6,7 +6,7 @@ use crate::build::{Image, Node};
 const FACE_NODES: [i64; 12] = [1, 3, 2, 1, 2, 4, 2, 3, 4, 3, 1, 4];
 
 /// The root and the version node that all whole cases begin with.
-fn beginning() -> Image {
+pub fn beginning() -> Image {
     let mut image = Image::with_root("HDF5 MotherNode", "Root Node of HDF5 File");
     let version = 4.0f32.to_le_bytes().to_vec();
     image.add(0, Node::new("CGNSLibraryVersion", "CGNSLibraryVersion_t", "R4", &[1], version));

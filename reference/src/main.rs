@@ -9,7 +9,9 @@ use reference::answers::*;
 use reference::cases::cases;
 use reference::generate::{image, Summary};
 use reference::lawful::SizeClass;
+use reference::mesh::mesh;
 use reference::queries::queries;
+use reference::samples::samples;
 
 const USAGE: &str = "\
 reference validate FILE
@@ -25,6 +27,8 @@ reference entries-into FILE ZONE ROOM
 reference usage-into FILE ZONE ROOM
 reference generate SEED COUNT DIR [small|medium|large]
 reference cases DIR
+reference samples DIR
+reference mesh poly|hex|zones N 4|8 FILE
 reference answers DIR
 reference queries SEED FILE";
 
@@ -48,7 +52,9 @@ fn run(arguments: &[String]) -> Result<String, String> {
     match words[..] {
         ["generate", seed, count, folder] => generate(seed, count, folder, "small"),
         ["generate", seed, count, folder, class] => generate(seed, count, folder, class),
-        ["cases", folder] => write_cases(folder),
+        ["cases", folder] => write_all("cases", folder, &cases()),
+        ["samples", folder] => write_all("samples", folder, &samples()),
+        ["mesh", kind, n, width, file] => write_mesh(kind, number(n)?, number(width)?, file),
         ["answers", folder] => answers(folder),
         ["queries", seed, file] => Ok(lines(&queries(number(seed)?, &read(file)?))),
         [call, file, ref rest @ ..] => {
@@ -122,13 +128,19 @@ fn generate(seed: &str, count: &str, folder: &str, class: &str) -> Result<String
     Ok(summary.line() + "\n")
 }
 
-/// Writes the worked cases; one line says how many.
-fn write_cases(folder: &str) -> Result<String, String> {
-    let all = cases();
-    for (name, image) in &all {
+/// Writes images by their names; one line says how many.
+fn write_all(what: &str, folder: &str, all: &[(&str, Vec<u8>)]) -> Result<String, String> {
+    for (name, image) in all {
         write(folder, name, image)?;
     }
-    Ok(format!("cases {}\n", all.len()))
+    Ok(format!("{what} {}\n", all.len()))
+}
+
+/// Writes a mesh; one line says its length and its verdict.
+fn write_mesh(kind: &str, n: u64, width: u64, file: &str) -> Result<String, String> {
+    let image = mesh(kind, n, width)?;
+    fs::write(file, &image).map_err(|problem| format!("{file}: {problem}"))?;
+    Ok(format!("{} bytes, {}\n", image.len(), validate_line(&image)))
 }
 
 /// A line `NAME verdict` for every image of a folder, sorted by name.

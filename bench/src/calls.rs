@@ -1,0 +1,98 @@
+//! The functions of walks.c.
+
+use reference::Section;
+
+/// The answer of validation: rule, node, validated, skipped, zones, sections.
+#[repr(C)]
+pub struct Validation {
+    pub rule: u64,
+    pub node: u64,
+    pub counts: [u64; 4],
+}
+
+/// The answer of the sections call: rule, node, count.
+#[repr(C)]
+pub struct Count {
+    pub rule: u64,
+    pub node: u64,
+    pub count: u64,
+}
+
+/// The answer of face usage: rule, node, element, count.
+#[repr(C)]
+pub struct Usage {
+    pub rule: u64,
+    pub node: u64,
+    pub element: u64,
+    pub count: u64,
+}
+
+/// What a walk has read.
+#[repr(C)]
+#[derive(Clone, Copy, Debug, PartialEq, Eq)]
+pub struct Walked {
+    pub corners: u64,
+    pub sum: u64,
+}
+
+type Walk = unsafe extern "C" fn(*const u8, usize, *const u64, usize) -> Walked;
+
+extern "C" {
+    fn bench_sum(bytes: *const u8, length: usize) -> u32;
+    fn bench_validate(image: *const u8, length: usize) -> Validation;
+    fn bench_sections(image: *const u8, length: usize, zone: u64, out: *mut u64, room: usize) -> Count;
+    fn bench_face_usage(image: *const u8, length: usize, zone: u64, out: *mut u8, room: usize) -> Usage;
+    fn bench_walk_library(image: *const u8, length: usize, sections: *const u64, count: usize) -> Walked;
+    fn bench_walk_plain(image: *const u8, length: usize, sections: *const u64, count: usize) -> Walked;
+}
+
+/// The image's bytes as 32-bit words, summed.
+pub fn sum(image: &[u8]) -> u32 {
+    // SAFETY: reads the image alone.
+    unsafe { bench_sum(image.as_ptr(), image.len()) }
+}
+
+/// The library's verdict.
+pub fn validate(image: &[u8]) -> Validation {
+    // SAFETY: reads the image alone.
+    unsafe { bench_validate(image.as_ptr(), image.len()) }
+}
+
+/// The library's sections of a zone, nine numbers each.
+pub fn sections(image: &[u8], zone: u64) -> Vec<u64> {
+    const ROOM: usize = 16;
+    let mut out = vec![0; 9 * ROOM];
+    // SAFETY: writes up to the room lent.
+    let answer = unsafe { bench_sections(image.as_ptr(), image.len(), zone, out.as_mut_ptr(), ROOM) };
+    assert_eq!(answer.rule, 0, "sections");
+    out.truncate(9 * answer.count as usize);
+    out
+}
+
+/// The library's face usage of a zone.
+pub fn face_usage(image: &[u8], zone: u64, out: &mut [u8]) -> Usage {
+    // SAFETY: writes up to the room lent.
+    unsafe { bench_face_usage(image.as_ptr(), image.len(), zone, out.as_mut_ptr(), out.len()) }
+}
+
+fn walk(walk: Walk, image: &[u8], sections: &[u64]) -> Walked {
+    // SAFETY: an accepted image and its sections; nothing is written.
+    unsafe { walk(image.as_ptr(), image.len(), sections.as_ptr(), sections.len() / 9) }
+}
+
+/// The walk by the library's corner reads.
+pub fn walk_library(image: &[u8], sections: &[u64]) -> Walked {
+    walk(bench_walk_library, image, sections)
+}
+
+/// The same walk with no check.
+pub fn walk_plain(image: &[u8], sections: &[u64]) -> Walked {
+    walk(bench_walk_plain, image, sections)
+}
+
+/// How many faces the sections have.
+pub fn face_count(sections: &[u64]) -> usize {
+    let all = sections.chunks_exact(9).filter_map(|numbers| <&[u64; 9]>::try_from(numbers).ok());
+    let faces = all.map(Section::of_numbers).filter(|section| section.element_type == 22);
+    faces.map(|section| (section.last - section.first + 1) as usize).sum()
+}

@@ -1,0 +1,129 @@
+/* What the library is measured by and against: its calls as a C program makes them, the same walk with no check at all, and
+ * one pass over the image's bytes. */
+#include "gongaurora.h"
+
+#include <string.h>
+
+enum { HEXA_8 = 17, NGON_N = 22, NFACE_N = 23 };
+
+/* What a walk has read; sum is of all node numbers, so that two walks can be held against each other. */
+typedef struct {
+    uint64_t corners;
+    uint64_t sum;
+} walked_t;
+
+/* The bytes as 32-bit words, summed. */
+uint32_t bench_sum(const uint8_t *bytes, size_t length)
+{
+    uint32_t sum = 0, word;
+    for (size_t at = 0; at + 4 <= length; at += 4) {
+        memcpy(&word, bytes + at, 4);
+        sum += word;
+    }
+    return sum;
+}
+
+gongaurora_validation bench_validate(const uint8_t *image, size_t length)
+{
+    return gongaurora_validate(image, length);
+}
+
+gongaurora_count bench_sections(const uint8_t *image, size_t length, uint64_t zone, gongaurora_section *out, size_t room)
+{
+    return gongaurora_sections(image, length, zone, out, room);
+}
+
+gongaurora_usage bench_face_usage(const uint8_t *image, size_t length, uint64_t zone, uint8_t *out, size_t room)
+{
+    return gongaurora_face_usage(image, length, zone, out, room);
+}
+
+/* The face section that holds a face number. */
+static const gongaurora_section *section_of_face(const gongaurora_section *sections, size_t count, uint64_t number)
+{
+    for (size_t k = 0; k < count; k++)
+        if (sections[k].type == NGON_N && sections[k].first <= number && number <= sections[k].last) return &sections[k];
+    return sections;
+}
+
+/* Cell to face to node by the library; hexahedra straight to their nodes. */
+walked_t bench_walk_library(const uint8_t *image, size_t length, const gongaurora_section *sections, size_t count)
+{
+    walked_t walked = {0, 0};
+    for (size_t k = 0; k < count; k++) {
+        const gongaurora_section *cells = &sections[k];
+        if (cells->type == HEXA_8) {
+            for (uint64_t cell = cells->first; cell <= cells->last; cell++)
+                for (uint64_t c = 1; c <= 8; c++) {
+                    walked.sum += (uint64_t)gongaurora_corner_of(image, length, cells, cell, c).number;
+                    walked.corners++;
+                }
+        }
+        if (cells->type != NFACE_N) continue;
+        for (uint64_t cell = cells->first; cell <= cells->last; cell++)
+            for (uint64_t c = 1;; c++) {
+                gongaurora_corner face = gongaurora_corner_of(image, length, cells, cell, c);
+                if (face.rule != 0) break;
+                uint64_t number = face.number < 0 ? 0 - (uint64_t)face.number : (uint64_t)face.number;
+                const gongaurora_section *faces = section_of_face(sections, count, number);
+                walked.corners++;
+                for (uint64_t n = 1;; n++) {
+                    gongaurora_corner node = gongaurora_corner_of(image, length, faces, number, n);
+                    if (node.rule != 0) break;
+                    walked.sum += (uint64_t)node.number;
+                    walked.corners++;
+                }
+            }
+    }
+    return walked;
+}
+
+/* The same walk over numbers of one width with no check. */
+#define PLAIN_WALK(name, integer)                                                                                            \
+    static integer name##_at(const uint8_t *image, uint64_t at, uint64_t index)                                             \
+    {                                                                                                                        \
+        integer number;                                                                                                      \
+        memcpy(&number, image + at + index * sizeof number, sizeof number);                                                  \
+        return number;                                                                                                       \
+    }                                                                                                                        \
+    static walked_t name(const uint8_t *image, const gongaurora_section *sections, size_t count)                            \
+    {                                                                                                                        \
+        walked_t walked = {0, 0};                                                                                            \
+        for (size_t k = 0; k < count; k++) {                                                                                 \
+            const gongaurora_section *cells = &sections[k];                                                                  \
+            uint64_t elements = cells->last - cells->first + 1;                                                              \
+            if (cells->type == HEXA_8) {                                                                                     \
+                for (uint64_t cell = 0; cell < elements; cell++)                                                             \
+                    for (uint64_t c = 0; c < 8; c++) {                                                                       \
+                        walked.sum += (uint64_t)name##_at(image, cells->connectivity_at, 8 * cell + c);                      \
+                        walked.corners++;                                                                                    \
+                    }                                                                                                        \
+            }                                                                                                                \
+            if (cells->type != NFACE_N) continue;                                                                            \
+            for (uint64_t cell = 0; cell < elements; cell++) {                                                               \
+                uint64_t end = (uint64_t)name##_at(image, cells->offsets_at, cell + 1);                                      \
+                for (uint64_t c = (uint64_t)name##_at(image, cells->offsets_at, cell); c < end; c++) {                       \
+                    int64_t face = name##_at(image, cells->connectivity_at, c);                                              \
+                    uint64_t number = face < 0 ? 0 - (uint64_t)face : (uint64_t)face;                                        \
+                    const gongaurora_section *faces = section_of_face(sections, count, number);                              \
+                    uint64_t place = number - faces->first;                                                                  \
+                    uint64_t last = (uint64_t)name##_at(image, faces->offsets_at, place + 1);                                \
+                    walked.corners++;                                                                                        \
+                    for (uint64_t n = (uint64_t)name##_at(image, faces->offsets_at, place); n < last; n++) {                 \
+                        walked.sum += (uint64_t)name##_at(image, faces->connectivity_at, n);                                 \
+                        walked.corners++;                                                                                    \
+                    }                                                                                                        \
+                }                                                                                                            \
+            }                                                                                                                \
+        }                                                                                                                    \
+        return walked;                                                                                                       \
+    }
+
+PLAIN_WALK(plain_walk_4, int32_t)
+PLAIN_WALK(plain_walk_8, int64_t)
+
+walked_t bench_walk_plain(const uint8_t *image, size_t length, const gongaurora_section *sections, size_t count)
+{
+    (void)length;
+    return sections->connectivity_width == 4 ? plain_walk_4(image, sections, count) : plain_walk_8(image, sections, count);
+}

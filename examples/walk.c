@@ -1,0 +1,250 @@
+/* walk IMAGE: validates an image, then walks every cell to its faces to its nodes and prints what it found; or says in words
+ * what is wrong, and where. Exit status 0 for an accepted image, 1 otherwise.
+ *
+ *     cc -I dist examples/walk.c dist/libgongaurora.a -o walk
+ */
+#include "gongaurora.h"
+
+#include <inttypes.h>
+#include <stdio.h>
+#include <stdlib.h>
+#include <string.h>
+
+enum { TYPES = 24, NGON_N = 22, NFACE_N = 23, LARGEST_IMAGE = 16777216 };
+
+typedef struct {
+    const uint8_t *bytes;
+    size_t length;
+} image_t;
+
+/* What a walk over one zone has found. */
+typedef struct {
+    uint64_t elements[TYPES]; /* by element type */
+    uint64_t corners;         /* numbers read */
+    uint64_t largest_face, largest_cell;
+    int64_t least_node, greatest_node;
+} findings_t;
+
+/* ---- Files and records ---- */
+
+/* The bytes of a file, one more than the largest image at most; NULL where it cannot be read. */
+static uint8_t *load(const char *name, size_t *length)
+{
+    FILE *file = fopen(name, "rb");
+    uint8_t *bytes = (uint8_t *)malloc(LARGEST_IMAGE + 1);
+    int failed = file == NULL || bytes == NULL;
+    if (!failed) {
+        *length = fread(bytes, 1, LARGEST_IMAGE + 1, file);
+        failed = ferror(file);
+    }
+    if (file != NULL) fclose(file);
+    if (failed) {
+        free(bytes);
+        return NULL;
+    }
+    return bytes;
+}
+
+/* Whether a node of an accepted image has this label. Records are 84 bytes from byte 32 on; the label is at byte 32 of each,
+ * padded to 32 with blanks. */
+static int is_labelled(image_t image, uint64_t node, const char *label)
+{
+    const uint8_t *field = image.bytes + 32 + 84 * node + 32;
+    size_t length = strlen(label);
+    return memcmp(field, label, length) == 0 && field[length] == ' ';
+}
+
+static void print_path(image_t image, uint64_t node)
+{
+    uint8_t path[GONGAURORA_PATH_ROOM];
+    gongaurora_count answer = gongaurora_path(image.bytes, image.length, node, path, sizeof path);
+    if (answer.rule == 0) printf("%.*s", (int)answer.count, (const char *)path);
+    else printf("node %" PRIu64, node);
+}
+
+/* ---- The walk ---- */
+
+/* The face section that holds a face number of either sign. In an accepted image there is exactly one. */
+static const gongaurora_section *section_of_face(const gongaurora_section *sections, uint64_t count, int64_t face)
+{
+    uint64_t number = face < 0 ? 0 - (uint64_t)face : (uint64_t)face;
+    for (uint64_t k = 0; k < count; k++)
+        if (sections[k].type == NGON_N && sections[k].first <= number && number <= sections[k].last) return &sections[k];
+    return NULL;
+}
+
+/* Reads the nodes of an element: from corner 1 until rule 42 says that there are no more. Answers how many there are. */
+static uint64_t walk_nodes(image_t image, const gongaurora_section *section, uint64_t element, findings_t *found)
+{
+    uint64_t corner = 1;
+    for (;; corner++) {
+        gongaurora_corner node = gongaurora_corner_of(image.bytes, image.length, section, element, corner);
+        if (node.rule != 0) break;
+        if (found->least_node == 0 || node.number < found->least_node) found->least_node = node.number;
+        if (node.number > found->greatest_node) found->greatest_node = node.number;
+    }
+    found->corners += corner - 1;
+    return corner - 1;
+}
+
+/* Reads the faces of a cell, and of each face its nodes. */
+static void walk_cell(image_t image, const gongaurora_section *sections, uint64_t count, const gongaurora_section *cells,
+                      uint64_t cell, findings_t *found)
+{
+    uint64_t corner = 1;
+    for (;; corner++) {
+        gongaurora_corner face = gongaurora_corner_of(image.bytes, image.length, cells, cell, corner);
+        if (face.rule != 0) break;
+        uint64_t number = face.number < 0 ? 0 - (uint64_t)face.number : (uint64_t)face.number;
+        uint64_t size = walk_nodes(image, section_of_face(sections, count, face.number), number, found);
+        if (size > found->largest_face) found->largest_face = size;
+    }
+    found->corners += corner - 1;
+    if (corner - 1 > found->largest_cell) found->largest_cell = corner - 1;
+}
+
+static void walk_section(image_t image, const gongaurora_section *sections, uint64_t count, const gongaurora_section *section,
+                         findings_t *found)
+{
+    for (uint64_t element = section->first; element <= section->last; element++) {
+        if (section->type == NFACE_N) walk_cell(image, sections, count, section, element, found);
+        else walk_nodes(image, section, element, found);
+        found->elements[section->type]++;
+    }
+}
+
+/* ---- What is printed of a zone ---- */
+
+static void print_findings(const findings_t *found)
+{
+    for (int type = 0; type < TYPES; type++)
+        if (found->elements[type] > 0) printf("  elements of type %d: %" PRIu64 "\n", type, found->elements[type]);
+    if (found->corners > 0) printf("  corners read: %" PRIu64 "\n", found->corners);
+    if (found->largest_cell > 0)
+        printf("  largest face: %" PRIu64 " nodes, largest cell: %" PRIu64 " faces\n", found->largest_face, found->largest_cell);
+    if (found->greatest_node > 0) printf("  nodes used: %" PRId64 " to %" PRId64 "\n", found->least_node, found->greatest_node);
+}
+
+/* How the zone's cells use its faces: inner faces are used from both sides. */
+static void print_usage(image_t image, uint64_t zone, const gongaurora_section *sections, uint64_t count)
+{
+    static const char *const uses[] = {"unused", "used forward", "used reversed", "used from both sides"};
+    uint64_t faces = 0, seen[4] = {0};
+    for (uint64_t k = 0; k < count; k++)
+        if (sections[k].type == NGON_N) faces += sections[k].last - sections[k].first + 1;
+    if (faces == 0) return;
+    uint8_t *usage = (uint8_t *)malloc(faces);
+    if (usage == NULL) return;
+    gongaurora_usage answer = gongaurora_face_usage(image.bytes, image.length, zone, usage, faces);
+    if (answer.rule != 0) {
+        printf("  faces: %s (", gongaurora_rule_text((unsigned)answer.rule));
+        print_path(image, answer.node);
+        printf(", element %" PRIu64 ")\n", answer.element);
+    } else {
+        for (uint64_t k = 0; k < answer.count; k++) seen[usage[k]]++;
+        for (int use = 0; use < 4; use++)
+            if (seen[use] > 0) printf("  faces %s: %" PRIu64 "\n", uses[use], seen[use]);
+    }
+    free(usage);
+}
+
+static double as_double(gongaurora_value value)
+{
+    uint32_t lower = (uint32_t)value.bits;
+    float single;
+    double number;
+    if (value.kind == GONGAURORA_WHOLE) return (double)(int64_t)value.bits;
+    if (value.kind == GONGAURORA_SINGLE) {
+        memcpy(&single, &lower, sizeof single);
+        return single;
+    }
+    memcpy(&number, &value.bits, sizeof number);
+    return number;
+}
+
+/* The sizes of an array, and its least and greatest value. */
+static void print_array(image_t image, uint64_t node, gongaurora_sizes sizes)
+{
+    uint64_t values = 1;
+    double least = 0, greatest = 0;
+    printf("  ");
+    print_path(image, node);
+    printf(": ");
+    for (uint64_t d = 0; d < sizes.directions; d++) {
+        printf("%s%" PRIu64, d > 0 ? " x " : "", sizes.size[d]);
+        values *= sizes.size[d];
+    }
+    for (uint64_t k = 1; k <= values; k++) {
+        double value = as_double(gongaurora_array_value(image.bytes, image.length, node, k));
+        if (k == 1 || value < least) least = value;
+        if (k == 1 || value > greatest) greatest = value;
+    }
+    printf(", %g to %g\n", least, greatest);
+}
+
+static void print_zone(image_t image, uint64_t zone, const gongaurora_section *sections, uint64_t count)
+{
+    findings_t found;
+    memset(&found, 0, sizeof found);
+    printf("zone ");
+    print_path(image, zone);
+    printf(": sections %" PRIu64 "\n", count);
+    for (uint64_t k = 0; k < count; k++) walk_section(image, sections, count, &sections[k], &found);
+    print_findings(&found);
+    print_usage(image, zone, sections, count);
+}
+
+/* ---- The whole image ---- */
+
+static void print_problem(image_t image, gongaurora_validation verdict)
+{
+    printf("rule %" PRIu64 " at ", verdict.rule);
+    print_path(image, verdict.node);
+    printf(": %s\n", gongaurora_rule_text((unsigned)verdict.rule));
+}
+
+/* Walks an accepted image. Its labels tell where zones and arrays may be; a zone or array below user-defined data is none,
+ * and the library says so with rule 40. */
+static int walk(image_t image, gongaurora_validation verdict)
+{
+    uint64_t nodes = verdict.validated + verdict.skipped;
+    gongaurora_section *sections = (gongaurora_section *)malloc((verdict.sections + 1) * sizeof *sections);
+    if (sections == NULL) {
+        fprintf(stderr, "out of memory\n");
+        return 1;
+    }
+    printf("accepted: nodes validated %" PRIu64 ", skipped %" PRIu64 ", zones %" PRIu64 ", sections %" PRIu64 "\n",
+           verdict.validated, verdict.skipped, verdict.zones, verdict.sections);
+    for (uint64_t node = 0; node < nodes; node++) {
+        if (is_labelled(image, node, "Zone_t")) {
+            gongaurora_count answer = gongaurora_sections(image.bytes, image.length, node, sections, verdict.sections);
+            if (answer.rule == 0) print_zone(image, node, sections, answer.count);
+        } else if (is_labelled(image, node, "DataArray_t")) {
+            gongaurora_sizes sizes = gongaurora_data_size(image.bytes, image.length, node);
+            if (sizes.rule == 0) print_array(image, node, sizes);
+        }
+    }
+    free(sections);
+    return 0;
+}
+
+int main(int argc, char **argv)
+{
+    image_t image = {NULL, 0};
+    if (argc != 2) {
+        fprintf(stderr, "usage: walk IMAGE\n");
+        return 1;
+    }
+    uint8_t *bytes = load(argv[1], &image.length);
+    if (bytes == NULL) {
+        fprintf(stderr, "%s: cannot be read\n", argv[1]);
+        return 1;
+    }
+    image.bytes = bytes;
+    gongaurora_validation verdict = gongaurora_validate(image.bytes, image.length);
+    int status = 1;
+    if (verdict.rule != 0) print_problem(image, verdict);
+    else status = walk(image, verdict);
+    free(bytes);
+    return status;
+}

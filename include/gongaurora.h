@@ -1,0 +1,364 @@
+/* Gongaurora: a proved validator and reader for CGNS node-table images. C99 and C++.
+ *
+ * Validate an image once; from then on every corner of every element can be read without a further check:
+ *
+ *     gongaurora_validation verdict = gongaurora_validate(image, length);
+ *     if (verdict.rule != 0) { puts(gongaurora_rule_text((unsigned)verdict.rule)); return; }
+ *     gongaurora_count found = gongaurora_sections(image, length, zone, sections, verdict.sections);
+ *     gongaurora_corner node = gongaurora_corner_of(image, length, &sections[0], element, corner);
+ *
+ * Every call answers on every input: nothing has to be checked before it. What holds for all calls:
+ *
+ *   Answers   `rule` is 0 where the call succeeded, else the rule that refused it (GONGAURORA_RULE_..). `node` is the node
+ *             that the rule was broken at, 0 where the rule names none. The other fields of a refusal are 0.
+ *   Memory    Lent memory is written by a call that succeeded, and there only as far as its answer says; a refused call
+ *             leaves it as it was. The one exception is rule 45 of gongaurora_face_usage. No call writes the image or a
+ *             section it is given, or keeps a pointer.
+ *   Aliasing  The memory that a call writes must not overlap the image or the section that it reads.
+ *   Pointers  A pointer to `length` bytes, or to `room` items, that can be read or written; with 0 of them any, also NULL.
+ *   Threads   There is no state: any calls may run at the same time, as long as no other thread writes what they read.
+ *
+ * Numbers in an image are little-endian. Nodes are numbered from 0 (the root); elements, corners and values from 1.
+ */
+#ifndef GONGAURORA_H
+#define GONGAURORA_H
+
+#include <stddef.h>
+#include <stdint.h>
+
+#ifdef __cplusplus
+extern "C" {
+#endif
+
+/* ---- Rules ------------------------------------------------------------------------------------------------------ */
+
+/* Why a call was refused. An image is judged header first (1 to 6), then its records (7 to 17), then what is left over (18),
+ * then node by node the meaning (20 to 35), at a node the lowest rule first; the first broken rule is the answer. */
+enum gongaurora_rule {
+    GONGAURORA_RULE_NONE = 0,             /* nothing is wrong */
+
+    /* the header; node 0 */
+    GONGAURORA_RULE_IMAGE_LENGTH = 1,     /* under 32 bytes, or over 16,777,216 */
+    GONGAURORA_RULE_FORM = 2,             /* the form is not 1 */
+    GONGAURORA_RULE_TOTAL_LENGTH = 3,     /* the total length is not the image's length */
+    GONGAURORA_RULE_NODE_COUNT = 4,       /* no node, or over 4,096 */
+    GONGAURORA_RULE_DIMENSION_WORDS = 5,  /* over 49,152 dimension words */
+    GONGAURORA_RULE_LAYOUT = 6,           /* an offset or the data length not as laid down */
+
+    /* the records; the node itself */
+    GONGAURORA_RULE_PARENT = 7,           /* the parent is not a lower node */
+    GONGAURORA_RULE_DEPTH = 8,            /* deeper than 32 */
+    GONGAURORA_RULE_NAME = 9,             /* an unlawful name */
+    GONGAURORA_RULE_LABEL = 10,           /* an unlawful label */
+    GONGAURORA_RULE_SIBLING_NAME = 11,    /* the name of an earlier sibling */
+    GONGAURORA_RULE_LINK = 12,            /* a link */
+    GONGAURORA_RULE_DATA_TYPE = 13,       /* an unknown data type */
+    GONGAURORA_RULE_DIMENSION_COUNT = 14, /* MT with dimensions, another type with none or over 12 */
+    GONGAURORA_RULE_FIRST_DIMENSION = 15, /* dimensions not behind those of the node before, or past the end */
+    GONGAURORA_RULE_DATA_LENGTH = 16,     /* a dimension of 0, or a data length that does not fit the dimensions */
+    GONGAURORA_RULE_DATA_OFFSET = 17,     /* data not behind those of the node before, or past the end */
+    GONGAURORA_RULE_TRAILING = 18,        /* words or bytes left over; the node is the node count */
+
+    /* the meaning; the node itself, for 23 the parent, from 27 on the section */
+    GONGAURORA_RULE_CONTAINMENT = 20,     /* a label that may not stand here */
+    GONGAURORA_RULE_FIXED_NAME = 21,      /* not the name that the label asks for */
+    GONGAURORA_RULE_SECOND_CHILD = 22,    /* a second child of a label allowed once */
+    GONGAURORA_RULE_REQUIRED_CHILD = 23,  /* a required child is missing */
+    GONGAURORA_RULE_LABEL_TYPE = 24,      /* data type or dimensions not the label's */
+    GONGAURORA_RULE_VALUE = 25,           /* a stored value that is not permitted */
+    GONGAURORA_RULE_DATA_SIZE = 26,       /* array dimensions not DataSize */
+    GONGAURORA_RULE_ELEMENT_TYPE = 27,    /* an element type that is not taken */
+    GONGAURORA_RULE_RANGE_OVERLAP = 28,   /* the range meets that of an earlier section */
+    GONGAURORA_RULE_ELEMENT_LENGTHS = 29, /* start offsets or connectivity do not fit the range */
+    GONGAURORA_RULE_FIRST_OFFSET = 30,    /* the first start offset is not 0 */
+    GONGAURORA_RULE_OFFSET_ORDER = 31,    /* a start offset not above its predecessor */
+    GONGAURORA_RULE_LAST_OFFSET = 32,     /* the last start offset is not the connectivity length */
+    GONGAURORA_RULE_NODE_REFERENCE = 34,  /* a node number outside 1 to VertexSize */
+    GONGAURORA_RULE_FACE_REFERENCE = 35,  /* a face number that is no face of the zone */
+
+    /* the calls */
+    GONGAURORA_RULE_NO_SUCH_NODE = 40,    /* no such node, or none of the kind asked for */
+    GONGAURORA_RULE_ELEMENT_NUMBER = 41,  /* the element is outside the section's range */
+    GONGAURORA_RULE_INDEX = 42,           /* the corner or value is outside 1 to their number */
+    GONGAURORA_RULE_UNREADABLE = 43,      /* the section asks for bytes that cannot be read */
+    GONGAURORA_RULE_USAGE_ROOM = 44,      /* fewer bytes lent than the zone has faces */
+    GONGAURORA_RULE_FACE_REPEATED = 45,   /* a face used twice with one sign; node and element tell where */
+    GONGAURORA_RULE_ROOM = 46,            /* too little memory lent */
+    GONGAURORA_RULE_VALUE_TYPE = 47       /* a data type whose values are not handed out */
+};
+
+/* The rule as one sentence for an error message. Static text; never NULL. */
+static inline const char *gongaurora_rule_text(unsigned rule)
+{
+    switch (rule) {
+    case 0: return "Nothing is wrong.";
+    case 1: return "The image has under 32 bytes or over 16,777,216.";
+    case 2: return "The header's form is not 1.";
+    case 3: return "The header's total length is not the image's length.";
+    case 4: return "The image has no node or over 4,096.";
+    case 5: return "The image has over 49,152 dimension words.";
+    case 6: return "An offset or the data length in the header is not as laid down.";
+    case 7: return "The node's parent is not a node with a lower number.";
+    case 8: return "The node is deeper than 32 levels below the root.";
+    case 9: return "The node's name is not lawful.";
+    case 10: return "The node's label is not lawful.";
+    case 11: return "An earlier sibling has the node's name.";
+    case 12: return "The node is a link.";
+    case 13: return "The node's data type is unknown.";
+    case 14: return "The node's number of dimensions does not fit its data type.";
+    case 15: return "The node's dimensions do not follow those of the nodes before it, or lie past the end.";
+    case 16: return "A dimension of the node is 0, or its data length does not fit its dimensions.";
+    case 17: return "The node's data do not follow those of the nodes before it, or lie past the end.";
+    case 18: return "Dimension words or data bytes are left over that belong to no node.";
+    case 20: return "A node with this label may not stand under this parent.";
+    case 21: return "The node does not have the name that its label asks for.";
+    case 22: return "The parent has a second child of a label that is allowed once.";
+    case 23: return "A required child of the node is missing or not as it has to be.";
+    case 24: return "The node's data type or dimensions are not those of its label.";
+    case 25: return "A value stored in the node is not permitted.";
+    case 26: return "The array's dimensions are not its DataSize.";
+    case 27: return "The section's element type is not supported.";
+    case 28: return "The section's element range meets that of an earlier section of the zone.";
+    case 29: return "The section's start offsets or connectivity do not fit its element range.";
+    case 30: return "The section's first start offset is not 0.";
+    case 31: return "A start offset of the section is not above its predecessor.";
+    case 32: return "The section's last start offset is not its connectivity length.";
+    case 34: return "The section refers to a node outside 1 to VertexSize.";
+    case 35: return "The section refers to a face that the zone does not have.";
+    case 40: return "There is no such node, or it is not of the kind asked for.";
+    case 41: return "The element number is outside the section's range.";
+    case 42: return "The corner or value number is out of range.";
+    case 43: return "The section asks for bytes that cannot be read.";
+    case 44: return "The lent memory is shorter than the zone's number of faces.";
+    case 45: return "A face is used twice with the same sign.";
+    case 46: return "The lent memory is too short.";
+    case 47: return "Values of the node's data type are not handed out.";
+    default: return "There is no rule of this number.";
+    }
+}
+
+/* ---- What the archive exports ----------------------------------------------------------------------------------- */
+
+/* Use the calls further below; they are thin over these. `answer` receives as many numbers as are named; with less room than
+ * that nothing is written at all. */
+
+/* answer: rule, node, validated, skipped, zones, sections */
+void gongaurora_export_validate(const uint8_t *image, size_t length, uint64_t *answer, size_t room);
+/* out: nine numbers a section; answer: rule, node, count */
+void gongaurora_export_sections(const uint8_t *image, size_t length, uint64_t zone, uint64_t *out, size_t numbers,
+                                uint64_t *answer, size_t room);
+/* returns the rule; 0: the number was written */
+uint64_t gongaurora_export_corner(const uint8_t *image, size_t length, const uint64_t *section, size_t nine, uint64_t element,
+                                  uint64_t corner, int64_t *number, size_t one);
+/* answer: rule, node, element, count */
+void gongaurora_export_face_usage(const uint8_t *image, size_t length, uint64_t zone, uint8_t *out, size_t bytes,
+                                  uint64_t *answer, size_t room);
+/* answer: rule, node, count */
+void gongaurora_export_path(const uint8_t *image, size_t length, uint64_t node, uint8_t *out, size_t bytes, uint64_t *answer,
+                            size_t room);
+/* answer: rule, node, directions, i, j, k */
+void gongaurora_export_data_size(const uint8_t *image, size_t length, uint64_t node, uint64_t *answer, size_t room);
+/* answer: rule, node, kind, bits */
+void gongaurora_export_array_value(const uint8_t *image, size_t length, uint64_t node, uint64_t k, uint64_t *answer,
+                                   size_t room);
+
+/* ---- Validation ------------------------------------------------------------------------------------------------- */
+
+typedef struct gongaurora_validation {
+    uint64_t rule;      /* 0: accepted */
+    uint64_t node;
+    uint64_t validated; /* nodes that the rules speak of */
+    uint64_t skipped;   /* all others: below user-defined data, or with unknown labels */
+    uint64_t zones;     /* validated zones */
+    uint64_t sections;  /* validated sections of all zones */
+} gongaurora_validation;
+
+/* Judges the whole image. Refusals: 1 to 35, the first in the order told above. */
+static inline gongaurora_validation gongaurora_validate(const uint8_t *image, size_t length)
+{
+    uint64_t answer[6] = {0};
+    gongaurora_validation result;
+    gongaurora_export_validate(image, length, answer, 6);
+    result.rule = answer[0];
+    result.node = answer[1];
+    result.validated = answer[2];
+    result.skipped = answer[3];
+    result.zones = answer[4];
+    result.sections = answer[5];
+    return result;
+}
+
+/* ---- Sections and corners --------------------------------------------------------------------------------------- */
+
+/* Where a section's elements stand in the image. Byte offsets count from the image's start; offset and width are 0 where
+ * there is no such array. */
+typedef struct gongaurora_section {
+    uint64_t node;
+    uint64_t type;                /* CGNS element type: 22 faces (NGON_n), 23 cells made of faces (NFACE_n), else fixed */
+    uint64_t first;               /* ElementRange */
+    uint64_t last;
+    uint64_t offsets_at;          /* ElementStartOffset: byte offset, bytes a number (4 or 8) */
+    uint64_t offsets_width;
+    uint64_t connectivity_at;     /* ElementConnectivity: byte offset, bytes a number (4 or 8), how many numbers */
+    uint64_t connectivity_width;
+    uint64_t connectivity_length;
+} gongaurora_section;
+
+typedef char gongaurora_section_is_nine_numbers[sizeof(gongaurora_section) == 9 * sizeof(uint64_t) ? 1 : -1];
+
+typedef struct gongaurora_count {
+    uint64_t rule;
+    uint64_t node;
+    uint64_t count;
+} gongaurora_count;
+
+/* Writes the sections of a zone, asked for by its node number, in node order to the front of `out`, and answers how many
+ * they are. `sections` of gongaurora_validate is room enough for any zone.
+ * Refusals: validation's; 40: no validated zone; 46: more sections than `room`. */
+static inline gongaurora_count gongaurora_sections(const uint8_t *image, size_t length, uint64_t zone, gongaurora_section *out,
+                                                   size_t room)
+{
+    uint64_t answer[3] = {0};
+    gongaurora_count result;
+    gongaurora_export_sections(image, length, zone, (uint64_t *)(void *)out, room * 9, answer, 3);
+    result.rule = answer[0];
+    result.node = answer[1];
+    result.count = answer[2];
+    return result;
+}
+
+typedef struct gongaurora_corner {
+    uint64_t rule;
+    int64_t number; /* 0 where refused */
+} gongaurora_corner;
+
+/* The number stored at a corner of an element. In a section of type 23 it is a face number, negative where the cell sees the
+ * face from its other side; in others a node number. Does not validate.
+ * Refusals: 41: the element is not in the section's range; 43: the section asks for bytes that cannot be read; 42: the
+ * corner is not in 1 to the element's size (so an element's corners are read from 1 until 42 comes).
+ *
+ * With an accepted image and the sections that gongaurora_sections gave for one of its zones, image and sections unchanged
+ * since, this is proved: 43 never comes. 41 comes exactly for elements outside the section's range, 42 exactly for corners
+ * outside 1 to the element's size; every other read answers the stored number. A node number so read lies in 1 to VertexSize.
+ * The magnitude of a face number lies in the range of exactly one of the sections, one of type 22, and all corners of that
+ * face can be read. */
+static inline gongaurora_corner gongaurora_corner_of(const uint8_t *image, size_t length, const gongaurora_section *section,
+                                                     uint64_t element, uint64_t corner)
+{
+    gongaurora_corner result;
+    result.number = 0;
+    result.rule = gongaurora_export_corner(image, length, (const uint64_t *)(const void *)section, 9, element, corner,
+                                           &result.number, 1);
+    return result;
+}
+
+/* ---- Face usage ------------------------------------------------------------------------------------------------- */
+
+enum gongaurora_use {
+    GONGAURORA_UNUSED = 0,
+    GONGAURORA_FORWARD = 1,  /* by a positive face number only */
+    GONGAURORA_REVERSED = 2, /* by a negative face number only */
+    GONGAURORA_BOTH = 3
+};
+
+typedef struct gongaurora_usage {
+    uint64_t rule;
+    uint64_t node;    /* for 45 the section of cells */
+    uint64_t element; /* for 45 the cell that uses a face again, else 0 */
+    uint64_t count;   /* the zone's number of faces, F */
+} gongaurora_usage;
+
+/* How the cells (type 23) of a zone use its faces (type 22): one byte a face to the front of `out`, faces ordered by section
+ * node, then number; answers F. Bytes past the first F never change.
+ * Refusals: validation's; 40: no validated zone; 44: `room` is less than F; 45: a face used twice with one sign: then the
+ * first F bytes are 0. */
+static inline gongaurora_usage gongaurora_face_usage(const uint8_t *image, size_t length, uint64_t zone, uint8_t *out,
+                                                     size_t room)
+{
+    uint64_t answer[4] = {0};
+    gongaurora_usage result;
+    gongaurora_export_face_usage(image, length, zone, out, room, answer, 4);
+    result.rule = answer[0];
+    result.node = answer[1];
+    result.element = answer[2];
+    result.count = answer[3];
+    return result;
+}
+
+/* ---- Paths ------------------------------------------------------------------------------------------------------ */
+
+/* The longest path: 32 levels, each a slash and at most 32 bytes. */
+#define GONGAURORA_PATH_ROOM 1056
+
+/* Writes the path of a node to the front of `out` and answers its length: the names from below the root, each after a slash;
+ * the root's path is one slash. No zero byte is appended. Works on a refused image too, as long as its rule is over 18.
+ * Refusals: 1 to 18; 40: no such node; 46: the path is longer than `room`. */
+static inline gongaurora_count gongaurora_path(const uint8_t *image, size_t length, uint64_t node, uint8_t *out, size_t room)
+{
+    uint64_t answer[3] = {0};
+    gongaurora_count result;
+    gongaurora_export_path(image, length, node, out, room, answer, 3);
+    result.rule = answer[0];
+    result.node = answer[1];
+    result.count = answer[2];
+    return result;
+}
+
+/* ---- Arrays ----------------------------------------------------------------------------------------------------- */
+
+typedef struct gongaurora_sizes {
+    uint64_t rule;
+    uint64_t node;
+    uint64_t directions; /* 1 to 3 */
+    uint64_t size[3];    /* 0 in a direction that the zone lacks */
+} gongaurora_sizes;
+
+/* The DataSize of a DataArray_t under GridCoordinates_t or FlowSolution_t, rind included.
+ * Refusals: validation's; 40: no such node, or no such array. */
+static inline gongaurora_sizes gongaurora_data_size(const uint8_t *image, size_t length, uint64_t node)
+{
+    uint64_t answer[6] = {0};
+    gongaurora_sizes result;
+    gongaurora_export_data_size(image, length, node, answer, 6);
+    result.rule = answer[0];
+    result.node = answer[1];
+    result.directions = answer[2];
+    result.size[0] = answer[3];
+    result.size[1] = answer[4];
+    result.size[2] = answer[5];
+    return result;
+}
+
+enum gongaurora_kind {
+    GONGAURORA_WHOLE = 1,  /* I4, I8: the number in two's complement, 64 bits */
+    GONGAURORA_SINGLE = 2, /* R4: the bits of a float, in the lower 32 */
+    GONGAURORA_DOUBLE = 3  /* R8: the bits of a double */
+};
+
+typedef struct gongaurora_value {
+    uint64_t rule;
+    uint64_t node;
+    uint64_t kind; /* GONGAURORA_WHOLE, GONGAURORA_SINGLE or GONGAURORA_DOUBLE */
+    uint64_t bits; /* as stored, of a NaN too */
+} gongaurora_value;
+
+/* The k-th stored value of any node. Works on a refused image too, as long as its rule is over 18.
+ * Refusals: 1 to 18; 40: no such node; 47: its data type is not I4, I8, R4 or R8; 42: k is not in 1 to the number of values.
+ * Each call judges rules 1 to 18 again. */
+static inline gongaurora_value gongaurora_array_value(const uint8_t *image, size_t length, uint64_t node, uint64_t k)
+{
+    uint64_t answer[4] = {0};
+    gongaurora_value result;
+    gongaurora_export_array_value(image, length, node, k, answer, 4);
+    result.rule = answer[0];
+    result.node = answer[1];
+    result.kind = answer[2];
+    result.bits = answer[3];
+    return result;
+}
+
+#ifdef __cplusplus
+}
+#endif
+
+#endif

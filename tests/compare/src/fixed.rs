@@ -1,0 +1,31 @@
+//! Images that every run begins with: document 01's cases, the samples, meshes, and images at the limits of length.
+
+use reference::build::Node;
+use reference::cases::{cases, tetrahedron};
+use reference::header::MAX_IMAGE;
+use reference::lawful::SizeClass;
+use reference::mesh::mesh;
+use reference::samples::samples;
+
+/// The images, in a fixed order.
+pub fn fixed(class: SizeClass) -> Vec<Vec<u8>> {
+    let mut images: Vec<Vec<u8>> = cases().into_iter().chain(samples()).map(|(_, image)| image).collect();
+    images.extend([of_length(MAX_IMAGE), of_length(MAX_IMAGE + 1), Vec::new()]);
+    let meshes = match class {
+        SizeClass::Small => [("poly", 3, 4), ("hex", 2, 8), ("zones", 9, 4)],
+        SizeClass::Medium => [("poly", 8, 8), ("hex", 8, 4), ("zones", 60, 8)],
+        SizeClass::Large => [("poly", 30, 4), ("hex", 30, 8), ("zones", 1_000, 4)],
+    };
+    images.extend(meshes.into_iter().filter_map(|(kind, n, width)| mesh(kind, n, width).ok()));
+    images
+}
+
+/// Case (a) with a text that makes it as long as asked.
+fn of_length(length: usize) -> Vec<u8> {
+    let mut image = tetrahedron();
+    let text = |length: usize| Node::new("Long", "Descriptor_t", "C1", &[length as u64], vec![b'x'; length]);
+    let place = image.add(2, text(1));
+    let rest = length - image.to_bytes().len() + 1;
+    image.nodes[place] = Node { parent: 2, ..text(rest) };
+    image.to_bytes()
+}

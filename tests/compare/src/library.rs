@@ -1,0 +1,111 @@
+//! The archive's exports, and a fault handler that says which call touched memory that it was not lent.
+
+use std::io::Write;
+use std::sync::atomic::{AtomicBool, AtomicU64, AtomicUsize, Ordering::Relaxed};
+
+use crate::tally::Place;
+
+extern "C" {
+    pub fn gongaurora_export_validate(image: *const u8, length: usize, answer: *mut u64, room: usize);
+    pub fn gongaurora_export_sections(
+        image: *const u8,
+        length: usize,
+        zone: u64,
+        out: *mut u64,
+        numbers: usize,
+        answer: *mut u64,
+        room: usize,
+    );
+    pub fn gongaurora_export_corner(
+        image: *const u8,
+        length: usize,
+        section: *const u64,
+        nine: usize,
+        element: u64,
+        corner: u64,
+        number: *mut i64,
+        one: usize,
+    ) -> u64;
+    pub fn gongaurora_export_face_usage(
+        image: *const u8,
+        length: usize,
+        zone: u64,
+        out: *mut u8,
+        bytes: usize,
+        answer: *mut u64,
+        room: usize,
+    );
+    pub fn gongaurora_export_path(
+        image: *const u8,
+        length: usize,
+        node: u64,
+        out: *mut u8,
+        bytes: usize,
+        answer: *mut u64,
+        room: usize,
+    );
+    pub fn gongaurora_export_data_size(image: *const u8, length: usize, node: u64, answer: *mut u64, room: usize);
+    pub fn gongaurora_export_array_value(
+        image: *const u8,
+        length: usize,
+        node: u64,
+        k: u64,
+        answer: *mut u64,
+        room: usize,
+    );
+
+    fn signal(number: i32, handler: extern "C" fn(i32)) -> usize;
+    fn write(file: i32, bytes: *const u8, length: usize) -> isize;
+    fn _exit(status: i32) -> !;
+}
+
+/// The calls, by the places that the fault handler knows them by.
+pub const CALLS: [&str; 7] = ["validate", "sections", "corner", "face_usage", "path", "data_size", "array_value"];
+
+static SEED: AtomicU64 = AtomicU64::new(0);
+static FIXED: AtomicBool = AtomicBool::new(false);
+static INDEX: AtomicU64 = AtomicU64::new(0);
+static CALL: AtomicUsize = AtomicUsize::new(0);
+
+/// Notes which image is compared.
+pub fn now_comparing(seed: u64, place: Place) {
+    let (fixed, index) = match place {
+        Place::Fixed(number) => (true, number),
+        Place::Generated(index) => (false, index),
+    };
+    SEED.store(seed, Relaxed);
+    FIXED.store(fixed, Relaxed);
+    INDEX.store(index, Relaxed);
+}
+
+/// Notes which call is made.
+pub fn now_calling(call: usize) {
+    CALL.store(call, Relaxed);
+}
+
+/// Says where a fault came and ends the program with status 1.
+extern "C" fn on_fault(_: i32) {
+    let mut line = [b' '; 160];
+    let mut rest = &mut line[..];
+    let call = CALLS[CALL.load(Relaxed)];
+    let (seed, index) = (SEED.load(Relaxed), INDEX.load(Relaxed));
+    let place = if FIXED.load(Relaxed) { Place::Fixed(index) } else { Place::Generated(index) };
+    let _ = writeln!(rest, "difference: seed {seed} {place:?} {call}: touches memory that it was not lent");
+    let length = 160 - rest.len();
+    // SAFETY: plain system calls on this function's own memory.
+    unsafe {
+        write(2, line.as_ptr(), length);
+        _exit(1)
+    }
+}
+
+/// Has faults reported.
+pub fn report_faults() {
+    const BUS: i32 = 7;
+    const SEGMENT: i32 = 11;
+    // SAFETY: the handler makes system calls only.
+    unsafe {
+        signal(SEGMENT, on_fault);
+        signal(BUS, on_fault);
+    }
+}

@@ -1,0 +1,257 @@
+//! What is asked about an image: every call, with node numbers past the end, buffers of fitting and other lengths, and
+//! sections that no image gave.
+
+use reference::labels::Label;
+use reference::lawful::SizeClass;
+use reference::random::Random;
+use reference::table::Table;
+use reference::validation::validated_tree;
+use reference::{path, section_entries, Section};
+
+use crate::comparison::Comparison;
+
+/// Asks everything about an image.
+pub fn ask(comparison: &mut Comparison, random: &mut Random, class: SizeClass) {
+    let mut asker = Asker { comparison, random, limits: Limits::of(class) };
+    asker.validations();
+    asker.about_table();
+    let entries = asker.about_zones();
+    asker.corners(&entries);
+    asker.absurd_corners();
+}
+
+/// Asks about a part of the image that breaks off: validation, and corners by the whole image's sections.
+pub fn ask_part(comparison: &mut Comparison, random: &mut Random, entries: &[Section]) {
+    let mut asker = Asker { comparison, random, limits: Limits { nodes: 2, zones: 1, reads: 12 } };
+    asker.validations();
+    asker.corners(entries);
+}
+
+/// The sections of an image's first zones, if it is accepted.
+pub fn some_sections(image: &[u8]) -> Vec<Section> {
+    let Ok(tree) = validated_tree(image) else {
+        return Vec::new();
+    };
+    let zones = (0..tree.count()).filter(|&node| tree.is_validated_as(node, Label::Zone));
+    zones.take(2).flat_map(|zone| section_entries(image, zone as u64).unwrap_or_default()).take(8).collect()
+}
+
+/// How much is asked: nodes of either kind, zones, corner reads of a section.
+struct Limits {
+    nodes: usize,
+    zones: usize,
+    reads: u64,
+}
+
+impl Limits {
+    fn of(class: SizeClass) -> Limits {
+        match class {
+            SizeClass::Small => Limits { nodes: 30, zones: 6, reads: 60 },
+            SizeClass::Medium => Limits { nodes: 16, zones: 6, reads: 60 },
+            SizeClass::Large => Limits { nodes: 8, zones: 3, reads: 400 },
+        }
+    }
+}
+
+struct Asker<'a, 'b> {
+    comparison: &'a mut Comparison<'b>,
+    random: &'a mut Random,
+    limits: Limits,
+}
+
+impl Asker<'_, '_> {
+    /// Room for an answer of `n` numbers: mostly exact, now and then more or less.
+    fn room(&mut self, n: usize) -> usize {
+        match self.random.below(8) {
+            0 => self.random.index(n),
+            1 => n + 1 + self.random.index(4),
+            _ => n,
+        }
+    }
+
+    /// Rooms around a length: none, one too short, exact, longer.
+    fn rooms(&mut self, length: usize) -> [usize; 4] {
+        [0, length.saturating_sub(1), length, length + 1 + self.random.index(12)]
+    }
+
+    fn validations(&mut self) {
+        for room in [6, self.random.index(6), 7 + self.random.index(4)] {
+            self.comparison.validate(room);
+        }
+    }
+
+    /// Some of the nodes up to a count, and some past it.
+    fn nodes(&mut self, count: u64) -> Vec<u64> {
+        let mut nodes: Vec<u64> = (0..count).collect();
+        self.random.shuffle(&mut nodes);
+        nodes.truncate(self.limits.nodes);
+        nodes.extend([count, u64::MAX]);
+        nodes.push(*self.random.pick(&[count + 1, u64::from(u32::MAX), 1 << 32, 1 << 63, u64::MAX / 84 + 1]));
+        nodes
+    }
+
+    /// Paths and values, which need rules 1 to 18 alone.
+    fn about_table(&mut self) {
+        let table = Table::read(self.comparison.image).ok();
+        let count = table.as_ref().map_or(2, |table| table.nodes.len() as u64);
+        for node in self.nodes(count) {
+            let length = path(self.comparison.image, node).map_or(3, |path| path.len());
+            for bytes in self.rooms(length) {
+                let room = self.room(3);
+                self.comparison.path(node, bytes, room);
+            }
+            let known = table.as_ref().filter(|_| node < count);
+            let values = known.map_or(1, |table| table.dimensions(node as usize).iter().product());
+            self.values(node, values);
+        }
+    }
+
+    /// Values of a node, the ends of the array among them, and numbers that wrap when multiplied by a width.
+    fn values(&mut self, node: u64, count: u64) {
+        let inside = 1 + self.random.below(count);
+        let wrapping = *self.random.pick(&[(1 << 61) + 1, (1 << 62) + 1, (1 << 63) + inside]);
+        let mut asked = vec![0, 1, inside, count, count + 1, wrapping, u64::MAX];
+        asked.sort_unstable();
+        asked.dedup();
+        for k in asked {
+            let room = self.room(4);
+            self.comparison.array_value(node, k, room);
+        }
+    }
+
+    /// Sizes, sections and face usage; answers the sections of the zones asked about.
+    fn about_zones(&mut self) -> Vec<Section> {
+        let image = self.comparison.image;
+        let Ok(tree) = validated_tree(image) else {
+            for node in [self.random.below(20), u64::MAX] {
+                self.about_image_node(node);
+            }
+            return Vec::new();
+        };
+        let mut zones: Vec<u64> = Vec::new();
+        let mut others = self.nodes(tree.count() as u64);
+        for node in 0..tree.count() {
+            if tree.is_validated_as(node, Label::Zone) {
+                zones.push(node as u64);
+            } else if tree.is_validated_as(node, Label::DataArray) && others.len() < 2 * self.limits.nodes {
+                others.push(node as u64);
+            }
+        }
+        self.random.shuffle(&mut zones);
+        zones.truncate(self.limits.zones);
+        others.retain(|node| !zones.contains(node));
+        for node in others {
+            self.about_image_node(node);
+        }
+        zones.into_iter().flat_map(|zone| self.about_zone(zone)).collect()
+    }
+
+    /// The calls that validate first, of a node that is likely no zone.
+    fn about_image_node(&mut self, node: u64) {
+        let (six, three, four) = (self.room(6), self.room(3), self.room(4));
+        let numbers = self.random.index(40);
+        self.comparison.data_size(node, six);
+        self.comparison.sections(node, numbers, three);
+        self.comparison.face_usage(node, numbers, four);
+    }
+
+    /// A zone with buffers of several lengths; answers its sections.
+    fn about_zone(&mut self, zone: u64) -> Vec<Section> {
+        let entries = section_entries(self.comparison.image, zone).unwrap_or_default();
+        for numbers in self.rooms(9 * entries.len()) {
+            let room = self.room(3);
+            self.comparison.sections(zone, numbers, room);
+        }
+        let faces = entries.iter().filter(|e| e.element_type == 22).map(|e| e.last - e.first + 1).sum::<u64>();
+        for bytes in self.rooms(faces as usize) {
+            let room = self.room(4);
+            self.comparison.face_usage(zone, bytes, room);
+        }
+        let room = self.room(6);
+        self.comparison.data_size(zone, room);
+        entries
+    }
+
+    /// Corners by sections of the image, and by the same with a number changed.
+    fn corners(&mut self, entries: &[Section]) {
+        for entry in entries {
+            let numbers = entry.numbers();
+            self.corners_of(entry, &numbers);
+            for _ in 0..8 {
+                let mut other = numbers;
+                let place = self.random.index(9);
+                other[place] = self.odd_number(numbers[place]);
+                let inside = entry.first + self.random.below(entry.last - entry.first + 1);
+                let element = *self.random.pick(&[entry.first, entry.last, inside, other[2], other[3]]);
+                let corner = self.random.below(5);
+                self.comparison.corner(&other, element, corner, 1);
+                let element = self.odd_number(element);
+                self.comparison.corner(&other, element, corner, 1);
+            }
+            let few = self.random.index(9);
+            self.comparison.corner_by_few(&numbers[..few], entry.first, 1);
+            self.comparison.corner(&numbers, entry.first, 1, 0);
+            self.comparison.corner(&numbers, entry.first, 1, 3);
+        }
+    }
+
+    /// Corners of a section: its ends, all elements where they are few, else some.
+    fn corners_of(&mut self, entry: &Section, numbers: &[u64; 9]) {
+        for element in [0, entry.first - 1, entry.last + 1, u64::MAX] {
+            self.comparison.corner(numbers, element, 1, 1);
+        }
+        for corner in [0, 28, 1 << 32, 1 << 62, u64::MAX] {
+            self.comparison.corner(numbers, entry.first, corner, 1);
+            self.comparison.corner(numbers, entry.last, corner, 1);
+        }
+        let count = entry.last - entry.first + 1;
+        for k in 0..self.limits.reads.min(count) {
+            let element = entry.first + if count <= self.limits.reads { k } else { self.random.below(count) };
+            let greatest = if self.random.one_in(8) { 28 } else { 5 };
+            for corner in 1..=greatest {
+                self.comparison.corner(numbers, element, corner, 1);
+            }
+        }
+    }
+
+    /// A number near another, at an end of what 64 bits hold, or one that wraps when multiplied.
+    fn odd_number(&mut self, near: u64) -> u64 {
+        let length = self.comparison.image.len() as u64;
+        match self.random.below(11) {
+            0 => near.wrapping_add(1),
+            1 => near.wrapping_sub(1),
+            2 => u64::MAX,
+            3 => 0,
+            4 => 1 << 63,
+            5 => length.wrapping_sub(self.random.below(20)),
+            6 => u64::MAX - self.random.below(9),
+            7 => (1 << 61) + self.random.below(3),
+            8 => (1 << 62) + self.random.below(3),
+            9 => near.wrapping_add(1 << 32),
+            _ => self.random.below(24),
+        }
+    }
+
+    /// Corners by sections that no image gave.
+    fn absurd_corners(&mut self) {
+        for _ in 0..16 {
+            let mut section = [0; 9];
+            for number in section.iter_mut() {
+                *number = self.odd_number(8);
+            }
+            section[1] = *self.random.pick(&[2, 5, 17, 20, 22, 23, 24, u64::MAX, 0]);
+            section[5] = *self.random.pick(&[4, 4, 8, 8, 0, 16, u64::MAX]);
+            section[7] = *self.random.pick(&[4, 4, 8, 8, 0, u64::MAX]);
+            if self.random.one_in(2) {
+                section[2] = self.random.below(3);
+                section[3] = section[2] + self.random.below(4);
+                section[4] = self.random.below(64);
+                section[6] = self.random.below(64);
+                section[8] = self.random.below(12);
+            }
+            let element = section[2].wrapping_add(self.random.below(3));
+            let corner = self.random.below(4);
+            self.comparison.corner(&section, element, corner, 1);
+        }
+    }
+}

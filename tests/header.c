@@ -1,0 +1,168 @@
+/* header FOLDER: every call of gongaurora.h on the sample images, each field against its known value. C99 and C++. */
+#include "gongaurora.h"
+#include "gongaurora.h"
+
+#include <stdio.h>
+#include <string.h>
+
+static uint8_t image[20000];
+static size_t length;
+static int failures;
+
+#define CHECK(fact) ((fact) ? (void)0 : fail(__LINE__, #fact))
+
+static void fail(int line, const char *fact)
+{
+    printf("line %d: not so: %s\n", line, fact);
+    failures++;
+}
+
+static void load(const char *folder, const char *name)
+{
+    char path[1000];
+    FILE *file;
+    sprintf(path, "%.900s/%.80s", folder, name);
+    file = fopen(path, "rb");
+    length = 0;
+    CHECK(file != NULL);
+    if (file == NULL) return;
+    length = fread(image, 1, sizeof image, file);
+    fclose(file);
+}
+
+static void check_validation(const char *folder)
+{
+    gongaurora_validation verdict;
+    load(folder, "tetrahedron.img");
+    verdict = gongaurora_validate(image, length);
+    CHECK(verdict.rule == 0 && verdict.node == 0);
+    CHECK(verdict.validated == 17 && verdict.skipped == 0 && verdict.zones == 1 && verdict.sections == 2);
+    verdict = gongaurora_validate(image, 31);
+    CHECK(verdict.rule == GONGAURORA_RULE_IMAGE_LENGTH && verdict.node == 0);
+    verdict = gongaurora_validate(NULL, 0);
+    CHECK(verdict.rule == GONGAURORA_RULE_IMAGE_LENGTH && verdict.node == 0);
+    load(folder, "near_35.img");
+    verdict = gongaurora_validate(image, length);
+    CHECK(verdict.rule == GONGAURORA_RULE_FACE_REFERENCE && verdict.node == 13);
+    CHECK(verdict.validated == 0 && verdict.skipped == 0 && verdict.zones == 0 && verdict.sections == 0);
+}
+
+static void check_sections(const char *folder)
+{
+    static const uint64_t known[27] = {9, 22, 1, 4, 1736, 4, 1756, 4, 12, 13, 23, 5, 5, 1820, 4, 1828, 4, 4,
+                                       7, 7,  7, 7, 7,    7, 7,    7, 7};
+    gongaurora_section sections[3];
+    gongaurora_section *faces = &sections[0], *cells = &sections[1];
+    gongaurora_count found;
+    gongaurora_corner read;
+    int k;
+    load(folder, "tetrahedron.img");
+    for (k = 0; k < 27; k++) ((uint64_t *)(void *)sections)[k] = 7;
+    found = gongaurora_sections(image, length, 3, sections, 1);
+    CHECK(found.rule == GONGAURORA_RULE_ROOM && found.node == 0 && found.count == 0 && faces->node == 7);
+    found = gongaurora_sections(image, length, 3, NULL, 0);
+    CHECK(found.rule == GONGAURORA_RULE_ROOM && found.count == 0);
+    found = gongaurora_sections(image, length, 2, sections, 3);
+    CHECK(found.rule == GONGAURORA_RULE_NO_SUCH_NODE && found.count == 0);
+    found = gongaurora_sections(image, length, 3, sections, 3);
+    CHECK(found.rule == 0 && found.node == 0 && found.count == 2);
+    CHECK(memcmp(sections, known, sizeof known) == 0);
+    CHECK(faces->node == 9 && faces->type == 22 && faces->first == 1 && faces->last == 4);
+    CHECK(faces->offsets_at == 1736 && faces->offsets_width == 4);
+    CHECK(faces->connectivity_at == 1756 && faces->connectivity_width == 4 && faces->connectivity_length == 12);
+    read = gongaurora_corner_of(image, length, faces, 4, 3);
+    CHECK(read.rule == 0 && read.number == 4);
+    read = gongaurora_corner_of(image, length, cells, 5, 2);
+    CHECK(read.rule == 0 && read.number == 2);
+    read = gongaurora_corner_of(image, length, faces, 4, 4);
+    CHECK(read.rule == GONGAURORA_RULE_INDEX && read.number == 0);
+    read = gongaurora_corner_of(image, length, faces, 5, 1);
+    CHECK(read.rule == GONGAURORA_RULE_ELEMENT_NUMBER && read.number == 0);
+    read = gongaurora_corner_of(image, 1700, faces, 4, 3);
+    CHECK(read.rule == GONGAURORA_RULE_UNREADABLE && read.number == 0);
+    load(folder, "polyhedra.img");
+    found = gongaurora_sections(image, length, 3, sections, 3);
+    CHECK(found.rule == 0 && found.count == 3);
+    read = gongaurora_corner_of(image, length, cells, cells->first, 1);
+    CHECK(read.rule == 0 && read.number == -13);
+}
+
+static void check_face_usage(const char *folder)
+{
+    uint8_t use[5] = {9, 9, 9, 9, 9};
+    gongaurora_usage answer;
+    load(folder, "tetrahedron.img");
+    answer = gongaurora_face_usage(image, length, 3, use, 3);
+    CHECK(answer.rule == GONGAURORA_RULE_USAGE_ROOM && answer.node == 0 && answer.count == 0 && use[0] == 9);
+    answer = gongaurora_face_usage(image, length, 3, NULL, 0);
+    CHECK(answer.rule == GONGAURORA_RULE_USAGE_ROOM);
+    answer = gongaurora_face_usage(image, length, 3, use, 5);
+    CHECK(answer.rule == 0 && answer.node == 0 && answer.element == 0 && answer.count == 4);
+    CHECK(use[0] == GONGAURORA_FORWARD && use[1] == 1 && use[2] == 1 && use[3] == 1 && use[4] == 9);
+    image[1828 + 12] = 3; /* the cell's faces are 1 2 3 3 now */
+    answer = gongaurora_face_usage(image, length, 3, use, 5);
+    CHECK(answer.rule == GONGAURORA_RULE_FACE_REPEATED && answer.node == 13 && answer.element == 5 && answer.count == 0);
+    CHECK(use[0] == GONGAURORA_UNUSED && use[3] == 0 && use[4] == 9);
+}
+
+static void check_path(const char *folder)
+{
+    uint8_t path[GONGAURORA_PATH_ROOM];
+    gongaurora_count answer;
+    load(folder, "near_34.img");
+    memset(path, '*', sizeof path);
+    answer = gongaurora_path(image, length, 10, path, 29);
+    CHECK(answer.rule == GONGAURORA_RULE_ROOM && answer.node == 0 && path[0] == '*');
+    answer = gongaurora_path(image, length, 10, NULL, 0);
+    CHECK(answer.rule == GONGAURORA_RULE_ROOM);
+    answer = gongaurora_path(image, length, 10, path, sizeof path);
+    CHECK(answer.rule == 0 && answer.node == 0 && answer.count == 30);
+    CHECK(memcmp(path, "/Base/Zone1/Faces/ElementRange*", 31) == 0);
+    answer = gongaurora_path(image, length, 17, path, sizeof path);
+    CHECK(answer.rule == GONGAURORA_RULE_NO_SUCH_NODE && answer.node == 0 && answer.count == 0);
+}
+
+static void check_arrays(const char *folder)
+{
+    gongaurora_sizes sizes;
+    gongaurora_value value;
+    load(folder, "structured_rind.img");
+    sizes = gongaurora_data_size(image, length, 9);
+    CHECK(sizes.rule == 0 && sizes.node == 0 && sizes.directions == 3);
+    CHECK(sizes.size[0] == 5 && sizes.size[1] == 5 && sizes.size[2] == 7);
+    sizes = gongaurora_data_size(image, length, 5);
+    CHECK(sizes.rule == GONGAURORA_RULE_NO_SUCH_NODE && sizes.directions == 0 && sizes.size[0] == 0);
+    value = gongaurora_array_value(image, length, 2, 1);
+    CHECK(value.rule == 0 && value.node == 0 && value.kind == GONGAURORA_WHOLE && value.bits == 3);
+    value = gongaurora_array_value(image, length, 12, 1);
+    CHECK(value.rule == 0 && value.kind == GONGAURORA_SINGLE && value.bits == 0x3f800000);
+    value = gongaurora_array_value(image, length, 9, 1);
+    CHECK(value.rule == 0 && value.kind == GONGAURORA_DOUBLE && value.bits == (uint64_t)0xbfd00000 << 32);
+    value = gongaurora_array_value(image, length, 9, 176);
+    CHECK(value.rule == GONGAURORA_RULE_INDEX && value.kind == 0 && value.bits == 0);
+    value = gongaurora_array_value(image, length, 4, 1);
+    CHECK(value.rule == GONGAURORA_RULE_VALUE_TYPE && value.kind == 0);
+}
+
+static void check_rule_texts(void)
+{
+    const char *none = gongaurora_rule_text(48);
+    unsigned rule;
+    for (rule = 0; rule <= 47; rule++) {
+        int known = rule != 19 && rule != 33 && !(36 <= rule && rule <= 39);
+        CHECK((strcmp(gongaurora_rule_text(rule), none) != 0) == known);
+    }
+    CHECK(GONGAURORA_RULE_NONE == 0 && GONGAURORA_RULE_TRAILING == 18 && GONGAURORA_RULE_CONTAINMENT == 20);
+}
+
+int main(int argc, char **argv)
+{
+    if (argc != 2) return 2;
+    check_validation(argv[1]);
+    check_sections(argv[1]);
+    check_face_usage(argv[1]);
+    check_path(argv[1]);
+    check_arrays(argv[1]);
+    check_rule_texts();
+    return failures > 0;
+}
