@@ -3,6 +3,8 @@
 
 mod print;
 
+use model::Section;
+
 // Word k of a call: its number, then its arguments.
 fn word(call: &[u8; 96], k: usize) -> u64 {
     if k < 12 {
@@ -34,6 +36,48 @@ fn path_into(image: &[u8], node: u64, room: u64) {
     memory(&out, room as usize);
 }
 
+// The section entries with the first n numbers of a buffer lent.
+fn entries_on(image: &[u8], zone: u64, out: &mut [u64], n: usize) {
+    if out.len() < n {
+        return;
+    }
+    print::count(sections::section_entries(image, zone, &mut out[..n]), b"entries ");
+}
+
+// The first n numbers of a buffer.
+fn numbers(out: &[u64], n: usize) {
+    if out.len() < n {
+        return;
+    }
+    print::numbers(&out[..n]);
+}
+
+// The section entries with room for so many, each number 170 before; the memory afterwards.
+fn entries_into(image: &[u8], zone: u64, room: u64) {
+    let mut out = [170u64; 144];
+    if 16 < room {
+        return;
+    }
+    let n = 9 * room as usize;
+    entries_on(image, zone, &mut out, n);
+    numbers(&out, n);
+}
+
+// The entry that a call names.
+fn entry(call: &[u8; 96]) -> Section {
+    Section {
+        node: word(call, 1),
+        element_type: word(call, 2),
+        first: word(call, 3),
+        last: word(call, 4),
+        offsets_at: word(call, 5),
+        offsets_width: word(call, 6),
+        connectivity_at: word(call, 7),
+        connectivity_width: word(call, 8),
+        connectivity_length: word(call, 9),
+    }
+}
+
 // Answers one call on an image, and says whether there was one.
 fn one_call(image: &[u8]) -> bool {
     let mut call = [0u8; 96];
@@ -44,11 +88,24 @@ fn one_call(image: &[u8]) -> bool {
     let kind = word(&call, 0);
     let node = word(&call, 1);
     let number = word(&call, 2);
+    if kind == 1 {
+        print::validation(validation::validate(image));
+    }
     if kind == 2 {
         print::table(table::check_table(image));
     }
     if kind == 3 {
         path_into(image, node, number);
+    }
+    if kind == 4 {
+        print::sizes(validation::data_size(image, node));
+    }
+    if kind == 5 {
+        entries_into(image, node, number);
+    }
+    if kind == 6 {
+        let section = entry(&call);
+        print::corner(corners::corner(image, section, word(&call, 10), word(&call, 11)));
     }
     if kind == 7 {
         print::value(values::array_value(image, node, number));

@@ -1,9 +1,12 @@
 // Answers as lines of text, in the independent program's words.
 ghost use Rattle.model.specs.Answers.{NanCases};
 use model::ArrayValue;
+use model::Corner;
 use model::Count;
+use model::DataSize;
 use model::Rejection;
 use model::Table;
+use model::Validation;
 
 // `refuse`, the rule and the node, and of 45 the element.
 fn refusal(r: Rejection) {
@@ -97,6 +100,70 @@ pub fn value(v: ArrayValue)
             pair(b"double ", b);
         }
         ArrayValue::Rejected(r) => {
+            refusal(r);
+        }
+    }
+}
+
+// The numbers of lent memory, after `room`.
+pub fn numbers(out: &[u64]) {
+    io::write_all(1, b" room");
+    each_number(out);
+}
+
+fn each_number(out: &[u64]) {
+    let mut k = 0;
+    while k < out.len() {
+        pair(b" ", out[k]);
+        k += 1;
+    }
+}
+
+pub fn validation(v: Validation) {
+    match v {
+        Validation::Accepted {
+            validated,
+            skipped,
+            zones,
+            sections,
+        } => {
+            pair(b"accept ", validated);
+            pair(b" ", skipped);
+            pair(b" ", zones);
+            pair(b" ", sections);
+        }
+        Validation::Rejected(r) => {
+            refusal(r);
+        }
+    }
+}
+
+// As many sizes as there are directions.
+pub fn sizes(d: DataSize) {
+    match d {
+        DataSize::Sizes { directions, i, j, k } => {
+            pair(b"sizes ", directions);
+            pair(b" ", i);
+            if 1 < directions {
+                pair(b" ", j);
+            }
+            if 2 < directions {
+                pair(b" ", k);
+            }
+        }
+        DataSize::Rejected(r) => {
+            refusal(r);
+        }
+    }
+}
+
+pub fn corner(c: Corner) {
+    match c {
+        Corner::Number(n) => {
+            io::write_all(1, b"corner ");
+            signed(n);
+        }
+        Corner::Rejected(r) => {
             refusal(r);
         }
     }

@@ -8,19 +8,16 @@ use lib.ListN.{length, getD}
 use lib.Dec.{eqb, ltb}
 use borrow.Author.Tests.{eqb-true, lt-ltb}
 use Rattle.model.specs.Lists.{seekFrom}
-use Rattle.model.specs.Bytes.{text}
-use Rattle.model.specs.Image.{treeOf, nodeCount, wordCount, node, dimensions, dataType, width, widths, number, I4, I8}
+use Rattle.model.specs.Image.{treeOf, nodeCount, wordCount, node, dimensions, dataType, width, widths, number}
 use Rattle.model.specs.Given.{Sound, Accepted}
-use Rattle.model.specs.Containment.{role, found, sectionOf, Elements, DataArray}
-use Rattle.model.specs.Values.{typed, flat, size, indexArray, offsetsOf, connectivityOf}
+use Rattle.model.specs.Containment.{role, found, sectionOf, Elements}
+use Rattle.model.specs.Values.{flat, size, offsetsOf, connectivityOf}
 use Rattle.model.specs.Elements.{NFACE, hasOffsets, elementType, firstElement, lastElement, elementCount, startOffset, elementStart, connectivityLength, reference, faceOf, faceNumber, isFace, allFaces, elementRules}
 use Rattle.model.specs.Corner.{numberAt}
 use Rattle.model.specs.FaceUsage.{endsAfter, elementHolding}
-use Rattle.model.proofs.Logic.{and-first, and-second, or-left, when}
+use Rattle.model.proofs.Logic.{and-first, and-second, when}
 use Rattle.model.proofs.Walks.{every-at}
 use Rattle.model.proofs.Bounds.{node-placed}
-use Rattle.model.proofs.Conforming.{conforming-name}
-use Rattle.model.proofs.Arrays.{index-array}
 use Rattle.model.proofs.InZone.{InZone, parts, role-is, section-rule, connectivity, offsets, offsets-size}
 use Rattle.types.proofs.Held.{rank-is}
 use Rattle.elements.specs.Arrays.{Numbers}
@@ -74,7 +71,7 @@ module _ {b : List ℕ} {z s : ℕ} (c : Cells b z s) where
   unfolding found treeOf
   cells-offsets =
       subst (λ (n : ℕ). Stores b (offsetsOf (treeOf b) s) n) (offsets-size cells-in-zone has-offsets)
-      (offsets-stores (c .accepted .sound) s cells-role (lt-ltb _ _ offsets-inside))
+      (offsets-stores (c .accepted .sound) s cells-role (lt-ltb _ _ offsets-inside) .numbers)
 
   module _ {at w : ℕ} (r : Row b (offsetsOf (treeOf b) s) at w (elementCount (treeOf b) s + 1)) (k : ℕ) where
     ends-same : (j : ℕ) → j < elementCount (treeOf b) s → endsAfter (treeOf b) s k j ≡ endsAfterAt b at w k j
@@ -109,14 +106,11 @@ module _ {b : List ℕ} {z s : ℕ} (c : Cells b z s) where
   connectivity-found = lt-ltb _ _ connectivity-inside
 
   pub cells-connectivity : Stores b (connectivityOf (treeOf b) s) (connectivityLength (treeOf b) s)
-  cells-connectivity = connectivity-stores (c .accepted .sound) s cells-role connectivity-found
+  unfolding connectivityLength
+  cells-connectivity = connectivity-stores (c .accepted .sound) s cells-role connectivity-found .numbers
 
   connectivity-flat : flat (treeOf b) (connectivityOf (treeOf b) s) ≡ true
-  unfolding connectivityOf indexArray
-  connectivity-flat =
-      and-second (typed (treeOf b) (connectivityOf (treeOf b) s) (I4 ∷ I8 ∷ [])) _
-      (index-array (treeOf b) s cells-role (text "ElementConnectivity") connectivity-found
-      (or-left _ _ (conforming-name (treeOf b) s DataArray (text "ElementConnectivity") connectivity-found)))
+  connectivity-flat = connectivity-stores (c .accepted .sound) s cells-role connectivity-found .one-dimension
 
   pub connectivity-dimension : {r : ℕ} → r ≡ connectivityOf (treeOf b) s
       → (0 < node (treeOf b) r .rank) × (node (treeOf b) r .firstWord + node (treeOf b) r .rank ≤ wordCount b)

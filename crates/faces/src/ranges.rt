@@ -66,7 +66,7 @@ fn add_section(
     if !has_type(image, z, s, NGON) {
         return n;
     }
-    let range = elements::parts::range_of(image, s);
+    let range = sids::range_of(image, s);
     let first = types::whole(image, range, 0);
     let last = types::whole(image, range, 1);
     push(firsts, lasts, bases, n, first, last)

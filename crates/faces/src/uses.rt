@@ -55,10 +55,10 @@ fn element_holding(image: &[u8], z: usize, s: usize, k: usize) -> u64
     requires { ⌜ Cells (now image) z s ⌝ }
     ensures { λ r. ⌜ r ≡ elementHolding (treeOf (now (image .entry))) s k ⌝ }
 {
-    let range = elements::parts::range_of(image, s);
+    let range = sids::range_of(image, s);
     let first = types::whole(image, range, 0);
     let last = types::whole(image, range, 1);
-    let offsets = elements::parts::offsets_of(image, s);
+    let offsets = sids::offsets_of(image, s);
     let at = records::data_start(image, offsets);
     let width = records::width_of(records::data_type_of(image, offsets)) as usize;
     first + ends_after(image, at, width, (last - first) as usize + 1, k as u64) as u64
@@ -159,7 +159,7 @@ fn use_section(
     requires { ⌜ faceCount (treeOf (now image)) z ≤ length (now out) ⌝ }
     ensures { λ r. ⌜ Used (faceCount (treeOf (now (image .entry))) z) (useEntries (treeOf (now (image .entry))) s (connectivityLength (treeOf (now (image .entry))) s) 0 (now (out .entry))) (now (out .entry)) r (now (out .exit)) ⌝ }
 {
-    let connectivity = elements::parts::connectivity_of(image, s);
+    let connectivity = sids::connectivity_of(image, s);
     let at = records::data_start(image, connectivity);
     let width = records::width_of(records::data_type_of(image, connectivity)) as usize;
     let n = records::dimension(image, connectivity, 0) as usize;

@@ -1,19 +1,29 @@
 -- Rules 20 to 26, then a section's own; and a count as a loop meets it.
 use Prim.Native.Nat.{ℕ, zero, suc, _+_, _-_, _≤_, _<_}
 use mathlib.Core.Path.{_≡_, refl, sym, ap, _∙_}
-use mathlib.Core.Bool.{Bool, true, false, cond}
-use mathlib.Core.List.{List, [], _++_}
+use mathlib.Core.Bool.{Bool, true, false, cond, _&&_}
+use mathlib.Core.List.{List, [], _∷_, _++_}
 use native.Mathlib.Omega.{arith}
 use native.Mathlib.Decide.{ℕ-discrete}
-use lib.Dec.{eqb}
+use lib.Dec.{eqb, ltb}
+use borrow.Author.Tests.{ltb-true, le-ltb}
+use lib.ListN.{getD, take}
+use Rattle.model.proofs.Logic.{and-first, and-second}
+use Rattle.model.proofs.Bounds.{sound}
+use Rattle.model.proofs.Accepted.{table-passed}
 use Rattle.model.specs.Lists.{countFrom}
 use Rattle.model.specs.declared.Rejection.{Rejection}
-use Rattle.model.specs.Rules.{Check, Answer, answer, rejected, passed, check, checkFrom, _then_}
-use Rattle.model.specs.Image.{Tree}
+use Rattle.model.specs.Rules.{Check, Answer, answer, rejected, rejection, _gives_, passed, check, checkFrom, _then_}
+use Rattle.model.specs.Image.{Tree, treeOf, nodeCount, parent}
 use Rattle.model.specs.Containment.{role, Zone, Elements, validated, skipped, validatedAs}
-use Rattle.model.specs.Values.{sidsRules}
+use Rattle.model.specs.Values.{sidsRules, sizedArray, dataSizes, dataSize, indexDimension}
+use Rattle.sids.specs.Sizes.{directions}
+use Rattle.sids.proofs.Zones.{data-sizes-are}
+use Rattle.validation.specs.Sizes.{Zeros}
+use Rattle.model.specs.DataSize.{isSizedArray, dataSizeAnswer}
+use Rattle.model.specs.Given.{Accepted}
 use Rattle.model.specs.Elements.{elementRules}
-use Rattle.model.specs.Validation.{nodeRules, nodeCheckAt, nodeCheck, Counts, counts}
+use Rattle.model.specs.Validation.{nodeRules, nodeCheckAt, nodeCheck, imageCheck, Counts, counts}
 use Rattle.model.proofs.Walks.{countFrom-step, countFrom-end, count-both}
 use Rattle.model.proofs.Passed.{checkFrom-on, checkFrom-off, checkFrom-end}
 use Rattle.model.proofs.Staging.{check-append}
@@ -89,3 +99,35 @@ unfolding counts skipped
 counts-are t n v k z s en ev ek ez es =
     let w : k ≡ countFrom (skipped t) n 0 = omega (arith, count-both (validated t) (skipped t) n 0 (λ j. refl)) in
     rw (w, ev, ez, es, en)
+
+-- the data size call: the verdict's refusal, 40, or the sizes
+module _ (b : List ℕ) (i : ℕ) where
+  pub size-refused : {r : Rejection} → imageCheck b ≡ rejected r → rejected r ≡ dataSizeAnswer b i
+  unfolding dataSizeAnswer _gives_ _then_
+  size-refused e = rw e
+
+  pub no-array : imageCheck b ≡ passed → isSizedArray (treeOf b) i ≡ false → rejected (rejection 40 0) ≡ dataSizeAnswer b i
+  unfolding dataSizeAnswer _gives_ _then_ check
+  no-array e f = rw (e, f)
+
+  pub array-told : imageCheck b ≡ passed → isSizedArray (treeOf b) i ≡ true → answer (dataSizes (treeOf b) (parent (treeOf b) i)) ≡ dataSizeAnswer b i
+  unfolding dataSizeAnswer _gives_ _then_ check
+  array-told e f = rw (e, f)
+
+  pub accepted-image : imageCheck b ≡ passed → Accepted b
+  accepted-image e = record { sound = sound b (table-passed b e); image = e }
+
+  pub sized-parts : isSizedArray (treeOf b) i ≡ true → (i < nodeCount b) × ((sizedArray (treeOf b) i ≡ true) × (validated (treeOf b) i ≡ true))
+  unfolding isSizedArray treeOf
+  sized-parts e =
+      let f = and-first (ltb i (nodeCount b) && sizedArray (treeOf b) i) _ e in
+      (ltb-true i (nodeCount b) (and-first (ltb i (nodeCount b)) _ f), (and-second (ltb i (nodeCount b)) _ f, and-second (ltb i (nodeCount b) && sizedArray (treeOf b) i) _ e))
+
+-- the numbers of the answer are DataSize in each direction; a direction that the zone lacks is 0
+pub sizes-told : (t : Tree) (p n : ℕ) (s : List ℕ) → n ≡ indexDimension t (parent t p) → 1 ≤ n → n ≤ 3 → s ≡ directions (dataSize t p) (indexDimension t (parent t p))
+    → (answer (take n (getD s 0 0 ∷ getD s 1 0 ∷ getD s 2 0 ∷ [])) ≡ answer (dataSizes t p)) × Zeros n (getD s 1 0) (getD s 2 0)
+sizes-told t p n s e l m f =
+    rw (f, e) (
+      ap (λ x. answer x) (data-sizes-are t p (rw e at m)),
+      record { some = rw e at l; most = rw e at m; second = λ h. rw (le-ltb 1 (indexDimension t (parent t p)) h); third = λ h. rw (le-ltb 2 (indexDimension t (parent t p)) h) },
+    )

@@ -15,12 +15,11 @@ ghost use Rattle.model.specs.Answers.{stageTells, validationTells};
 mod counting; // counting.rt: how many nodes are validated
 mod sizes; // sizes.rt: the DataSize of an array
 
-pub use sizes::data_size;
-
 use labels::roles::ELEMENTS;
 use labels::roles::ZONE;
 use model::Stage;
 use model::Validation;
+pub use sizes::data_size;
 
 // Rules 27 to 35 where node i is a section.
 fn section_stage(image: &[u8], i: usize) -> Stage

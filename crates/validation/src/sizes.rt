@@ -11,7 +11,6 @@ ghost use Rattle.model.specs.DataSize.{isSizedArray, dataSizeAnswer};
 ghost use Rattle.model.specs.Given.{Sound, Accepted};
 ghost use Rattle.model.specs.Answers.{dataSizeTells};
 ghost use Rattle.validation.specs.Sizes.{Absent};
-
 use model::DataSize;
 use model::Rejection;
 use model::Stage;

@@ -4,7 +4,7 @@ use native.Mathlib.Omega.{arith}
 use borrow.Author.Needs.{needs}
 use borrow.Author.Tests.{not-true, not-false}
 use Rattle.model.specs.Rules.{rejected}
-use Rattle.model.proofs.Staging.{passes, refuses}
+use Rattle.model.proofs.Staging.{passes, rejects}
 use Rattle.faces.proofs.Checks.{accepted-by, refusal-told, not-accepted, no-zone}
 use Rattle.faces.proofs.usage_after.Statement.{statement}
 use Rattle.faces.proofs.usage_after.Tie as tie
@@ -12,7 +12,8 @@ use Rattle.faces.proofs.usage_after.Tie as tie
 returns : tie.Need-returns
 returns c =
     let d = c .before .before .before .before .before in
-    refusal-told (d .args .image .now) (d .args .zone) (d .args .out .now) (not-accepted _ _ _ (refuses (d .pre) (c .before .verdict .given .1)))
+    rw (c .rejection .ensures)
+    (refusal-told (d .args .image .now) (d .args .zone) (d .args .out .now) (not-accepted _ _ _ (rejects (d .pre) (c .before .enum-told2 .given .1))))
 
 is-zone-requires : tie.Need-is-zone-requires
 is-zone-requires c κs = let d = c .before .before .before .before in accepted-by (d .args .image .now) (passes (d .pre) (c .enum-told .given .1)) .sound
@@ -30,4 +31,4 @@ zone-usage-requires c κs =
     (accepted-by (d .args .image .now) (passes (d .pre) (c .before .before .before .enum-told .given .1)), sym (c .before .before .is-zone .ensures) ∙ not-false _ (c .before .if1 .left))
 
 pub usage-after-spec : {M : Type 1} → statement M
-usage-after-spec = tie.close (tie.spec (search needs) returns (search needs) is-zone-requires (search needs) returns-2 zone-usage-requires (search needs) (λ c. c .before .before .zone-usage .ensures))
+usage-after-spec = tie.close (tie.spec (search needs) (search needs) (search needs) returns is-zone-requires (search needs) returns-2 zone-usage-requires (search needs) (λ c. c .before .before .zone-usage .ensures))

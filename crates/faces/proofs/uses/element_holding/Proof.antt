@@ -6,7 +6,7 @@ use native.Mathlib.Omega.{arith}
 use borrow.Author.Needs.{needs}
 use Rattle.model.specs.Image.{nodeCount}
 use Rattle.faces.proofs.Accepted.{range-has, range-read}
-use Rattle.faces.proofs.Rows.{cells-role, offsets-inside, offsets-row, element-read}
+use Rattle.faces.proofs.Rows.{offsets-inside, offsets-row, element-read}
 use Rattle.faces.proofs.uses.element_holding.Statement.{statement}
 use Rattle.faces.proofs.uses.element_holding.Tie as tie
 
@@ -21,7 +21,7 @@ whole-requires-2 c κs =
     (d .pre .accepted .sound, range-has (d .pre .accepted) (d .args .z) (d .args .s) (d .pre .inside) (d .pre .section) (c .before .range-of .ensures .0) 1 (omega arith))
 
 offsets-of-requires : tie.Need-offsets-of-requires
-offsets-of-requires c κs = let d = c .before .before .before .before in ((d .pre .accepted .sound, d .pre .inside), cells-role (d .pre))
+offsets-of-requires c κs = let d = c .before .before .before .before in (d .pre .accepted .sound, d .pre .inside)
 
 data-start-requires : tie.Need-data-start-requires
 data-start-requires c κs = let d = c .before .before .before .before .before in (d .pre .accepted .sound, rw (c .offsets-of .ensures .0) (offsets-inside (d .pre)))

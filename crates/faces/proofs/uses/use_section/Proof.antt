@@ -1,12 +1,12 @@
 -- The section's connectivity, all of it.
 use native.Mathlib.Omega.{arith}
 use borrow.Author.Needs.{needs}
-use Rattle.faces.proofs.Rows.{cells-role, connectivity-inside, connectivity-dimension, connectivity-row, connectivity-size}
+use Rattle.faces.proofs.Rows.{connectivity-inside, connectivity-dimension, connectivity-row, connectivity-size}
 use Rattle.faces.proofs.uses.use_section.Statement.{statement}
 use Rattle.faces.proofs.uses.use_section.Tie as tie
 
 connectivity-of-requires : tie.Need-connectivity-of-requires
-connectivity-of-requires c κs = let d = c .before .before .before .before .before in ((d .pre .0 .accepted .sound, d .pre .0 .inside), cells-role (d .pre .0))
+connectivity-of-requires c κs = let d = c .before .before .before .before .before in (d .pre .0 .accepted .sound, d .pre .0 .inside)
 
 data-start-requires : tie.Need-data-start-requires
 data-start-requires c κs = let d = c .before .before .before .before .before .before in (d .pre .0 .accepted .sound, rw (c .connectivity-of .ensures .0) (connectivity-inside (d .pre .0)))

@@ -1,56 +1,46 @@
+-- The verdict's refusal, 40, or the sizes.
 use native.Mathlib.Omega.{arith}
+use mathlib.Core.Path.{_≡_, refl, sym, ap, _∙_}
 use borrow.Author.Needs.{needs}
+use borrow.Author.Tests.{not-true, not-false}
+use Rattle.model.proofs.Bounds.{sound}
+use Rattle.model.proofs.Accepted.{table-passed}
+use Rattle.model.proofs.Staging.{passes, rejects}
+use Rattle.validation.proofs.Laws.{size-refused, no-array, array-told, accepted-image, sized-parts}
 use Rattle.validation.proofs.sizes.data_size.Statement.{statement}
 use Rattle.validation.proofs.sizes.data_size.Tie as tie
-use Rattle.validation.proofs.sizes.data_size.Reads as reads
-use Rattle.validation.proofs.sizes.data_size.Lts as lts
-use Rattle.model.proofs.Rejection.at.Reads as at-reads
-use Rattle.model.proofs.Stage.rejection.Reads as rejection-reads
-use Rattle.validation.proofs.image_stage.Reads as image-stage-reads
-use Rattle.validation.proofs.sizes.array_sizes.Reads as array-sizes-reads
-use Rattle.validation.proofs.sizes.is_sized_array.Reads as is-sized-array-reads
-
-image-stage-requires : tie.Need-image-stage-requires
-image-stage-requires c κs = search needs
-
-enum-told : tie.Need-enum-told
-enum-told c = search needs
-
-enum-told-2 : tie.Need-enum-told-2
-enum-told-2 c = search needs
-
-rejection-requires : tie.Need-rejection-requires
-rejection-requires c κs = search needs
 
 returns : tie.Need-returns
-returns c = search needs
+returns c =
+    let d = c .before .before .before in
+    let a = d .before .before .args in
+    (rw (c .rejection .ensures) (size-refused (a .image .now) (a .node) (rejects (d .image-stage .ensures) (c .before .enum-told2 .given .1))), tt)
 
 is-sized-array-requires : tie.Need-is-sized-array-requires
-is-sized-array-requires c κs = search needs
-
-at-requires : tie.Need-at-requires
-at-requires c κs = search needs
+is-sized-array-requires c κs = sound _ (table-passed _ (passes (c .before .before .image-stage .ensures) (c .enum-told .given .1)))
 
 returns-2 : tie.Need-returns-2
-returns-2 c = search needs
+returns-2 c =
+    let e = c .before .before .before in
+    let d = e .before .before in
+    let a = d .before .before .args in
+    (rw (c .at .ensures) (no-array (a .image .now) (a .node) (passes (d .image-stage .ensures) (e .enum-told .given .1)) (sym (c .before .before .is-sized-array .ensures) ∙ not-true _ (c .before .if1 .taken))), tt)
 
 array-sizes-requires : tie.Need-array-sizes-requires
-array-sizes-requires c κs = search needs
+array-sizes-requires c κs =
+    let e = c .before .before in
+    let d = e .before .before in
+    let a = d .before .before .args in
+    let p = sized-parts (a .image .now) (a .node) (sym (c .before .is-sized-array .ensures) ∙ not-false _ (c .if1 .left)) in
+    ((accepted-image (a .image .now) (a .node) (passes (d .image-stage .ensures) (e .enum-told .given .1)), p .0), p .1)
 
 returns-3 : tie.Need-returns-3
-returns-3 c = search needs
+returns-3 c =
+    let e = c .before .before .before in
+    let d = e .before .before in
+    let a = d .before .before .args in
+    let f = sym (c .before .before .is-sized-array .ensures) ∙ not-false _ (c .before .if1 .left) in
+    (c .array-sizes .ensures .0 ∙ array-told (a .image .now) (a .node) (passes (d .image-stage .ensures) (e .enum-told .given .1)) f, c .array-sizes .ensures .1)
 
 pub data-size-spec : {M : Type 1} → statement M
-data-size-spec =
-    tie.close
-    (tie.spec
-    image-stage-requires
-    enum-told
-    enum-told-2
-    rejection-requires
-    returns
-    is-sized-array-requires
-    at-requires
-    returns-2
-    array-sizes-requires
-    returns-3)
+data-size-spec = tie.close (tie.spec (search needs) (search needs) (search needs) (search needs) returns is-sized-array-requires (search needs) returns-2 array-sizes-requires returns-3)

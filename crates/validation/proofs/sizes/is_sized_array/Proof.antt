@@ -1,38 +1,34 @@
+-- Three tests, one after the other.
 use native.Mathlib.Omega.{arith}
+use Prim.Native.Nat.{_≤_, _<_}
+use mathlib.Core.Path.{_≡_, refl, sym, _∙_}
 use borrow.Author.Needs.{needs}
+use borrow.Author.Tests.{lt-ltb, le-ltb, not-true, not-false}
+use Rattle.model.specs.Image.{treeOf, nodeCount}
+use Rattle.model.specs.DataSize.{isSizedArray}
 use Rattle.validation.proofs.sizes.is_sized_array.Statement.{statement}
 use Rattle.validation.proofs.sizes.is_sized_array.Tie as tie
-use Rattle.validation.proofs.sizes.is_sized_array.Reads as reads
-use Rattle.validation.proofs.sizes.is_sized_array.Lts as lts
-use Rattle.labels.proofs.node_count.Reads as node-count-reads
-use Rattle.labels.proofs.validated.Reads as validated-reads
-use Rattle.sids.proofs.sized_array.Reads as sized-array-reads
-
-node-count-requires : tie.Need-node-count-requires
-node-count-requires c κs = search needs
 
 returns : tie.Need-returns
-returns c = search needs
-
-sized-array-requires : tie.Need-sized-array-requires
-sized-array-requires c κs = search needs
+unfolding isSizedArray treeOf
+returns c =
+    let a = c .before .before .before .args in
+    let h : nodeCount (a .image .now) ≤ a .node = omega arith in
+    rw (le-ltb (a .node) (nodeCount (a .image .now)) h)
 
 returns-2 : tie.Need-returns-2
-returns-2 c = search needs
-
-validated-requires : tie.Need-validated-requires
-validated-requires c κs = search needs
+unfolding isSizedArray treeOf
+returns-2 c =
+    let a = c .before .before .before .before .before .args in
+    let h : a .node < nodeCount (a .image .now) = omega arith in
+    rw (lt-ltb (a .node) (nodeCount (a .image .now)) h, sym (c .before .sized-array .ensures) ∙ not-true _ (c .if2 .taken))
 
 returns-3 : tie.Need-returns-3
-returns-3 c = search needs
+unfolding isSizedArray treeOf
+returns-3 c =
+    let a = c .before .before .before .before .before .before .args in
+    let h : a .node < nodeCount (a .image .now) = omega arith in
+    rw (lt-ltb (a .node) (nodeCount (a .image .now)) h, sym (c .before .before .sized-array .ensures) ∙ not-false _ (c .before .if2 .left)) (c .validated .ensures)
 
 pub is-sized-array-spec : {M : Type 1} → statement M
-is-sized-array-spec =
-    tie.close
-    (tie.spec
-    node-count-requires
-    returns
-    sized-array-requires
-    returns-2
-    validated-requires
-    returns-3)
+is-sized-array-spec = tie.close (tie.spec (search needs) returns (λ c κs. search needs) returns-2 (λ c κs. search needs) returns-3)
