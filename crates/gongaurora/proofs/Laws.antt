@@ -1,10 +1,10 @@
 -- Laws of answers as numbers: how many there are, and what is written where there is room or none.
-use Prim.Native.Nat.{ℕ, _+_, _≤_, _<_}
+use Prim.Native.Nat.{ℕ, zero, suc, _+_, _≤_, _<_}
 use native.Mathlib.Omega.{arith}
 use mathlib.Core.Path.{_≡_, refl, sym, _∙_, ap}
 use mathlib.Core.Bool.{true, false, cond}
 use mathlib.Core.List.{List, [], _∷_, _++_}
-use lib.ListN.{length, drop}
+use lib.ListN.{length, drop, take}
 use lib.Seq.{sets, sets-eq}
 use lib.Dec.{leb}
 use borrow.Author.Tests.{le-leb, lt-leb}
@@ -12,7 +12,8 @@ use Rattle.model.specs.Lists.{over}
 use Rattle.model.specs.Rules.{Answer, rejected, answer}
 use Rattle.model.specs.Validation.{Counts}
 use Rattle.model.specs.ArrayValue.{Value, whole, single, double}
-use Rattle.gongaurora.specs.Numbers.{validationNumbers, countNumbers, usageNumbers, valueNumbers}
+use Rattle.validation.specs.Sizes.{Zeros}
+use Rattle.gongaurora.specs.Numbers.{validationNumbers, countNumbers, usageNumbers, valueNumbers, sizeNumbers}
 use Rattle.gongaurora.specs.Told.{told, roomed}
 
 -- a run of stores from the front on
@@ -41,6 +42,20 @@ value-four (rejected r) = refl
 value-four (answer (whole n)) = refl
 value-four (answer (single bits)) = refl
 value-four (answer (double bits)) = refl
+
+pub size-six : (a : Answer (List ℕ)) → length (sizeNumbers a) ≡ 6
+unfolding sizeNumbers
+size-six (rejected r) = refl
+size-six (answer sizes) = refl
+
+-- the sizes of a zone of 1 to 3 directions
+pub sizes-are : (n i j k : ℕ) → Zeros n j k → 0 ∷ 0 ∷ n ∷ i ∷ j ∷ k ∷ [] ≡ sizeNumbers (answer (take n (i ∷ j ∷ k ∷ [])))
+unfolding sizeNumbers
+sizes-are zero i j k z = absurd (let l = z .some in omega arith)
+sizes-are (suc zero) i j k z = rw (z .second (omega arith), z .third (omega arith)) refl
+sizes-are (suc (suc zero)) i j k z = rw (z .third (omega arith)) refl
+sizes-are (suc (suc (suc zero))) i j k z = refl
+sizes-are (suc (suc (suc (suc n)))) i j k z = absurd (let l = z .most in omega arith)
 
 module _ {n : ℕ} (out new : List ℕ) (e : length new ≡ n) where
   -- no room

@@ -10,7 +10,7 @@ returns c = rw (c .before .c .given .1)
 
 returns-2 : tie.Need-returns-2
 unfolding countNumbers
-returns-2 c = rw (c .before .c2 .given .1)
+returns-2 c = rw (c .refused .ensures, c .before .before .c2 .given .1)
 
 pub count-numbers-spec : {M : Type 1} → statement M
-count-numbers-spec = tie.close (tie.spec (search needs) (search needs) returns returns-2)
+count-numbers-spec = tie.close (tie.spec (search needs) (search needs) (search needs) returns returns-2)

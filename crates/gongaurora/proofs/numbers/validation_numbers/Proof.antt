@@ -10,7 +10,7 @@ returns c = rw (c .before .v .given .1)
 
 returns-2 : tie.Need-returns-2
 unfolding validationNumbers
-returns-2 c = rw (c .before .v2 .given .1)
+returns-2 c = rw (c .refused .ensures, c .before .before .v2 .given .1)
 
 pub validation-numbers-spec : {M : Type 1} → statement M
-validation-numbers-spec = tie.close (tie.spec (search needs) (search needs) returns returns-2)
+validation-numbers-spec = tie.close (tie.spec (search needs) (search needs) (search needs) returns returns-2)
