@@ -287,6 +287,9 @@ static inline gongaurora_usage gongaurora_face_usage(const uint8_t *image, size_
 
 /* ---- Paths ------------------------------------------------------------------------------------------------------ */
 
+/* The longest image that is taken, in bytes: one byte more is rule 1. */
+#define GONGAURORA_MAX_IMAGE 16777216
+
 /* The longest path: 32 levels, each a slash and at most 32 bytes. */
 #define GONGAURORA_PATH_ROOM 1056
 
