@@ -164,6 +164,9 @@ void gongaurora_export_array_value(const uint8_t *image, size_t length, uint64_t
 
 /* ---- Validation ------------------------------------------------------------------------------------------------- */
 
+/* The longest image that is taken, in bytes: one byte more is rule 1. */
+#define GONGAURORA_MAX_IMAGE 16777216
+
 typedef struct gongaurora_validation {
     uint64_t rule;      /* 0: accepted */
     uint64_t node;
@@ -286,9 +289,6 @@ static inline gongaurora_usage gongaurora_face_usage(const uint8_t *image, size_
 }
 
 /* ---- Paths ------------------------------------------------------------------------------------------------------ */
-
-/* The longest image that is taken, in bytes: one byte more is rule 1. */
-#define GONGAURORA_MAX_IMAGE 16777216
 
 /* The longest path: 32 levels, each a slash and at most 32 bytes. */
 #define GONGAURORA_PATH_ROOM 1056
