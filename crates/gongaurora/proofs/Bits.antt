@@ -1,5 +1,5 @@
 -- The bits of a value: two's complement at 64 bits from the magnitude, and floats that are no NaN.
-use Prim.Native.Nat.{ℕ, _-_, _<_}
+use Prim.Native.Nat.{_-_}
 use native.Mathlib.Omega.{arith}
 use mathlib.Core.Path.{_≡_, refl}
 use mathlib.Core.Bool.{true, false, not}

@@ -1,5 +1,4 @@
 use mathlib.Core.Path.{ap, _∙_}
-use native.Mathlib.Omega.{arith}
 use borrow.Author.Needs.{needs}
 use Rattle.gongaurora.specs.Numbers.{usageNumbers}
 use Rattle.gongaurora.proofs.Laws.{usage-four, untold, is-told, no-room, has-room}

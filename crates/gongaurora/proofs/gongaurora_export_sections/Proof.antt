@@ -1,5 +1,4 @@
 use mathlib.Core.Path.{ap, _∙_}
-use native.Mathlib.Omega.{arith}
 use borrow.Author.Needs.{needs}
 use Rattle.gongaurora.specs.Numbers.{countNumbers}
 use Rattle.gongaurora.proofs.Laws.{count-three, untold, is-told, no-room, has-room}

@@ -1,4 +1,3 @@
-use native.Mathlib.Omega.{arith}
 use borrow.Author.Needs.{needs}
 use Rattle.gongaurora.specs.Numbers.{countNumbers}
 use Rattle.gongaurora.proofs.numbers.count_numbers.Statement.{statement}

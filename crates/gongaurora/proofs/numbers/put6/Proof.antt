@@ -1,4 +1,3 @@
-use mathlib.Core.Path.{sym, _∙_}
 use lib.ListN.{length-set}
 use native.Mathlib.Omega.{arith}
 use borrow.Author.Needs.{needs}
@@ -8,7 +7,7 @@ use Rattle.gongaurora.proofs.numbers.put6.Statement.{statement}
 use Rattle.gongaurora.proofs.numbers.put6.Tie as tie
 
 returns : tie.Need-returns
-returns c = stored (six (c .args .n)) (c .args .answer .now) (c .pre)
+returns c = stored (six (c .args .n)) (c .args .answer .now) (omega arith)
 
 pub put6-spec : {M : Type 1} → statement M
 put6-spec =

@@ -1,4 +1,3 @@
-use native.Mathlib.Omega.{arith}
 use borrow.Author.Needs.{needs}
 use Rattle.gongaurora.specs.Numbers.{sizeNumbers}
 use Rattle.gongaurora.proofs.Laws.{sizes-are}

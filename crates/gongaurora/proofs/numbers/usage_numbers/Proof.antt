@@ -1,4 +1,3 @@
-use native.Mathlib.Omega.{arith}
 use borrow.Author.Needs.{needs}
 use Rattle.gongaurora.specs.Numbers.{usageNumbers}
 use Rattle.gongaurora.proofs.numbers.usage_numbers.Statement.{statement}

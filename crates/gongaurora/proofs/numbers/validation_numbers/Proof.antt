@@ -1,4 +1,3 @@
-use native.Mathlib.Omega.{arith}
 use borrow.Author.Needs.{needs}
 use Rattle.gongaurora.specs.Numbers.{validationNumbers}
 use Rattle.gongaurora.proofs.numbers.validation_numbers.Statement.{statement}
