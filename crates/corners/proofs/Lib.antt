@@ -2,4 +2,5 @@ pub mod Widths
 pub mod Ranges
 pub mod Outcomes
 pub mod Written
+pub mod Elements
 pub mod AnsweredRun

@@ -10,7 +10,7 @@ use lib.ListN.{length}
 use borrow.Author.Tests.{le-leb, lt-leb, leb-true, leb-false, eqb-true}
 use Rattle.model.specs.Bytes.{half}
 use Rattle.model.specs.Corner.{widthLawful, inside}
-use Rattle.model.proofs.Logic.{and-first, and-second}
+use Rattle.model.proofs.Logic.{and-both, and-first, and-second}
 use Rattle.words.specs.Width.{isWidth}
 
 pub holds : (t : Bool) → T t → t ≡ true
@@ -83,3 +83,10 @@ module _ (b : List ℕ) (at w n : ℕ) where
   -- one of them
   pub inside-at : (k : ℕ) → k < n → inside b at w n ≡ true → at + w * k + w ≤ length b
   inside-at k h e = omega (arith, inside-room e, mul-le-mul-left {m = suc k} {n = n} w h, mul-suc w k)
+
+  -- fewer of them
+  pub inside-fewer : (m : ℕ) → m ≤ n → inside b at w n ≡ true → inside b at w m ≡ true
+  unfolding inside
+  inside-fewer m h e =
+      and-both (widthLawful w) (leb (at + w * m) (length b)) (and-first (widthLawful w) (leb (at + w * n) (length b)) e)
+      (le-leb (at + w * m) (length b) (omega (arith, inside-room e, mul-le-mul-left {m = m} {n = n} w h)))

@@ -37,8 +37,20 @@ module _ {A : Type 0} (f : ℕ → A) where
     written-more i ys a h e q = rw (e, q, add-one, values-length i 0, values-length (suc i) 0) (rw zero-add at (one-more xs i 0 h))
 
     -- the i-th place holds the i-th value
-    pub written-at : (d : A) (n i : ℕ) → i < n → getD (over xs (valuesFrom f n 0)) i d ≡ f i
+    pub values-in-front : (d : A) (n j i : ℕ) → i < n → getD (over xs (valuesFrom f n j)) i d ≡ f (j + i)
     unfolding over
-    written-at d n i h =
-        let l = values-length n 0 in
-        List·getD-append (valuesFrom f n 0) (drop (length (valuesFrom f n 0)) xs) d i (omega arith) ∙ rw zero-add at (values-at d n 0 i h)
+    values-in-front d n j i h =
+        let l = values-length n j in
+        List·getD-append (valuesFrom f n j) (drop (length (valuesFrom f n j)) xs) d i (omega arith) ∙ values-at d n j i h
+
+    pub written-at : (d : A) (n i : ℕ) → i < n → getD (over xs (valuesFrom f n 0)) i d ≡ f i
+    written-at d n i h = rw zero-add at (values-in-front d n 0 i h)
+
+-- the same values, counted from elsewhere
+pub values-shift : {A : Type 0} (f g : ℕ → A) (k i j : ℕ) → ((m : ℕ) → m < k → f (i + m) ≡ g (j + m)) → valuesFrom f k i ≡ valuesFrom g k j
+unfolding valuesFrom
+values-shift f g zero i j e = refl
+values-shift f g (suc k) i j e =
+    let h : f i ≡ g j = simp add-zero at (e 0 (omega arith)) in
+    let r = values-shift f g k (suc i) (suc j) (λ m l. let p : suc i + m ≡ i + suc m = omega arith in let q : suc j + m ≡ j + suc m = omega arith in rw (p, q) (e (suc m) (omega arith))) in
+    rw (h, r)

@@ -4,11 +4,14 @@ use mathlib.Core.Path.{_≡_}
 use mathlib.Core.Bool.{Bool, true, false, not, _&&_}
 use mathlib.Core.List.{List, [], _∷_}
 use lib.Dec.{leb, ltb}
+use lib.ListN.{length}
 use lib.IntN.{ℤ}
 use Rattle.model.specs.declared.Section.{Section}
 use Rattle.model.specs.Bytes.{negative, below, signed}
-use Rattle.model.specs.Rules.{_unless_, Answer, check, _gives_}
+use Rattle.model.specs.Lists.{over}
+use Rattle.model.specs.Rules.{_unless_, Answer, check, _gives_, leaves}
 use Rattle.model.specs.Corner.{inside, numberAt, entryStart, readable}
+use Rattle.model.specs.ReadList.{valuesFrom}
 use Rattle.corners.specs.declared.spans.Span.{Span}
 use Rattle.corners.specs.declared.spans.Span.the-variants as Span
 
@@ -53,3 +56,12 @@ unfoldable pub cornerIn : List ℕ → Section → ℕ → ℕ → ℕ → Answe
 cornerIn b e start end corner =
     check 0 (42 unless (leb 1 corner && leb corner (end - start)) ∷ [])
     gives signed (e .«connectivity_width») (numberAt b (e .«connectivity_at») (e .«connectivity_width») (start + (corner - 1)))
+
+-- the same of all corners at once: 46, and how many they are; the numbers in front of the lent memory
+unfoldable pub cornersIn : ℕ → ℕ → ℕ → Answer ℕ
+cornersIn start end room = check 0 (46 unless leb (end - start) room ∷ []) gives (end - start)
+
+unfoldable pub cornersInMemory : List ℕ → Section → ℕ → ℕ → List ℤ → List ℤ
+cornersInMemory b e start end out =
+    leaves (cornersIn start end (length out)) out
+    (over out (valuesFrom (λ k. signed (e .«connectivity_width») (numberAt b (e .«connectivity_at») (e .«connectivity_width») (start + k))) (end - start) 0))

@@ -4,7 +4,7 @@ use mathlib.Core.Path.{_≡_, refl, ap, _∙_}
 use mathlib.Core.Bool.{Bool, true, false, cond, not, _&&_}
 use mathlib.Core.List.{List, [], _∷_}
 use native.Mathlib.Omega.{arith}
-use lib.Dec.{ltb}
+use lib.Dec.{leb, ltb}
 use borrow.Author.Tests.{le-leb, lt-ltb}
 use Rattle.model.specs.Lists.{_⊃_}
 use Rattle.model.specs.Bytes.{negative, below, signed, half}
@@ -14,6 +14,7 @@ use Rattle.model.specs.Values.{offsetsOf, connectivityOf}
 use Rattle.model.specs.Elements.{nodesPer, hasOffsets, elementType, firstElement, lastElement, elementCount, startOffset, reference, connectivityLength, elementStart, elementSize, cornerReference, elementRules}
 use Rattle.model.specs.Sections.{entry, dataStart}
 use Rattle.model.specs.Corner.{inEntry, inside, numberAt, entryStart, entrySize, startsBefore, readable, isCorner, cornerCheck, cornerNumber, cornerAnswer}
+use Rattle.model.specs.ElementCorners.{elementCornersCheck, elementCornersAnswer}
 use Rattle.model.proofs.Logic.{and-both, implied, between, not-between}
 use Rattle.model.proofs.Accepted.{table-passed}
 use Rattle.model.proofs.TwosComplement.{not-negative, below-is}
@@ -141,3 +142,9 @@ module _ {b : List ℕ} {z s : ℕ} (a : InZone b z s) where
           between 1 c (elementSize (treeOf b) s (el - firstElement (treeOf b) s)) p q,
           number-read (el - firstElement (treeOf b) s) c (element-inside el l m) p q,
         )
+
+    -- all corners at once: past 41 and 43 only the room counts
+    pub element-answer : (room : ℕ) → elementCornersAnswer b (entry (treeOf b) s) el room
+        ≡ (check 0 (46 unless leb (elementSize (treeOf b) s (el - firstElement (treeOf b) s)) room ∷ []) gives elementSize (treeOf b) s (el - firstElement (treeOf b) s))
+    unfolding elementCornersAnswer elementCornersCheck check entry
+    element-answer room = rw (in-entry, can-read, size-read (el - firstElement (treeOf b) s) (element-inside el l m))

@@ -3,31 +3,33 @@
 use Prim.Native.Nat.{ℕ, _+_, _-_, _/_, _<_}
 use mathlib.Core.Path.{_≡_, sym, ap, _∙_}
 use mathlib.Core.Bool.{true}
-use mathlib.Core.List.{List}
+use mathlib.Core.List.{List, [], _∷_}
 use mathlib.Core.Logic.{_↔_, ⊎-elim}
 use native.Mathlib.Omega.{arith}
 use lib.ListN.{length}
+use lib.Dec.{leb}
 use lib.IntN.{ℤ, natAbs}
 use Rattle.model.specs.declared.Rejection.{Rejection}
 use Rattle.model.specs.declared.Corner.{Corner}
 use Rattle.model.specs.Lists.{over}
-use Rattle.model.specs.Rules.{Answer, rejected, answer, rejection, passed, leaves}
+use Rattle.model.specs.Rules.{Answer, rejected, answer, rejection, passed, leaves, _unless_, check, _gives_}
 use Rattle.model.specs.Image.{Tree, treeOf}
 use Rattle.model.specs.Containment.{isZone}
 use Rattle.model.specs.Elements.{NFACE, elementType, firstElement, lastElement, elementStart, cornerReference, connectivityLength}
-use Rattle.model.specs.Validation.{imageCheck}
+use Rattle.model.specs.Validation.{Counts, validation, imageCheck}
 use Rattle.model.specs.Sections.{sectionNodes, entry, entries, sectionsCheck, sectionsAnswer, sectionNumbersMemory}
 use Rattle.model.specs.Corner.{cornerAnswer}
 use Rattle.model.specs.Answers.{cornerTells}
-use Rattle.model.specs.Reads.{readAnswer, ReadMade, IsRead}
+use Rattle.model.specs.Reads.{sectionAt, readAnswer, ReadMade, IsRead}
+use Rattle.model.specs.ElementCorners.{elementCornersAnswer}
 use Rattle.model.specs.Demand3.{sectionCount, sectionNode, given, InSection, sizeIn, IsCornerOf, storedAt, NodeNumber, FaceNumber, ReadAnswers, ReadHolds, Listed, Claim3, Demand3, EntriesGiven}
 use Rattle.model.proofs.Logic.{inside-or-not}
 use Rattle.model.proofs.Passed.{refused, check-pass, then-first, then-second, gives-check, gives-value}
 use Rattle.model.proofs.Runs.{read-leaves, run-exists, run-kept, ReadKept, all-of}
-use Rattle.model.proofs.ZoneEntries.{nodes-counted, section-at, section-listed, listed-once, read-is, one-for-each}
+use Rattle.model.proofs.ZoneEntries.{nodes-counted, section-at, section-listed, listed-once, entry-is, read-is, one-for-each}
 use Rattle.model.proofs.Accepted.{accepted}
 use Rattle.model.proofs.InZone.{InZone}
-use Rattle.model.proofs.Corners.{corner-inside, element-inside, answer-41, answer-42, answer-stored}
+use Rattle.model.proofs.Corners.{corner-inside, element-inside, answer-41, answer-42, answer-stored, element-answer}
 use Rattle.model.proofs.NoneNegative.{not-one-negative}
 use Rattle.model.proofs.References.{one-section, HasFace, face-inside, node-inside, node-signed, face-signed}
 
@@ -187,3 +189,11 @@ entries-given b z out e =
       list-is = rw yes′;
       claim = claim3 b (then-first (imageCheck b) _ yes′) z zone _;
     }
+
+-- all corners of an element at once, with the k-th entry: an element of the section is refused with 46 alone, where the room is less than its size
+pub element-read : (b : List ℕ) (c : Counts) → validation b ≡ answer c → (z k : ℕ) → k < sectionCount (treeOf b) z → (rest : List ℕ) (element room : ℕ)
+    → InSection (treeOf b) z k element
+    → elementCornersAnswer b (sectionAt (given b z rest .entries) k) element room
+    ≡ (check 0 (46 unless leb (sizeIn (treeOf b) z k element) room ∷ []) gives sizeIn (treeOf b) z k element)
+element-read b c e z k h rest element room i =
+    rw (entry-is b z rest k h) (element-answer (in-zone b (accepted b e) z rest k h) element 1 (i .0) (i .1) room)

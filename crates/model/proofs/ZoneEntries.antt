@@ -51,7 +51,7 @@ module _ (b : List ℕ) (z : ℕ) (rest : List ℕ) (k : ℕ) (h : k < sectionCo
       let n : length (allNumbers (sectionEntries (treeOf b) z) ++ rest) ≡ 9 * sectionCount (treeOf b) z + length rest = rw length-append (rw (numbers-counted (treeOf b) z)) in
       omega arith
 
-  entry-is : sectionAt (given b z rest .entries) k ≡ entry (treeOf b) (sectionNode (treeOf b) z k)
+  pub entry-is : sectionAt (given b z rest .entries) k ≡ entry (treeOf b) (sectionNode (treeOf b) z k)
   unfolding sectionEntries
   entry-is = entry-at (treeOf b) (sectionNodes (treeOf b) z) rest k (omega (arith, nodes-counted (treeOf b) z))
 

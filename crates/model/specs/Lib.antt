@@ -20,5 +20,6 @@ pub mod Given
 pub mod Reads
 pub mod Demand3
 pub mod ReadList
+pub mod ElementCorners
 pub mod Build
 pub mod Computed

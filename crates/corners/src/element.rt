@@ -1,0 +1,80 @@
+// All corners of an element in one call: what the corner reader checks at each corner is checked once.
+ghost use mathlib.Core.Path.{_≡_};
+ghost use Prim.Native.Nat.{_+_, _≤_, _<_};
+ghost use mathlib.Core.Bool.{true};
+ghost use lib.ListN.{length};
+ghost use Rattle.model.specs.Lists.{over};
+ghost use Rattle.model.specs.Bytes.{signed};
+ghost use Rattle.model.specs.Corner.{inside, numberAt};
+ghost use Rattle.model.specs.ReadList.{valuesFrom};
+ghost use Rattle.model.specs.ElementCorners.{elementCornersAnswer, elementCornersMemory};
+ghost use Rattle.model.specs.Answers.{countTells};
+ghost use Rattle.corners.specs.Spans.{cornersIn, cornersInMemory};
+use super::rows::signed_number_at;
+use super::spans::Span;
+use super::spans::element_span;
+use model::Count;
+use model::Rejection;
+use model::Section;
+
+// Writes n numbers of a row, from number `start` on, in front of lent memory; the rest stays.
+fn put_row(image: &[u8], at: u64, width: u64, start: u64, n: usize, out: &mut [i64])
+    requires { ⌜ inside (now image) at width (start + n) ≡ true ⌝ }
+    requires { ⌜ n ≤ length (now out) ⌝ }
+    ensures { λ _. ⌜ now (out .exit) ≡ over (now (out .entry)) (valuesFrom (λ k. signed width (numberAt (now (image .entry)) at width (start + k))) n 0) ⌝ }
+{
+    let mut k: usize = 0;
+    while k < n {
+        out[k] = signed_number_at(image, at, width, start + k as u64);
+        k += 1;
+    }
+}
+
+// The same for either width: each has a loop of its own.
+fn put_numbers(image: &[u8], at: u64, width: u64, start: u64, n: usize, out: &mut [i64])
+    requires { ⌜ inside (now image) at width (start + n) ≡ true ⌝ }
+    requires { ⌜ n ≤ length (now out) ⌝ }
+    ensures { λ _. ⌜ now (out .exit) ≡ over (now (out .entry)) (valuesFrom (λ k. signed width (numberAt (now (image .entry)) at width (start + k))) n 0) ⌝ }
+{
+    if width == 4 {
+        put_row(image, at, 4, start, n, out);
+    } else {
+        put_row(image, at, 8, start, n, out);
+    }
+}
+
+// The corners of the element that stands from `start` on and before `end` in the connectivity.
+fn corners_in(image: &[u8], section: Section, start: u64, end: u64, out: &mut [i64]) -> Count
+    requires { ⌜ (start < end) × (end ≤ section .«connectivity_length»)
+        × (inside (now image) (section .«connectivity_at») (section .«connectivity_width») (section .«connectivity_length») ≡ true) ⌝ }
+    ensures { λ r. ⌜ (countTells r ≡ cornersIn start end (length (now (out .entry)))) × (now (out .exit) ≡ cornersInMemory (now (image .entry)) section start end (now (out .entry))) ⌝ }
+{
+    let n = end - start;
+    if (out.len() as u64) < n {
+        return Count::Rejected(Rejection::at(46, 0));
+    }
+    let at = section.connectivity_at;
+    let width = section.connectivity_width;
+    put_numbers(image, at, width, start, n as usize, out);
+    Count::Of(n)
+}
+
+// Writes all corners of an element in front of `out` and answers how many they are; 41, then 43, then 46. A refusal leaves `out` as it was.
+pub fn element_corners(image: &[u8], section: Section, element: u64, out: &mut [i64]) -> Count
+    ensures { λ r. ⌜ countTells r ≡ elementCornersAnswer (now (image .entry)) section element (length (now (out .entry))) ⌝ }
+    ensures { λ _. ⌜ now (out .exit) ≡ elementCornersMemory (now (image .entry)) section element (now (out .entry)) ⌝ }
+{
+    let first = section.first;
+    let last = section.last;
+    if element < first {
+        return Count::Rejected(Rejection::at(41, 0));
+    }
+    if last < element {
+        return Count::Rejected(Rejection::at(41, 0));
+    }
+    let span = element_span(image, section, element - first);
+    let Span::Range { start, end } = span else {
+        return Count::Rejected(Rejection::at(43, 0));
+    };
+    corners_in(image, section, start, end, out)
+}
