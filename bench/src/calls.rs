@@ -42,7 +42,8 @@ extern "C" {
     fn bench_validate(image: *const u8, length: usize) -> Validation;
     fn bench_sections(image: *const u8, length: usize, zone: u64, out: *mut u64, room: usize) -> Count;
     fn bench_face_usage(image: *const u8, length: usize, zone: u64, out: *mut u8, room: usize) -> Usage;
-    fn bench_walk_library(image: *const u8, length: usize, sections: *const u64, count: usize) -> Walked;
+    fn bench_walk_elements(image: *const u8, length: usize, sections: *const u64, count: usize) -> Walked;
+    fn bench_walk_corners(image: *const u8, length: usize, sections: *const u64, count: usize) -> Walked;
     fn bench_walk_plain(image: *const u8, length: usize, sections: *const u64, count: usize) -> Walked;
 }
 
@@ -80,9 +81,14 @@ fn walk(walk: Walk, image: &[u8], sections: &[u64]) -> Walked {
     unsafe { walk(image.as_ptr(), image.len(), sections.as_ptr(), sections.len() / 9) }
 }
 
-/// The walk by the library's corner reads.
-pub fn walk_library(image: &[u8], sections: &[u64]) -> Walked {
-    walk(bench_walk_library, image, sections)
+/// The walk by the library, an element a call.
+pub fn walk_elements(image: &[u8], sections: &[u64]) -> Walked {
+    walk(bench_walk_elements, image, sections)
+}
+
+/// The walk by the library, a corner a call.
+pub fn walk_corners(image: &[u8], sections: &[u64]) -> Walked {
+    walk(bench_walk_corners, image, sections)
 }
 
 /// The same walk with no check.

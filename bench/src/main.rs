@@ -8,7 +8,7 @@ use std::path::Path;
 use std::process::Command;
 use std::{env, fs};
 
-use calls::{face_count, face_usage, sections, sum, validate, walk_library, walk_plain};
+use calls::{face_count, face_usage, sections, sum, validate, walk_corners, walk_elements, walk_plain};
 use measure::{measured, peak_growth};
 use reference::mesh::mesh;
 
@@ -74,7 +74,7 @@ fn validation_table(subjects: &[Subject], repetitions: usize) {
             }],
         );
         let (library, reference, words) = (times.time(0), times.time(1), times.time(2));
-        let (to_reference, to_sum) = (times.ratio_to(1), times.ratio_to(2));
+        let (to_reference, to_sum) = (times.ratio(0, 1), times.ratio(0, 2));
         let size = megabytes(image);
         println!(
             "| {name} | {size:.1} | {library:.2} | {reference:.2} | {words:.2} | {to_reference:.2} | {to_sum:.2} |"
@@ -84,21 +84,25 @@ fn validation_table(subjects: &[Subject], repetitions: usize) {
 }
 
 fn walk_table(subjects: &[Subject], repetitions: usize) {
-    println!(
-        "| walk, cell to face to node | corners read | library | unchecked C | library / unchecked | ns a corner |"
-    );
-    println!("|---|---|---|---|---|---|");
+    println!("| walk, cell to face to node | corners read | by elements | by corners | unchecked C | elements / unchecked | corners / unchecked |");
+    println!("|---|---|---|---|---|---|---|");
     for Subject { name, image, .. } in subjects.iter().filter(|subject| subject.walked) {
         let sections = sections(image, ZONE);
-        let walked = walk_library(image, &sections);
-        assert_eq!(walked, walk_plain(image, &sections), "{name}");
+        let walked = walk_plain(image, &sections);
+        assert_eq!(walked, walk_elements(image, &sections), "{name}");
+        assert_eq!(walked, walk_corners(image, &sections), "{name}");
         let times = measured(
             repetitions,
-            [&mut || walk_library(image, &sections).sum, &mut || walk_plain(image, &sections).sum],
+            [&mut || walk_plain(image, &sections).sum, &mut || walk_elements(image, &sections).sum, &mut || {
+                walk_corners(image, &sections).sum
+            }],
         );
-        let (library, plain, ratio) = (times.time(0), times.time(1), times.ratio_to(1));
-        let (corners, each) = (walked.corners, library * 1e6 / walked.corners as f64);
-        println!("| {name} | {corners} | {library:.2} | {plain:.2} | {ratio:.2} | {each:.2} |");
+        let (plain, elements, corners) = (times.time(0), times.time(1), times.time(2));
+        let (by_elements, by_corners) = (times.ratio(1, 0), times.ratio(2, 0));
+        println!(
+            "| {name} | {} | {elements:.2} | {corners:.2} | {plain:.2} | {by_elements:.2} | {by_corners:.2} |",
+            walked.corners
+        );
     }
     println!();
 }
@@ -118,7 +122,7 @@ fn usage_table(subjects: &[Subject], repetitions: usize) {
                 reference::face_usage(image, ZONE, &mut second).map_or(0, |count| count as u64)
             }],
         );
-        let (library, reference, ratio) = (times.time(0), times.time(1), times.ratio_to(1));
+        let (library, reference, ratio) = (times.time(0), times.time(1), times.ratio(0, 1));
         println!("| {name} | {faces} | {library:.2} | {reference:.2} | {ratio:.2} |");
     }
     println!();

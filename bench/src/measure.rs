@@ -54,9 +54,9 @@ impl<const N: usize> Times<N> {
         self.median(|turn| turn[piece])
     }
 
-    /// The median ratio of the first piece to another, each within a turn.
-    pub fn ratio_to(&self, piece: usize) -> f64 {
-        self.median(|turn| turn[0] / turn[piece])
+    /// The median ratio of one piece to another, each within a turn.
+    pub fn ratio(&self, piece: usize, other: usize) -> f64 {
+        self.median(|turn| turn[piece] / turn[other])
     }
 }
 

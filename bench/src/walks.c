@@ -46,8 +46,36 @@ static const gongaurora_section *section_of_face(const gongaurora_section *secti
     return sections;
 }
 
-/* Cell to face to node by the library; hexahedra straight to their nodes. */
-walked_t bench_walk_library(const uint8_t *image, size_t length, const gongaurora_section *sections, size_t count)
+/* Cell to face to node by the library, element by element; hexahedra straight to their nodes. */
+walked_t bench_walk_elements(const uint8_t *image, size_t length, const gongaurora_section *sections, size_t count)
+{
+    enum { ROOM = 32 };
+    int64_t of_cell[ROOM], of_face[ROOM];
+    walked_t walked = {0, 0};
+    for (size_t k = 0; k < count; k++) {
+        const gongaurora_section *cells = &sections[k];
+        if (cells->type != HEXA_8 && cells->type != NFACE_N) continue;
+        for (uint64_t cell = cells->first; cell <= cells->last; cell++) {
+            gongaurora_count size = gongaurora_corners_of(image, length, cells, cell, of_cell, ROOM);
+            walked.corners += size.count;
+            for (uint64_t c = 0; c < size.count; c++) {
+                if (cells->type == HEXA_8) {
+                    walked.sum += (uint64_t)of_cell[c];
+                    continue;
+                }
+                uint64_t number = of_cell[c] < 0 ? 0 - (uint64_t)of_cell[c] : (uint64_t)of_cell[c];
+                const gongaurora_section *faces = section_of_face(sections, count, number);
+                gongaurora_count nodes = gongaurora_corners_of(image, length, faces, number, of_face, ROOM);
+                walked.corners += nodes.count;
+                for (uint64_t n = 0; n < nodes.count; n++) walked.sum += (uint64_t)of_face[n];
+            }
+        }
+    }
+    return walked;
+}
+
+/* The same corner by corner. */
+walked_t bench_walk_corners(const uint8_t *image, size_t length, const gongaurora_section *sections, size_t count)
 {
     walked_t walked = {0, 0};
     for (size_t k = 0; k < count; k++) {

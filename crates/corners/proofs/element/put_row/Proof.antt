@@ -53,8 +53,7 @@ loop-less c = search needs
 loop-again : tie.Need-loop-again Inv-loop μ-loop
 loop-again c =
     let l = c .before .before in
-    let z = c .signed-number-at in
-    (
+    let z = c .signed-number-at in (
       omega arith,
       written-more _ _ _ _ _ (omega arith) (l .loop .inv .1) (toZ-ofZ (sfits-of {w = w64} {z = z .result} (z .ok)) ∙ z .ensures),
       rw length-set (l .loop .inv .2),
