@@ -111,6 +111,9 @@ span-is b e k = by-type (hasOffsets (e .«element_type»)) refl
     by-type true q = rw q (by-offsets (ltb 0 (nodesPer (e .«element_type»))) _ _ _ _ _)
     by-type false q = rw q (by-nodes (ltb 0 (nodesPer (e .«element_type»))) _ _ _ _ (has-node k (nodesPer (e .«element_type»))))
 
+pub span-outside : (b : List ℕ) (e : Section) (k : ℕ) → inside b (e .«connectivity_at») (e .«connectivity_width») (e .«connectivity_length») ≡ false → Span.Unreadable ≡ spanOf b e k
+span-outside b e k q = rw (span-is, q)
+
 pub span-inside : (b : List ℕ) (e : Section) (s : Span) → inside b (e .«connectivity_at») (e .«connectivity_width») (e .«connectivity_length») ≡ true
     → SpanIn (e .«connectivity_length») s → SpanInside b e s
 span-inside b e (Span.Range start end) h l = (l .0, l .1, h)

@@ -10,9 +10,13 @@ ghost use Rattle.model.specs.ReadList.{valuesFrom};
 ghost use Rattle.model.specs.ElementCorners.{elementCornersAnswer, elementCornersMemory};
 ghost use Rattle.model.specs.Answers.{countTells};
 ghost use Rattle.corners.specs.Spans.{cornersIn, cornersInMemory};
+use super::rows::inside;
 use super::rows::signed_number_at;
 use super::spans::Span;
-use super::spans::element_span;
+use super::spans::fixed_span;
+use super::spans::offset_span;
+use element_types::has_offsets;
+use element_types::nodes_per;
 use model::Count;
 use model::Rejection;
 use model::Section;
@@ -72,7 +76,18 @@ pub fn element_corners(image: &[u8], section: Section, element: u64, out: &mut [
     if last < element {
         return Count::Rejected(Rejection::at(41, 0));
     }
-    let span = element_span(image, section, element - first);
+    let at = section.connectivity_at;
+    let width = section.connectivity_width;
+    let length = section.connectivity_length;
+    if !inside(image, at, width, length) {
+        return Count::Rejected(Rejection::at(43, 0));
+    }
+    let k = element - first;
+    let span = if has_offsets(section.element_type) {
+        offset_span(image, section.offsets_at, section.offsets_width, k, length)
+    } else {
+        fixed_span(k, nodes_per(section.element_type), length)
+    };
     let Span::Range { start, end } = span else {
         return Count::Rejected(Rejection::at(43, 0));
     };

@@ -18,7 +18,7 @@ pub enum Span {
 }
 
 // The k-th element of a type with `nodes` per element, in a connectivity of `length` numbers.
-fn fixed_span(k: u64, nodes: u64, length: u64) -> Span
+pub fn fixed_span(k: u64, nodes: u64, length: u64) -> Span
     requires { ⌜ (nodes ≤ 27) × (length < 2 ^ 62) ⌝ }
     ensures { λ r. ⌜ (r ≡ fixedSpan k nodes length) × SpanIn length r ⌝ }
 {
@@ -69,7 +69,7 @@ fn range_between(start: u64, end: u64, width: u64, length: u64) -> Span
 }
 
 // The k-th element by its start offsets, in a connectivity of `length` numbers.
-fn offset_span(image: &[u8], at: u64, width: u64, k: u64, length: u64) -> Span
+pub fn offset_span(image: &[u8], at: u64, width: u64, k: u64, length: u64) -> Span
     ensures { λ r. ⌜ (r ≡ offsetSpan (now (image .entry)) at width k length) × SpanIn length r ⌝ }
 {
     // no image has so many numbers; below it k + 2 fits in 64 bits

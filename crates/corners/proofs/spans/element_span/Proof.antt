@@ -4,7 +4,7 @@ use mathlib.Core.Bool.{true}
 use borrow.Author.Needs.{needs}
 use denote.Ref.{now}
 use Rattle.model.specs.Corner.{inside}
-use Rattle.corners.proofs.Ranges.{span-is, span-inside}
+use Rattle.corners.proofs.Ranges.{span-is, span-outside, span-inside}
 use Rattle.corners.proofs.Widths.{inside-few}
 use Rattle.corners.proofs.spans.element_span.Statement.{statement}
 use Rattle.corners.proofs.spans.element_span.Tie as tie
@@ -31,7 +31,7 @@ returns-2 c = (
 )
 
 returns-3 : tie.Need-returns-3
-returns-3 c = (rw (span-is, sym (c .before .inside .ensures) ∙ c .if1 .left), tt)
+returns-3 c = (span-outside _ _ _ (sym (c .before .inside .ensures) ∙ c .if1 .left), tt)
 
 pub element-span-spec : {M : Type 1} → statement M
 element-span-spec =
