@@ -151,9 +151,9 @@ void gongaurora_export_sections(const uint8_t *image, size_t length, uint64_t zo
 /* returns the rule; 0: the number was written */
 uint64_t gongaurora_export_corner(const uint8_t *image, size_t length, const uint64_t *section, size_t nine, uint64_t element,
                                   uint64_t corner, int64_t *number, size_t one);
-/* out: the corners; answer: rule, node, count */
-void gongaurora_export_corners(const uint8_t *image, size_t length, const uint64_t *section, size_t nine, uint64_t element,
-                               int64_t *out, size_t numbers, uint64_t *answer, size_t room);
+/* returns the rule; 0: the corners were written to out, and how many they are */
+uint64_t gongaurora_export_corners(const uint8_t *image, size_t length, const uint64_t *section, size_t nine, uint64_t element,
+                                   int64_t *out, size_t numbers, uint64_t *count, size_t one);
 /* answer: rule, node, element, count */
 void gongaurora_export_face_usage(const uint8_t *image, size_t length, uint64_t zone, uint8_t *out, size_t bytes,
                                   uint64_t *answer, size_t room);
@@ -271,12 +271,11 @@ static inline gongaurora_corner gongaurora_corner_of(const uint8_t *image, size_
 static inline gongaurora_count gongaurora_corners_of(const uint8_t *image, size_t length, const gongaurora_section *section,
                                                      uint64_t element, int64_t *out, size_t room)
 {
-    uint64_t answer[3] = {0};
     gongaurora_count result;
-    gongaurora_export_corners(image, length, (const uint64_t *)(const void *)section, 9, element, out, room, answer, 3);
-    result.rule = answer[0];
-    result.node = answer[1];
-    result.count = answer[2];
+    result.node = 0;
+    result.count = 0;
+    result.rule = gongaurora_export_corners(image, length, (const uint64_t *)(const void *)section, 9, element, out, room,
+                                            &result.count, 1);
     return result;
 }
 

@@ -66,7 +66,7 @@ module _ {n : ℕ} (out new : List ℕ) (e : length new ≡ n) where
   unfolding told over
   is-told h p q = p ∙ ap (over out) q ∙ simp (le-leb (length new) (length out) (omega arith))
 
-module _ {A : Type 0} (n : ℕ) (out : List ℕ) (memory left : List A) where
+module _ (n : ℕ) (out memory left : List ℕ) where
   pub no-room : length out < n → memory ≡ roomed n out memory left
   unfolding roomed
   no-room h = simp (lt-leb n (length out) h)

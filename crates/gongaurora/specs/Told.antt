@@ -16,7 +16,7 @@ unfoldable pub told : List ℕ → List ℕ → List ℕ
 told out new = cond (leb (length new) (length out)) (over out new) out
 
 -- memory as a call leaves it where the answer has room for n numbers, else as it was
-unfoldable pub roomed : {A : Type 0} → ℕ → List ℕ → List A → List A → List A
+unfoldable pub roomed : ℕ → List ℕ → List ℕ → List ℕ → List ℕ
 roomed n out memory left = cond (leb n (length out)) left memory
 
 -- a corner's answer: 46 unless the section has nine numbers and there is room for one
@@ -29,10 +29,15 @@ unfoldable pub cornerMemory : Answer ℤ → List ℤ → List ℤ
 cornerMemory (rejected r) out = out
 cornerMemory (answer n) out = over out (n ∷ [])
 
--- all corners of an element: 46 unless the section has nine numbers
-unfoldable pub cornersTold : List ℕ → List ℕ → ℕ → ℕ → Answer ℕ
-cornersTold b section element room =
-    check 0 (46 unless leb 9 (length section) ∷ []) then elementCornersAnswer b (sectionAt section 0) element room
+-- all corners of an element: 46 unless the section has nine numbers and there is room for the count
+unfoldable pub cornersTold : List ℕ → List ℕ → ℕ → ℕ → List ℕ → Answer ℕ
+cornersTold b section element room count =
+    check 0 (46 unless (leb 9 (length section) && leb 1 (length count)) ∷ []) then elementCornersAnswer b (sectionAt section 0) element room
 
-unfoldable pub cornersMemory : List ℕ → List ℕ → ℕ → List ℤ → List ℤ
-cornersMemory b section element out = cond (leb 9 (length section)) (elementCornersMemory b (sectionAt section 0) element out) out
+unfoldable pub countMemory : Answer ℕ → List ℕ → List ℕ
+countMemory (rejected r) count = count
+countMemory (answer n) count = over count (n ∷ [])
+
+unfoldable pub cornersMemory : List ℕ → List ℕ → ℕ → List ℤ → List ℕ → List ℤ
+cornersMemory b section element out count =
+    cond (leb 9 (length section) && leb 1 (length count)) (elementCornersMemory b (sectionAt section 0) element out) out

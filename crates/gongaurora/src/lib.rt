@@ -3,7 +3,6 @@ ghost use mathlib.Core.Path.{_≡_};
 ghost use Prim.Native.Nat.{_/_};
 ghost use lib.ListN.{length};
 ghost use Rattle.model.specs.ReadList.{ruleOf};
-ghost use Rattle.model.specs.Answers.{countTells};
 ghost use Rattle.model.specs.Validation.{validation};
 ghost use Rattle.model.specs.Sections.{sectionsAnswer, sectionNumbersMemory};
 ghost use Rattle.model.specs.FaceUsage.{usageAnswer, usageMemory};
@@ -11,14 +10,13 @@ ghost use Rattle.model.specs.Path.{pathAnswer, pathMemory};
 ghost use Rattle.model.specs.ArrayValue.{valueAnswer};
 ghost use Rattle.model.specs.DataSize.{dataSizeAnswer};
 ghost use Rattle.gongaurora.specs.Numbers.{validationNumbers, countNumbers, usageNumbers, valueNumbers, sizeNumbers};
-ghost use Rattle.gongaurora.specs.Told.{told, roomed, cornerTold, cornerMemory, cornersTold, cornersMemory};
+ghost use Rattle.gongaurora.specs.Told.{told, roomed, cornerTold, cornerMemory, cornersTold, countMemory, cornersMemory};
 
 mod numbers; // numbers.rt: answers as numbers
 
-use model::Count;
-use model::Rejection;
 use numbers::count_numbers;
 use numbers::put_corner;
+use numbers::put_count;
 use numbers::put3;
 use numbers::put4;
 use numbers::put6;
@@ -61,35 +59,28 @@ pub extern "C" fn gongaurora_export_corner(
     put_corner(c, number)
 }
 
-// All corners of an element, of a section entry's nine numbers; 46 where there are fewer.
-fn corners_of(image: &[u8], section: &[u64], element: u64, out: &mut [i64]) -> Count
-    ensures { λ r. ⌜ (countTells r ≡ cornersTold (now (image .entry)) (now (section .entry)) element (length (now (out .entry)))) × (now (out .exit) ≡ cornersMemory (now (image .entry)) (now (section .entry)) element (now (out .entry))) ⌝ }
-{
-    if section.len() < 9 {
-        return Count::Rejected(Rejection::at(46, 0));
-    }
-    corners::element_corners(image, corners::section_at(section, 0), element, out)
-}
-
-// All corners of an element in front of `out`, of a section entry's nine numbers. The answer: rule, node, count of corners.
+// All corners of an element in front of `out`, of a section entry's nine numbers. Answers the rule, and 0 where their count was written in front of
+// `count`. Rule 46 where the entry has fewer than nine numbers, `count` has no room or `out` too little; a refusal leaves both as they were.
 #[no_mangle]
 pub extern "C" fn gongaurora_export_corners(
     image: &[u8],
     section: &[u64],
     element: u64,
     out: &mut [i64],
-    answer: &mut [u64],
-)
-    ensures { λ _. ⌜ now (answer .exit) ≡ told (now (answer .entry)) (countNumbers (cornersTold (now (image .entry)) (now (section .entry)) element (length (now (out .entry))))) ⌝ }
-    ensures { λ _. ⌜ now (out .exit) ≡ roomed 3 (now (answer .entry)) (now (out .entry)) (cornersMemory (now (image .entry)) (now (section .entry)) element (now (out .entry))) ⌝ }
+    count: &mut [u64],
+) -> u64
+    ensures { λ r. ⌜ r ≡ ruleOf (cornersTold (now (image .entry)) (now (section .entry)) element (length (now (out .entry))) (now (count .entry))) ⌝ }
+    ensures { λ _. ⌜ now (count .exit) ≡ countMemory (cornersTold (now (image .entry)) (now (section .entry)) element (length (now (out .entry))) (now (count .entry))) (now (count .entry)) ⌝ }
+    ensures { λ _. ⌜ now (out .exit) ≡ cornersMemory (now (image .entry)) (now (section .entry)) element (now (out .entry)) (now (count .entry)) ⌝ }
 {
-    if answer.len() < 3 {
-        return;
+    if section.len() < 9 {
+        return 46;
     }
-    put3(
-        answer,
-        count_numbers(corners_of(image, section, element, out)),
-    );
+    if count.len() < 1 {
+        return 46;
+    }
+    let c = corners::element_corners(image, corners::section_at(section, 0), element, out);
+    put_count(c, count)
 }
 
 // The section entries of a zone, nine numbers each, in front of `out`. The answer: rule, node, count of entries.

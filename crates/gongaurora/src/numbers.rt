@@ -9,7 +9,7 @@ ghost use Rattle.model.specs.ReadList.{ruleOf};
 ghost use Rattle.model.specs.Answers.{validationTells, countTells, usageTells, cornerTells, valueTells, dataSizeTells, NanCases};
 ghost use Rattle.validation.specs.Sizes.{Absent};
 ghost use Rattle.gongaurora.specs.Numbers.{three, four, six, refusal, valued, validationNumbers, countNumbers, usageNumbers, valueNumbers, sizeNumbers};
-ghost use Rattle.gongaurora.specs.Told.{cornerMemory};
+ghost use Rattle.gongaurora.specs.Told.{cornerMemory, countMemory};
 use model::ArrayValue;
 use model::Corner;
 use model::Count;
@@ -182,6 +182,20 @@ pub fn put_corner(c: Corner, number: &mut [i64]) -> u64
             0
         }
         Corner::Rejected(r) => r.rule,
+    }
+}
+
+// Writes a count in front of lent memory and answers 0; a refusal answers its rule and leaves the memory as it was.
+pub fn put_count(c: Count, count: &mut [u64]) -> u64
+    requires { ⌜ 1 ≤ length (now count) ⌝ }
+    ensures { λ r. ⌜ (r ≡ ruleOf (countTells c)) × (now (count .exit) ≡ countMemory (countTells c) (now (count .entry))) ⌝ }
+{
+    match c {
+        Count::Of(n) => {
+            count[0] = n;
+            0
+        }
+        Count::Rejected(r) => r.rule,
     }
 }
 

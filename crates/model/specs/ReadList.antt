@@ -31,7 +31,7 @@ answerAt image entries reads i =
     readAnswer image entries (requestAt reads i .which) (requestAt reads i .element) (requestAt reads i .corner)
 
 -- an answer in two numbers: the rule, 0 where there is none; the number, 0 beside a rule
-unfoldable pub ruleOf : Answer ℤ → ℕ
+unfoldable pub ruleOf : {A : Type 0} → Answer A → ℕ
 ruleOf (rejected r) = r .rule
 ruleOf (answer n) = 0
 
