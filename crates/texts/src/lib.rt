@@ -9,6 +9,12 @@ ghost use Rattle.model.specs.Records.{nameLawful, labelLawful, namesake, nameTa
 ghost use Rattle.model.specs.Bounds.{Laid};
 ghost use Rattle.model.specs.Given.{RecordsTo};
 ghost use Rattle.texts.specs.Texts.{textAt, textByte, textBytes, firstDifference};
+ghost use Rattle.texts.specs.Keys.{keyAt, Seen};
+
+mod keys; // keys.rt: keys of names, and a filter of those met
+
+pub use keys::add_key;
+pub use keys::name_key;
 use records::Record;
 
 const BLANK: u64 = 32;
@@ -102,12 +108,17 @@ fn is_namesake(image: &[u8], i: usize, up: usize, j: usize) -> bool
         == Record::TEXT_SIZE
 }
 
-// Rule 11: whether an earlier sibling of node i has its name. Siblings stand after the parent, so the search starts there.
-pub fn name_taken(image: &[u8], i: usize) -> bool
+// Rule 11: whether an earlier sibling of node i has its name. It would have the key too, so most nodes need no search. Siblings
+// stand after the parent, so the search starts there.
+pub fn name_taken(image: &[u8], i: usize, key: usize, seen: &[u8]) -> bool
     requires { ⌜ RecordsTo (now image) i × (parentLawful (treeOf (now image)) i ≡ true) ⌝ }
+    requires { ⌜ (key ≡ keyAt (treeOf (now image)) i) × Seen (treeOf (now image)) i (now seen) ⌝ }
     ensures { λ r. ⌜ r ≡ nameTaken (treeOf (now (image .entry))) i ⌝ }
 {
     if i == 0 {
+        return false;
+    }
+    if !keys::is_met(seen, key) {
         return false;
     }
     let up = records::parent_of(image, i);
