@@ -4,6 +4,7 @@ use mathlib.Core.Path.{_≡_, refl, sym, ap, subst, _∙_}
 use mathlib.Core.Bool.{Bool, true, false, cond, not, _&&_, _||_}
 use mathlib.Core.List.{List, [], _∷_}
 use native.Mathlib.Omega.{arith}
+use native.Mathlib.Nat.{add-zero}
 use native.Mathlib.Numerals.{add-one}
 use lib.Dec.{eqb, leb}
 use lib.ListN.{length, getD, take, drop, length-drop, drop-of-length-le}
@@ -14,7 +15,7 @@ use Rattle.model.specs.Bytes.{same}
 use Rattle.model.specs.Records.{printable, labelLawful}
 use Rattle.model.proofs.Walks.{someFrom-step, seekFrom-step}
 use Rattle.model.proofs.Logic.{untrue, and-first}
-use Rattle.texts.specs.Texts.{textAt, textByte, textBytes, differAt, firstDifference}
+use Rattle.texts.specs.Texts.{textAt, textByte, badByte, textBytes, differAt, firstDifference}
 
 module _ (b : List ℕ) (at : ℕ) (h : at + 32 ≤ length b) where
   pub text-length : length (textAt b at) ≡ 32
@@ -33,17 +34,20 @@ regroup true p false m = refl
 regroup true false true m = refl
 regroup true true true m = refl
 
+-- a byte that may not stand is counted
+counted : (n : ℕ) (t r : Bool) → (eqb (n + cond t 0 1) 0 && r) ≡ (eqb n 0 && (t && r))
+counted n true r = rw (add-zero n)
+counted n false r = rw (ne-eqb (n + 1) 0 (λ (z : n + 1 ≡ 0). absurd (omega arith))) (sym (and-false (eqb n 0)))
+  where
+    and-false : (a : Bool) → (a && false) ≡ false
+    and-false true = refl
+    and-false false = refl
+
 -- a text's bytes from index k on
 module _ (z : ℕ) (s : List ℕ) (k : ℕ) (h : k < length s) where
   bytes-step : textBytes z (drop k s) ≡ (textByte z (getD s k 0) && textBytes z (drop (k + 1) s))
   unfolding printable among
   bytes-step = rw (add-one k, drop-cons s k 0 h) (regroup (leb 32 (getD s k 0) && leb (getD s k 0) 126) (printable (drop (suc k) s)) (eqb z (getD s k 0)) (among z (drop (suc k) s)))
-
-  bytes-on : textByte z (getD s k 0) ≡ true → textBytes z (drop (k + 1) s) ≡ textBytes z (drop k s)
-  bytes-on e = rw (bytes-step, e)
-
-  bytes-off : textByte z (getD s k 0) ≡ false → textBytes z (drop k s) ≡ false
-  bytes-off e = rw (bytes-step, e)
 
 -- byte k of a text was read as x
 module _ (b : List ℕ) (at : ℕ) (h : at + 32 ≤ length b) (k : ℕ) (l : k < 32) {x : ℕ} (e : x ≡ getD b (at + k) 0) where
@@ -53,15 +57,17 @@ module _ (b : List ℕ) (at : ℕ) (h : at + 32 ≤ length b) (k : ℕ) (l : k <
   below : k < length (textAt b at)
   below = rw (text-length b at h) l
 
-  pub byte-on : (z : ℕ) → textByte z x ≡ true → textBytes z (drop (k + 1) (textAt b at)) ≡ textBytes z (drop k (textAt b at))
-  byte-on z f = bytes-on z (textAt b at) k below (ap (textByte z) byte-is ∙ f)
+  -- n bytes before k may not stand
+  pub byte-on : (z n : ℕ) → (eqb (n + badByte z x) 0 && textBytes z (drop (k + 1) (textAt b at))) ≡ (eqb n 0 && textBytes z (drop k (textAt b at)))
+  byte-on z n = rw (bytes-step z (textAt b at) k below, byte-is) (counted n (textByte z x) (textBytes z (drop (k + 1) (textAt b at))))
 
-  pub byte-off : (z : ℕ) → textByte z x ≡ false → textBytes z (drop k (textAt b at)) ≡ false
-  byte-off z f = bytes-off z (textAt b at) k below (ap (textByte z) byte-is ∙ f)
+and-true : (a : Bool) → (a && true) ≡ a
+and-true true = refl
+and-true false = refl
 
-pub bytes-end : (z : ℕ) (b : List ℕ) (at : ℕ) → at + 32 ≤ length b → (k : ℕ) → 32 ≤ k → textBytes z (drop k (textAt b at)) ≡ true
+pub bytes-end : (z : ℕ) (b : List ℕ) (at : ℕ) → at + 32 ≤ length b → (k : ℕ) → 32 ≤ k → (ok : Bool) → (ok && textBytes z (drop k (textAt b at))) ≡ ok
 unfolding printable among
-bytes-end z b at h k l = rw (drop-of-length-le (textAt b at) {i = k} (rw (text-length b at h) l))
+bytes-end z b at h k l ok = rw (drop-of-length-le (textAt b at) {i = k} (rw (text-length b at h) l)) (and-true ok)
 
 -- the first byte decides, or the others do
 module _ (z : ℕ) (s : List ℕ) where
@@ -99,11 +105,7 @@ no-zero-barred s = by-test (printable s) refl
   where
     by-test : (t : Bool) → printable s ≡ t → (t && not (eqb (getD s 0 32) 32) && not (among 0 s)) ≡ (t && not (eqb (getD s 0 32) 32))
     by-test false e = refl
-    by-test true e = rw (no-zero s e) (last (not (eqb (getD s 0 32) 32)))
-      where
-        last : (t : Bool) → (t && true) ≡ t
-        last true = refl
-        last false = refl
+    by-test true e = rw (no-zero s e) (and-true (not (eqb (getD s 0 32) 32)))
 
 -- two texts are the same where they differ nowhere
 same-from : (k i : ℕ) (x y : List ℕ) → i + k ≡ length x → i + k ≡ length y → same (drop i x) (drop i y) ≡ eqb (seekFrom (differAt x y) k i) (i + k)

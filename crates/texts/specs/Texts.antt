@@ -1,6 +1,6 @@
 -- Texts of 32 bytes in an image, byte by byte.
 use Prim.Native.Nat.{ℕ}
-use mathlib.Core.Bool.{Bool, not, _&&_}
+use mathlib.Core.Bool.{Bool, cond, not, _&&_}
 use mathlib.Core.List.{List}
 use lib.Dec.{eqb, leb}
 use lib.ListN.{getD, take, drop}
@@ -14,6 +14,10 @@ textAt b at = take 32 (drop at b)
 -- a byte of a text: 32 to 126, and not the one that is barred
 abbrev pub textByte : ℕ → ℕ → Bool
 textByte barred x = leb 32 x && leb x 126 && not (eqb barred x)
+
+-- 0 where it is one, 1 where it is not
+abbrev pub badByte : ℕ → ℕ → ℕ
+badByte barred x = cond (textByte barred x) 0 1
 
 -- all bytes of a text
 abbrev pub textBytes : ℕ → List ℕ → Bool

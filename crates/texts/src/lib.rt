@@ -8,7 +8,7 @@ ghost use Rattle.model.specs.Image.{treeOf, nodeCount, name, label, parent};
 ghost use Rattle.model.specs.Records.{nameLawful, labelLawful, namesake, nameTaken, parentLawful};
 ghost use Rattle.model.specs.Bounds.{Laid};
 ghost use Rattle.model.specs.Given.{RecordsTo};
-ghost use Rattle.texts.specs.Texts.{textAt, textByte, textBytes, firstDifference};
+ghost use Rattle.texts.specs.Texts.{textAt, textByte, badByte, textBytes, firstDifference};
 ghost use Rattle.texts.specs.Keys.{keyAt, Seen};
 
 mod keys; // keys.rt: keys of names, and a filter of those met
@@ -17,12 +17,12 @@ pub use keys::add_key;
 pub use keys::name_key;
 use records::Record;
 
-const BLANK: u64 = 32;
+const BLANK: u8 = 32;
 
-const SLASH: u64 = 47;
+const SLASH: u8 = 47;
 
 // Whether a byte may stand in a text that bars one byte.
-fn is_text_byte(x: u64, barred: u64) -> bool
+fn is_text_byte(x: u8, barred: u8) -> bool
     ensures { λ r. ⌜ r ≡ textByte barred x ⌝ }
 {
     if x < 32 {
@@ -34,27 +34,33 @@ fn is_text_byte(x: u64, barred: u64) -> bool
     barred != x
 }
 
-// Whether all 32 bytes from `at` may.
-fn all_text_bytes(image: &[u8], at: usize, barred: u64) -> bool
+// 0 for a byte that may, 1 for one that may not.
+fn bad(x: u8, barred: u8) -> u8
+    ensures { λ r. ⌜ (r ≡ badByte barred x) × (r ≤ 1) ⌝ }
+{
+    if is_text_byte(x, barred) { 0 } else { 1 }
+}
+
+// Whether all 32 bytes from `at` may. It counts those that may not: a loop with no way out of it.
+fn all_text_bytes(image: &[u8], at: usize, barred: u8) -> bool
     requires { ⌜ at + 32 ≤ length (now image) ⌝ }
     ensures { λ r. ⌜ r ≡ textBytes barred (textAt (now (image .entry)) at) ⌝ }
 {
+    let mut n: u8 = 0;
     let mut k: usize = 0;
     while k < 32 {
-        if !is_text_byte(words::byte_at(image, at + k), barred) {
-            return false;
-        }
+        n += bad(image[at + k], barred);
         k += 1;
     }
-    true
+    n == 0
 }
 
 // Whether the 32 bytes from `at` are a lawful text without the barred byte.
-fn is_text(image: &[u8], at: usize, barred: u64) -> bool
+fn is_text(image: &[u8], at: usize, barred: u8) -> bool
     requires { ⌜ at + 32 ≤ length (now image) ⌝ }
     ensures { λ r. ⌜ r ≡ (labelLawful (textAt (now (image .entry)) at) && not (among barred (textAt (now (image .entry)) at))) ⌝ }
 {
-    if words::byte_at(image, at) == BLANK {
+    if image[at] == BLANK {
         return false;
     }
     all_text_bytes(image, at, barred)
