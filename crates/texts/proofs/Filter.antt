@@ -1,36 +1,22 @@
 -- The filter of keys: what was marked stays marked, and an earlier sibling of one name would be met.
-use Prim.Native.Nat.{ℕ, zero, suc, _+_, _*_, _-_, _/_, _%_, _≤_, _<_}
-use mathlib.Core.Path.{_≡_, refl, sym, ap, ap₂, subst, _∙_}
-use mathlib.Core.Bool.{Bool, true, false, cond, not, _&&_, _||_}
+use Prim.Native.Nat.{ℕ, _+_, _-_, _<_}
+use mathlib.Core.Path.{_≡_, refl, sym, ap₂, _∙_}
+use mathlib.Core.Bool.{Bool, true, false, cond, _||_}
 use mathlib.Core.List.{List, [], _∷_}
 use native.Mathlib.Omega.{arith}
 use native.Mathlib.Decide.{ℕ-discrete}
 use lib.Dec.{eqb}
-use lib.ListN.{length, getD, take, drop, set, replicate, length-set}
-use lib.Seq.{drop-drop, take-nil, drop-nil, getD-set-same, getD-set-other}
+use lib.ListN.{length, getD, length-set}
+use lib.Seq.{getD-set-same, getD-set-other}
 use borrow.Author.Count.{below-more}
-use borrow.Author.Tests.{eqb-true, eqb-false, eq-eqb, ne-eqb}
-use Rattle.model.specs.Lists.{someFrom}
-use Rattle.model.specs.Bytes.{le, same}
+use borrow.Author.Tests.{eqb-true, eq-eqb, ne-eqb}
+use Rattle.model.specs.Bytes.{same}
 use Rattle.model.specs.Image.{Tree, parent, name}
 use Rattle.model.specs.Records.{sibling, namesake, nameTaken}
-use Rattle.model.proofs.Reading.{le-take}
 use Rattle.model.proofs.Walks.{someFrom-end}
 use Rattle.model.proofs.Logic.{untrue, and-first, and-second, or-right}
-use Rattle.texts.specs.Texts.{textAt}
-use Rattle.texts.specs.Keys.{textSum, nameKey, keyAt, placeOf, markOf, marked, withKey, met, Seen}
+use Rattle.texts.specs.Keys.{nameKey, keyAt, placeOf, markOf, marked, withKey, met, Seen}
 use Rattle.texts.proofs.Laws.{some-from}
-
--- a number within the first n bytes
-le-within : (k w n : ℕ) (s : List ℕ) → k + w ≤ n → le w (drop k (take n s)) ≡ le w (drop k s)
-le-within zero w n s h = le-take w n s (omega arith)
-le-within (suc k) w zero s h = absurd (omega arith)
-le-within (suc k) w (suc n) [] h = refl
-le-within (suc k) w (suc n) (x ∷ s) h = le-within k w n s (omega arith)
-
--- word k of a text, read in place
-pub word-of : (b : List ℕ) (at k : ℕ) → k + 8 ≤ 32 → le 8 (drop k (textAt b at)) ≡ le 8 (drop (at + k) b)
-word-of b at k h = le-within k 8 32 (drop at b) h ∙ ap (le 8) (drop-drop k at b)
 
 pub key-small : (t : Tree) (i : ℕ) → keyAt t i < 4194304
 unfolding keyAt nameKey

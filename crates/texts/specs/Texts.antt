@@ -3,8 +3,8 @@ use Prim.Native.Nat.{ℕ}
 use mathlib.Core.Bool.{Bool, cond, not, _&&_}
 use mathlib.Core.List.{List}
 use lib.Dec.{eqb, leb}
-use lib.ListN.{getD, take, drop}
-use Rattle.model.specs.Lists.{seekFrom, among}
+use lib.ListN.{take, drop}
+use Rattle.model.specs.Lists.{among}
 use Rattle.model.specs.Records.{printable}
 
 -- the text that starts at a byte offset
@@ -22,11 +22,3 @@ badByte barred x = cond (textByte barred x) 0 1
 -- all bytes of a text
 abbrev pub textBytes : ℕ → List ℕ → Bool
 textBytes barred s = printable s && not (among barred s)
-
--- two texts differ at index k
-unfoldable pub differAt : List ℕ → List ℕ → ℕ → Bool
-differAt x y k = not (eqb (getD x k 0) (getD y k 0))
-
--- the first index at which two texts differ; 32 where they are the same
-unfoldable pub firstDifference : List ℕ → List ℕ → ℕ
-firstDifference x y = seekFrom (differAt x y) 32 0

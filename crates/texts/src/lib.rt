@@ -4,11 +4,12 @@ ghost use mathlib.Core.Bool.{true, not, _&&_};
 ghost use Prim.Native.Nat.{_+_, _*_, _≤_, _<_};
 ghost use lib.ListN.{length};
 ghost use Rattle.model.specs.Lists.{among};
+ghost use Rattle.model.specs.Bytes.{same};
 ghost use Rattle.model.specs.Image.{treeOf, nodeCount, name, label, parent};
 ghost use Rattle.model.specs.Records.{nameLawful, labelLawful, namesake, nameTaken, parentLawful};
 ghost use Rattle.model.specs.Bounds.{Laid};
 ghost use Rattle.model.specs.Given.{RecordsTo};
-ghost use Rattle.texts.specs.Texts.{textAt, textByte, badByte, textBytes, firstDifference};
+ghost use Rattle.texts.specs.Texts.{textAt, textByte, badByte, textBytes};
 ghost use Rattle.texts.specs.Keys.{keyAt, Seen};
 
 mod keys; // keys.rt: keys of names, and a filter of those met
@@ -82,19 +83,19 @@ pub fn label_lawful(image: &[u8], i: usize) -> bool
     is_text(image, Record::at(i) + Record::LABEL, 0)
 }
 
-// The first index at which the texts from p and from q differ; 32 where they are the same.
-pub fn first_difference(image: &[u8], p: usize, q: usize) -> usize
+// Whether the texts from p and from q are the same. It leaves off at the first word that differs.
+fn same_texts(image: &[u8], p: usize, q: usize) -> bool
     requires { ⌜ (p + 32 ≤ length (now image)) × (q + 32 ≤ length (now image)) ⌝ }
-    ensures { λ r. ⌜ r ≡ firstDifference (textAt (now (image .entry)) p) (textAt (now (image .entry)) q) ⌝ }
+    ensures { λ r. ⌜ r ≡ same (textAt (now (image .entry)) p) (textAt (now (image .entry)) q) ⌝ }
 {
-    let mut k: usize = 0;
-    while k < 32 {
-        if words::byte_at(image, p + k) != words::byte_at(image, q + k) {
-            return k;
+    let mut j: usize = 0;
+    while j < 4 {
+        if words::u64_at(image, p + 8 * j) != words::u64_at(image, q + 8 * j) {
+            return false;
         }
-        k += 1;
+        j += 1;
     }
-    32
+    true
 }
 
 // Whether node j has the parent `up` of node i, and its name.
@@ -106,12 +107,11 @@ fn is_namesake(image: &[u8], i: usize, up: usize, j: usize) -> bool
     if records::parent_of(image, j) != up {
         return false;
     }
-    first_difference(
+    same_texts(
         image,
         Record::at(j) + Record::NAME,
         Record::at(i) + Record::NAME,
     )
-        == Record::TEXT_SIZE
 }
 
 // Rule 11: whether an earlier sibling of node i has its name. It would have the key too, so most nodes need no search. Siblings

@@ -1,4 +1,3 @@
-use native.Mathlib.Omega.{arith}
 use borrow.Author.Needs.{needs}
 use Rattle.texts.specs.Keys.{withKey}
 use Rattle.texts.proofs.keys.add_key.Statement.{statement}

@@ -4,7 +4,7 @@ use lib.ListN.{drop}
 use borrow.Author.Needs.{needs}
 use Rattle.model.proofs.Reading.{le-take}
 use Rattle.texts.specs.Keys.{textSum}
-use Rattle.texts.proofs.Filter.{word-of}
+use Rattle.texts.proofs.Laws.{word-of}
 use Rattle.texts.proofs.keys.text_sum.Statement.{statement}
 use Rattle.texts.proofs.keys.text_sum.Tie as tie
 
