@@ -8,7 +8,7 @@ ghost use Rattle.texts.specs.Texts.{textAt};
 ghost use Rattle.texts.specs.Keys.{textSum, keyAt, marked, met, withKey};
 use records::Record;
 
-// Keys are below this prime.
+// Keys are below this prime. It and the factors of the words spread names that share most of their bytes; no answer depends on them.
 const KEYS: u64 = 4100011;
 
 // So many keys share a place of the filter.
