@@ -9,6 +9,7 @@ ghost use Rattle.model.specs.Records.{parentLawful, recordCheckAt, recordCheck,
 ghost use Rattle.model.specs.Bounds.{Laid};
 ghost use Rattle.model.specs.Given.{RecordsTo};
 ghost use Rattle.model.specs.Answers.{stageTells};
+ghost use Rattle.texts.specs.Keys.{keyAt, Seen};
 ghost use Rattle.table.specs.Groups.{placeRules, textRules, typeRules, sizeRules};
 ghost use Rattle.table.specs.Sums.{Sums};
 use super::reject;
@@ -32,9 +33,10 @@ fn place_stage(image: &[u8], i: usize) -> Stage
     Stage::Pass
 }
 
-// Rules 9 to 11 at node i.
-fn text_stage(image: &[u8], i: usize) -> Stage
+// Rules 9 to 11 at node i, with its key and the keys of the nodes before it.
+fn text_stage(image: &[u8], i: usize, key: usize, seen: &[u8]) -> Stage
     requires { ⌜ RecordsTo (now image) i × (parentLawful (treeOf (now image)) i ≡ true) ⌝ }
+    requires { ⌜ (key ≡ keyAt (treeOf (now image)) i) × Seen (treeOf (now image)) i (now seen) ⌝ }
     ensures { λ r. ⌜ stageTells r ≡ check i (textRules (treeOf (now (image .entry))) i) ⌝ }
 {
     if !texts::name_lawful(image, i) {
@@ -43,7 +45,7 @@ fn text_stage(image: &[u8], i: usize) -> Stage
     if !texts::label_lawful(image, i) {
         return reject(10, i);
     }
-    if texts::name_taken(image, i) {
+    if texts::name_taken(image, i, key, seen) {
         return reject(11, i);
     }
     Stage::Pass
@@ -95,16 +97,17 @@ fn size_stage(image: &[u8], i: usize, words: u64, bytes: u64) -> Stage
     Stage::Pass
 }
 
-// Rules 7 to 17 at node i.
-fn record_stage(image: &[u8], i: usize, words: u64, bytes: u64) -> Stage
+// Rules 7 to 17 at node i, with its key, and the words, the bytes and the keys of the nodes before it.
+fn record_stage(image: &[u8], i: usize, words: u64, bytes: u64, key: usize, seen: &[u8]) -> Stage
     requires { ⌜ RecordsTo (now image) i × Sums (now image) i words bytes ⌝ }
+    requires { ⌜ (key ≡ keyAt (treeOf (now image)) i) × Seen (treeOf (now image)) i (now seen) ⌝ }
     ensures { λ r. ⌜ stageTells r ≡ recordCheckAt (treeOf (now (image .entry))) i ⌝ }
 {
     let place = place_stage(image, i);
     let Stage::Pass = place else {
         return place;
     };
-    let text = text_stage(image, i);
+    let text = text_stage(image, i, key, seen);
     let Stage::Pass = text else {
         return text;
     };
@@ -137,14 +140,17 @@ pub fn records_stage(image: &[u8]) -> Stage
     let mut i: usize = 0;
     let mut words: u64 = 0;
     let mut bytes: u64 = 0;
+    let mut seen: [u8; 32768] = [0; 32768];
     while i < n {
-        let s = record_stage(image, i, words, bytes);
+        let key = texts::name_key(image, i);
+        let s = record_stage(image, i, words, bytes, key, &seen);
         let Stage::Pass = s else {
             return s;
         };
         let r = Record::read(image, i);
         words += r.rank;
         bytes += r.data_size;
+        texts::add_key(&mut seen, key);
         i += 1;
     }
     if !sums_match(words, dimensions, bytes, area) {

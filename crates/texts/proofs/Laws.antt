@@ -1,20 +1,22 @@
 -- Texts byte by byte, as loops over their bytes meet them.
-use Prim.Native.Nat.{ℕ, zero, suc, _+_, _-_, _≤_, _<_}
-use mathlib.Core.Path.{_≡_, refl, sym, ap, subst, _∙_}
+use Prim.Native.Nat.{ℕ, zero, suc, _+_, _*_, _-_, _≤_, _<_}
+use mathlib.Core.Path.{_≡_, refl, sym, ap, _∙_}
 use mathlib.Core.Bool.{Bool, true, false, cond, not, _&&_, _||_}
 use mathlib.Core.List.{List, [], _∷_}
 use native.Mathlib.Omega.{arith}
+use native.Mathlib.Nat.{add-zero}
 use native.Mathlib.Numerals.{add-one}
 use lib.Dec.{eqb, leb}
 use lib.ListN.{length, getD, take, drop, length-drop, drop-of-length-le}
-use lib.Seq.{drop-cons, drop-length, length-take-le, getD-take, getD-drop}
-use borrow.Author.Tests.{eq-eqb, ne-eqb, leb-true}
-use Rattle.model.specs.Lists.{among, someFrom, seekFrom}
-use Rattle.model.specs.Bytes.{same}
+use lib.Seq.{drop-drop, drop-cons, length-take-le, getD-take, getD-drop}
+use borrow.Author.Tests.{eqb-true, eqb-false, eq-eqb, ne-eqb, leb-true}
+use Rattle.model.specs.Lists.{among, someFrom}
+use Rattle.model.specs.Bytes.{le, same}
 use Rattle.model.specs.Records.{printable, labelLawful}
-use Rattle.model.proofs.Walks.{someFrom-step, seekFrom-step}
+use Rattle.model.proofs.Reading.{le-take}
+use Rattle.model.proofs.Walks.{someFrom-step}
 use Rattle.model.proofs.Logic.{untrue, and-first}
-use Rattle.texts.specs.Texts.{textAt, textByte, textBytes, differAt, firstDifference}
+use Rattle.texts.specs.Texts.{textAt, textByte, badByte, textBytes}
 
 module _ (b : List ℕ) (at : ℕ) (h : at + 32 ≤ length b) where
   pub text-length : length (textAt b at) ≡ 32
@@ -33,17 +35,20 @@ regroup true p false m = refl
 regroup true false true m = refl
 regroup true true true m = refl
 
+-- a byte that may not stand is counted
+counted : (n : ℕ) (t r : Bool) → (eqb (n + cond t 0 1) 0 && r) ≡ (eqb n 0 && (t && r))
+counted n true r = rw (add-zero n)
+counted n false r = rw (ne-eqb (n + 1) 0 (λ (z : n + 1 ≡ 0). absurd (omega arith))) (sym (and-false (eqb n 0)))
+  where
+    and-false : (a : Bool) → (a && false) ≡ false
+    and-false true = refl
+    and-false false = refl
+
 -- a text's bytes from index k on
 module _ (z : ℕ) (s : List ℕ) (k : ℕ) (h : k < length s) where
   bytes-step : textBytes z (drop k s) ≡ (textByte z (getD s k 0) && textBytes z (drop (k + 1) s))
   unfolding printable among
   bytes-step = rw (add-one k, drop-cons s k 0 h) (regroup (leb 32 (getD s k 0) && leb (getD s k 0) 126) (printable (drop (suc k) s)) (eqb z (getD s k 0)) (among z (drop (suc k) s)))
-
-  bytes-on : textByte z (getD s k 0) ≡ true → textBytes z (drop (k + 1) s) ≡ textBytes z (drop k s)
-  bytes-on e = rw (bytes-step, e)
-
-  bytes-off : textByte z (getD s k 0) ≡ false → textBytes z (drop k s) ≡ false
-  bytes-off e = rw (bytes-step, e)
 
 -- byte k of a text was read as x
 module _ (b : List ℕ) (at : ℕ) (h : at + 32 ≤ length b) (k : ℕ) (l : k < 32) {x : ℕ} (e : x ≡ getD b (at + k) 0) where
@@ -53,15 +58,17 @@ module _ (b : List ℕ) (at : ℕ) (h : at + 32 ≤ length b) (k : ℕ) (l : k <
   below : k < length (textAt b at)
   below = rw (text-length b at h) l
 
-  pub byte-on : (z : ℕ) → textByte z x ≡ true → textBytes z (drop (k + 1) (textAt b at)) ≡ textBytes z (drop k (textAt b at))
-  byte-on z f = bytes-on z (textAt b at) k below (ap (textByte z) byte-is ∙ f)
+  -- n bytes before k may not stand
+  pub byte-on : (z n : ℕ) → (eqb (n + badByte z x) 0 && textBytes z (drop (k + 1) (textAt b at))) ≡ (eqb n 0 && textBytes z (drop k (textAt b at)))
+  byte-on z n = rw (bytes-step z (textAt b at) k below, byte-is) (counted n (textByte z x) (textBytes z (drop (k + 1) (textAt b at))))
 
-  pub byte-off : (z : ℕ) → textByte z x ≡ false → textBytes z (drop k (textAt b at)) ≡ false
-  byte-off z f = bytes-off z (textAt b at) k below (ap (textByte z) byte-is ∙ f)
+and-true : (a : Bool) → (a && true) ≡ a
+and-true true = refl
+and-true false = refl
 
-pub bytes-end : (z : ℕ) (b : List ℕ) (at : ℕ) → at + 32 ≤ length b → (k : ℕ) → 32 ≤ k → textBytes z (drop k (textAt b at)) ≡ true
+pub bytes-end : (z : ℕ) (b : List ℕ) (at : ℕ) → at + 32 ≤ length b → (k : ℕ) → 32 ≤ k → (ok : Bool) → (ok && textBytes z (drop k (textAt b at))) ≡ ok
 unfolding printable among
-bytes-end z b at h k l = rw (drop-of-length-le (textAt b at) {i = k} (rw (text-length b at h) l))
+bytes-end z b at h k l ok = rw (drop-of-length-le (textAt b at) {i = k} (rw (text-length b at h) l)) (and-true ok)
 
 -- the first byte decides, or the others do
 module _ (z : ℕ) (s : List ℕ) where
@@ -99,48 +106,82 @@ no-zero-barred s = by-test (printable s) refl
   where
     by-test : (t : Bool) → printable s ≡ t → (t && not (eqb (getD s 0 32) 32) && not (among 0 s)) ≡ (t && not (eqb (getD s 0 32) 32))
     by-test false e = refl
-    by-test true e = rw (no-zero s e) (last (not (eqb (getD s 0 32) 32)))
-      where
-        last : (t : Bool) → (t && true) ≡ t
-        last true = refl
-        last false = refl
+    by-test true e = rw (no-zero s e) (and-true (not (eqb (getD s 0 32) 32)))
 
--- two texts are the same where they differ nowhere
-same-from : (k i : ℕ) (x y : List ℕ) → i + k ≡ length x → i + k ≡ length y → same (drop i x) (drop i y) ≡ eqb (seekFrom (differAt x y) k i) (i + k)
-unfolding seekFrom same differAt
-same-from zero i x y e f =
-    rw (drop-of-length-le x {i = i} (omega arith), drop-of-length-le y {i = i} (omega arith), eq-eqb i (i + 0) (omega arith))
-same-from (suc k) i x y e f =
-    rw (drop-cons x i 0 (omega arith), drop-cons y i 0 (omega arith)) (by-test (eqb (getD x i 0) (getD y i 0)) refl (same-from k (suc i) x y (omega arith) (omega arith)))
+-- all of them are bytes
+abbrev Bytes : List ℕ → Type 0
+Bytes s = (i : ℕ) → getD s i 0 < 256
+
+byte-pair : (x y m n : ℕ) → x < 256 → y < 256 → eqb (x + 256 * m) (y + 256 * n) ≡ (eqb x y && eqb m n)
+byte-pair x y m n h l = by-test (eqb x y) (eqb m n) refl refl
   where
-    by-test : (t : Bool) → eqb (getD x i 0) (getD y i 0) ≡ t
-        → same (drop (suc i) x) (drop (suc i) y) ≡ eqb (seekFrom (differAt x y) k (suc i)) (suc i + k)
-        → (t && same (drop (suc i) x) (drop (suc i) y)) ≡ eqb (cond (differAt x y i) i (seekFrom (differAt x y) k (suc i))) (i + suc k)
-    by-test true q r = let g : suc i + k ≡ i + suc k = omega arith in rw q (rw g at r)
-    by-test false q r = rw q (sym (ne-eqb i (i + suc k) (λ (z : i ≡ i + suc k). absurd (omega arith))))
+    by-test : (a b : Bool) → eqb x y ≡ a → eqb m n ≡ b → eqb (x + 256 * m) (y + 256 * n) ≡ (a && b)
+    by-test true true e f = let p = eqb-true x y e in let q = eqb-true m n f in eq-eqb (x + 256 * m) (y + 256 * n) (omega arith)
+    by-test true false e f = let p = eqb-true x y e in let q = eqb-false m n f in ne-eqb (x + 256 * m) (y + 256 * n) (λ (z : x + 256 * m ≡ y + 256 * n). q (omega arith))
+    by-test false b e f = let q = eqb-false x y e in ne-eqb (x + 256 * m) (y + 256 * n) (λ (z : x + 256 * m ≡ y + 256 * n). q (omega arith))
 
-pub same-by : (x y : List ℕ) → length x ≡ 32 → length y ≡ 32 → eqb (firstDifference x y) 32 ≡ same x y
-unfolding firstDifference
-same-by x y e f = sym (same-from 32 0 x y (sym e) (sym f))
+and-assoc : (a b c : Bool) → ((a && b) && c) ≡ (a && (b && c))
+and-assoc true b c = refl
+and-assoc false b c = refl
 
--- byte k of two texts was read as x and as y
-module _ (b : List ℕ) (p q : ℕ) (h : p + 32 ≤ length b) (m : q + 32 ≤ length b) (k : ℕ) (l : k < 32) {x y : ℕ} (e : x ≡ getD b (p + k) 0) (f : y ≡ getD b (q + k) 0) where
-  pub differs : (x ≡ y → ⊥) → differAt (textAt b p) (textAt b q) k ≡ true
-  unfolding differAt
-  differs n = rw (text-byte b p h k l, text-byte b q m k l, ← e, ← f, ne-eqb x y n)
+-- two lists of bytes are the same where their first words are, and what comes after them
+same-word : (w : ℕ) (s t : List ℕ) → w ≤ length s → w ≤ length t → Bytes s → Bytes t → same s t ≡ (eqb (le w s) (le w t) && same (drop w s) (drop w t))
+unfolding same le
+same-word zero s t h l a b = refl
+same-word (suc w) [] t h l a b = absurd (omega arith)
+same-word (suc w) (x ∷ s) [] h l a b = absurd (omega arith)
+same-word (suc w) (x ∷ s) (y ∷ t) h l a b =
+    rw (byte-pair x y (le w s) (le w t) (a 0) (b 0), and-assoc (eqb x y) (eqb (le w s) (le w t)) (same (drop w s) (drop w t)))
+    (ap (λ (r : Bool). eqb x y && r) (same-word w s t (omega arith) (omega arith) (λ i. a (suc i)) (λ i. b (suc i))))
 
-  pub agrees : x ≡ y → differAt (textAt b p) (textAt b q) k ≡ false
-  unfolding differAt
-  agrees n = rw (text-byte b p h k l, text-byte b q m k l, ← e, ← f, eq-eqb x y n)
+bytes-take : (n : ℕ) (s : List ℕ) → Bytes s → Bytes (take n s)
+bytes-take zero s b i = omega arith
+bytes-take (suc n) [] b i = omega arith
+bytes-take (suc n) (x ∷ s) b zero = b 0
+bytes-take (suc n) (x ∷ s) b (suc i) = bytes-take n s (λ j. b (suc j)) i
+
+bytes-drop : (n : ℕ) (s : List ℕ) → Bytes s → Bytes (drop n s)
+bytes-drop n s b i = rw getD-drop (b (n + i))
+
+-- a number within the first n bytes
+le-within : (k w n : ℕ) (s : List ℕ) → k + w ≤ n → le w (drop k (take n s)) ≡ le w (drop k s)
+le-within zero w n s h = le-take w n s (omega arith)
+le-within (suc k) w zero s h = absurd (omega arith)
+le-within (suc k) w (suc n) [] h = refl
+le-within (suc k) w (suc n) (x ∷ s) h = le-within k w n s (omega arith)
+
+-- the word at byte k of a text, read in place
+pub word-of : (b : List ℕ) (at k : ℕ) → k + 8 ≤ 32 → le 8 (drop k (textAt b at)) ≡ le 8 (drop (at + k) b)
+word-of b at k h = le-within k 8 32 (drop at b) h ∙ ap (le 8) (drop-drop k at b)
+
+-- two texts from word j on
+module _ (b : List ℕ) (p q : ℕ) (h : p + 32 ≤ length b) (m : q + 32 ≤ length b) where
+  pub same-end : (j : ℕ) → 4 ≤ j → same (drop (8 * j) (textAt b p)) (drop (8 * j) (textAt b q)) ≡ true
+  unfolding same
+  same-end j l =
+      rw (drop-of-length-le (textAt b p) {i = 8 * j} (rw (text-length b p h) (omega arith)), drop-of-length-le (textAt b q) {i = 8 * j} (rw (text-length b q m) (omega arith)))
+
+  module _ (f : Bytes b) (j : ℕ) (l : j < 4) where
+    word-step : same (drop (8 * j) (textAt b p)) (drop (8 * j) (textAt b q))
+        ≡ (eqb (le 8 (drop (p + 8 * j) b)) (le 8 (drop (q + 8 * j) b)) && same (drop (8 * (j + 1)) (textAt b p)) (drop (8 * (j + 1)) (textAt b q)))
+    word-step =
+        let s = drop (8 * j) (textAt b p) in
+        let t = drop (8 * j) (textAt b q) in
+        let e : 8 * j + 8 ≡ 8 * (j + 1) = omega arith in
+        let x : 8 ≤ length s = rw (length-drop, text-length b p h) (omega arith) in
+        let y : 8 ≤ length t = rw (length-drop, text-length b q m) (omega arith) in
+        same-word 8 s t x y (bytes-drop (8 * j) (textAt b p) (bytes-take 32 (drop p b) (bytes-drop p b f))) (bytes-drop (8 * j) (textAt b q) (bytes-take 32 (drop q b) (bytes-drop q b f)))
+        ∙ rw (word-of b p (8 * j) (omega arith), word-of b q (8 * j) (omega arith), drop-drop 8 (8 * j) (textAt b p), drop-drop 8 (8 * j) (textAt b q), e)
+
+    pub words-on : le 8 (drop (p + 8 * j) b) ≡ le 8 (drop (q + 8 * j) b)
+        → same (drop (8 * (j + 1)) (textAt b p)) (drop (8 * (j + 1)) (textAt b q)) ≡ same (drop (8 * j) (textAt b p)) (drop (8 * j) (textAt b q))
+    words-on e = rw (word-step, eq-eqb _ _ e)
+
+    pub words-off : (le 8 (drop (p + 8 * j) b) ≡ le 8 (drop (q + 8 * j) b) → ⊥) → same (drop (8 * j) (textAt b p)) (drop (8 * j) (textAt b q)) ≡ false
+    words-off n = rw (word-step, ne-eqb _ _ n)
 
 -- a search that ends at i, one that goes on, one that is at its end
 module _ (p : ℕ → Bool) (n i : ℕ) where
-  pub seek-here : i < n → p i ≡ true → seekFrom p (n - i) i ≡ i
-  seek-here h e = rw e at (seekFrom-step p n i h)
-
-  pub seek-on : i < n → p i ≡ false → seekFrom p (n - (i + 1)) (i + 1) ≡ seekFrom p (n - i) i
-  seek-on h e = sym (rw e at (seekFrom-step p n i h))
-
   pub some-here : i < n → p i ≡ true → someFrom p (n - i) i ≡ true
   some-here h e = rw e at (someFrom-step p n i h)
 

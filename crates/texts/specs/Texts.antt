@@ -1,10 +1,10 @@
 -- Texts of 32 bytes in an image, byte by byte.
 use Prim.Native.Nat.{ℕ}
-use mathlib.Core.Bool.{Bool, not, _&&_}
+use mathlib.Core.Bool.{Bool, cond, not, _&&_}
 use mathlib.Core.List.{List}
 use lib.Dec.{eqb, leb}
-use lib.ListN.{getD, take, drop}
-use Rattle.model.specs.Lists.{seekFrom, among}
+use lib.ListN.{take, drop}
+use Rattle.model.specs.Lists.{among}
 use Rattle.model.specs.Records.{printable}
 
 -- the text that starts at a byte offset
@@ -15,14 +15,10 @@ textAt b at = take 32 (drop at b)
 abbrev pub textByte : ℕ → ℕ → Bool
 textByte barred x = leb 32 x && leb x 126 && not (eqb barred x)
 
+-- 0 where it is one, 1 where it is not
+abbrev pub badByte : ℕ → ℕ → ℕ
+badByte barred x = cond (textByte barred x) 0 1
+
 -- all bytes of a text
 abbrev pub textBytes : ℕ → List ℕ → Bool
 textBytes barred s = printable s && not (among barred s)
-
--- two texts differ at index k
-unfoldable pub differAt : List ℕ → List ℕ → ℕ → Bool
-differAt x y k = not (eqb (getD x k 0) (getD y k 0))
-
--- the first index at which two texts differ; 32 where they are the same
-unfoldable pub firstDifference : List ℕ → List ℕ → ℕ
-firstDifference x y = seekFrom (differAt x y) 32 0

@@ -4,19 +4,26 @@ ghost use mathlib.Core.Bool.{true, not, _&&_};
 ghost use Prim.Native.Nat.{_+_, _*_, _≤_, _<_};
 ghost use lib.ListN.{length};
 ghost use Rattle.model.specs.Lists.{among};
+ghost use Rattle.model.specs.Bytes.{same};
 ghost use Rattle.model.specs.Image.{treeOf, nodeCount, name, label, parent};
 ghost use Rattle.model.specs.Records.{nameLawful, labelLawful, namesake, nameTaken, parentLawful};
 ghost use Rattle.model.specs.Bounds.{Laid};
 ghost use Rattle.model.specs.Given.{RecordsTo};
-ghost use Rattle.texts.specs.Texts.{textAt, textByte, textBytes, firstDifference};
+ghost use Rattle.texts.specs.Texts.{textAt, textByte, badByte, textBytes};
+ghost use Rattle.texts.specs.Keys.{keyAt, Seen};
+
+mod keys; // keys.rt: keys of names, and a filter of those met
+
+pub use keys::add_key;
+pub use keys::name_key;
 use records::Record;
 
-const BLANK: u64 = 32;
+const BLANK: u8 = 32;
 
-const SLASH: u64 = 47;
+const SLASH: u8 = 47;
 
 // Whether a byte may stand in a text that bars one byte.
-fn is_text_byte(x: u64, barred: u64) -> bool
+fn is_text_byte(x: u8, barred: u8) -> bool
     ensures { λ r. ⌜ r ≡ textByte barred x ⌝ }
 {
     if x < 32 {
@@ -28,27 +35,33 @@ fn is_text_byte(x: u64, barred: u64) -> bool
     barred != x
 }
 
-// Whether all 32 bytes from `at` may.
-fn all_text_bytes(image: &[u8], at: usize, barred: u64) -> bool
+// 0 for a byte that may, 1 for one that may not.
+fn bad(x: u8, barred: u8) -> u8
+    ensures { λ r. ⌜ (r ≡ badByte barred x) × (r ≤ 1) ⌝ }
+{
+    if is_text_byte(x, barred) { 0 } else { 1 }
+}
+
+// Whether all 32 bytes from `at` may. It counts those that may not: a loop with no way out of it.
+fn all_text_bytes(image: &[u8], at: usize, barred: u8) -> bool
     requires { ⌜ at + 32 ≤ length (now image) ⌝ }
     ensures { λ r. ⌜ r ≡ textBytes barred (textAt (now (image .entry)) at) ⌝ }
 {
+    let mut n: u8 = 0;
     let mut k: usize = 0;
     while k < 32 {
-        if !is_text_byte(words::byte_at(image, at + k), barred) {
-            return false;
-        }
+        n += bad(image[at + k], barred);
         k += 1;
     }
-    true
+    n == 0
 }
 
 // Whether the 32 bytes from `at` are a lawful text without the barred byte.
-fn is_text(image: &[u8], at: usize, barred: u64) -> bool
+fn is_text(image: &[u8], at: usize, barred: u8) -> bool
     requires { ⌜ at + 32 ≤ length (now image) ⌝ }
     ensures { λ r. ⌜ r ≡ (labelLawful (textAt (now (image .entry)) at) && not (among barred (textAt (now (image .entry)) at))) ⌝ }
 {
-    if words::byte_at(image, at) == BLANK {
+    if image[at] == BLANK {
         return false;
     }
     all_text_bytes(image, at, barred)
@@ -70,19 +83,19 @@ pub fn label_lawful(image: &[u8], i: usize) -> bool
     is_text(image, Record::at(i) + Record::LABEL, 0)
 }
 
-// The first index at which the texts from p and from q differ; 32 where they are the same.
-pub fn first_difference(image: &[u8], p: usize, q: usize) -> usize
+// Whether the texts from p and from q are the same. It leaves off at the first word that differs.
+fn same_texts(image: &[u8], p: usize, q: usize) -> bool
     requires { ⌜ (p + 32 ≤ length (now image)) × (q + 32 ≤ length (now image)) ⌝ }
-    ensures { λ r. ⌜ r ≡ firstDifference (textAt (now (image .entry)) p) (textAt (now (image .entry)) q) ⌝ }
+    ensures { λ r. ⌜ r ≡ same (textAt (now (image .entry)) p) (textAt (now (image .entry)) q) ⌝ }
 {
-    let mut k: usize = 0;
-    while k < 32 {
-        if words::byte_at(image, p + k) != words::byte_at(image, q + k) {
-            return k;
+    let mut j: usize = 0;
+    while j < 4 {
+        if words::u64_at(image, p + 8 * j) != words::u64_at(image, q + 8 * j) {
+            return false;
         }
-        k += 1;
+        j += 1;
     }
-    32
+    true
 }
 
 // Whether node j has the parent `up` of node i, and its name.
@@ -94,20 +107,24 @@ fn is_namesake(image: &[u8], i: usize, up: usize, j: usize) -> bool
     if records::parent_of(image, j) != up {
         return false;
     }
-    first_difference(
+    same_texts(
         image,
         Record::at(j) + Record::NAME,
         Record::at(i) + Record::NAME,
     )
-        == Record::TEXT_SIZE
 }
 
-// Rule 11: whether an earlier sibling of node i has its name. Siblings stand after the parent, so the search starts there.
-pub fn name_taken(image: &[u8], i: usize) -> bool
+// Rule 11: whether an earlier sibling of node i has its name. It would have the key too, so most nodes need no search. Siblings
+// stand after the parent, so the search starts there.
+pub fn name_taken(image: &[u8], i: usize, key: usize, seen: &[u8]) -> bool
     requires { ⌜ RecordsTo (now image) i × (parentLawful (treeOf (now image)) i ≡ true) ⌝ }
+    requires { ⌜ (key ≡ keyAt (treeOf (now image)) i) × Seen (treeOf (now image)) i (now seen) ⌝ }
     ensures { λ r. ⌜ r ≡ nameTaken (treeOf (now (image .entry))) i ⌝ }
 {
     if i == 0 {
+        return false;
+    }
+    if !keys::is_met(seen, key) {
         return false;
     }
     let up = records::parent_of(image, i);

@@ -1,15 +1,12 @@
--- A sibling whose name differs nowhere.
+-- A sibling with the same name.
 use native.Mathlib.Omega.{arith}
 use Prim.Native.Nat.{_+_, _<_}
-use mathlib.Core.Path.{_≡_, sym, ap, _∙_}
-use lib.Dec.{eqb}
+use mathlib.Core.Path.{_≡_, sym, _∙_}
 use borrow.Author.Needs.{needs}
 use borrow.Author.Tests.{eq-eqb, ne-eqb}
 use Rattle.model.specs.Image.{nodeCount, recordAt, treeOf, parent}
 use Rattle.model.specs.Records.{sibling, namesake}
 use Rattle.model.proofs.Reading.{name-at}
-use Rattle.texts.specs.Texts.{textAt, firstDifference}
-use Rattle.texts.proofs.Laws.{same-by, text-length}
 use Rattle.texts.proofs.is_namesake.Statement.{statement}
 use Rattle.texts.proofs.is_namesake.Tie as tie
 
@@ -33,7 +30,7 @@ returns-2 c =
     let q : c .before .at2 .result + 0 ≡ recordAt (d .args .i) = omega arith in
     let s = sym (g .before .parent-of .ensures .0) ∙ g .if1 .left ∙ d .pre .1 .0 in
     rw (eq-eqb (parent t (d .args .j)) (parent t (d .args .i)) s, name-at b (d .args .j) k, name-at b (d .args .i) h)
-    (ap (λ n. eqb n 32) (rw (p, q) at (c .first-difference .ensures)) ∙ same-by (textAt b (recordAt (d .args .j))) (textAt b (recordAt (d .args .i))) (text-length b (recordAt (d .args .j)) (omega arith)) (text-length b (recordAt (d .args .i)) (omega arith)))
+    (rw (p, q) at (c .same-texts .ensures))
 
 pub is-namesake-spec : {M : Type 1} → statement M
 is-namesake-spec =

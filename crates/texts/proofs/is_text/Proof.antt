@@ -11,14 +11,14 @@ returns : tie.Need-returns
 returns c =
     let a = c .before .before .before .args in
     let f = text-first (a .image .now) (a .at) (omega arith) 32 in
-    sym (blank-first _ (textAt (a .image .now) (a .at)) (f ∙ sym (c .before .byte-at .ensures .0) ∙ c .if1 .taken))
+    sym (blank-first _ (textAt (a .image .now) (a .at)) (f ∙ c .if1 .taken))
 
 returns-2 : tie.Need-returns-2
 returns-2 c =
     let d = c .before in
     let a = d .before .before .before .args in
     let f = text-first (a .image .now) (a .at) (omega arith) 32 in
-    c .all-text-bytes .ensures ∙ sym (not-blank _ (textAt (a .image .now) (a .at)) (λ e. d .if1 .left (d .before .byte-at .ensures .0 ∙ sym f ∙ e)))
+    c .all-text-bytes .ensures ∙ sym (not-blank _ (textAt (a .image .now) (a .at)) (λ e. d .if1 .left (sym f ∙ e)))
 
 pub is-text-spec : {M : Type 1} → statement M
 is-text-spec = tie.close (tie.spec (search needs) returns (search needs) returns-2)

@@ -1,52 +1,62 @@
--- The siblings from j on decide; up to the parent there is none.
+-- A key that was not met has no earlier sibling. Else the siblings from j on decide; up to the parent there is none.
 use native.Mathlib.Omega.{arith}
 use Prim.Native.Nat.{_+_, _-_, _≤_, _<_}
-use mathlib.Core.Path.{_≡_, sym, ap, _∙_}
+use mathlib.Core.Path.{_≡_, sym, _∙_}
 use borrow.Author.Needs.{needs}
+use borrow.Author.Tests.{not-true}
 use Rattle.model.specs.Lists.{someFrom}
 use Rattle.model.specs.Image.{treeOf, parent}
 use Rattle.model.specs.Records.{namesake, nameTaken}
 use Rattle.model.proofs.Walks.{someFrom-end}
 use Rattle.model.proofs.Parents.{parent-lower, no-namesake, lawful-to}
 use Rattle.texts.proofs.Laws.{some-from, some-here, some-on}
+use Rattle.texts.proofs.Filter.{key-fits, not-taken}
 use Rattle.texts.proofs.name_taken.Statement.{statement}
 use Rattle.texts.proofs.name_taken.Tie as tie
 
 abbrev Inv-loop : tie.InvT-loop
-Inv-loop image i up j₀ j = (j ≤ i) × (someFrom (namesake (treeOf image) i) (i - j) j ≡ nameTaken (treeOf image) i)
+Inv-loop image i key seen up j₀ j = (j ≤ i) × (someFrom (namesake (treeOf image) i) (i - j) j ≡ nameTaken (treeOf image) i)
 
 abbrev μ-loop : tie.MeasureT-loop
-μ-loop image i up j₀ j = i - j
+μ-loop image i key seen up j₀ j = i - j
 
 returns : tie.Need-returns Inv-loop μ-loop
 unfolding nameTaken someFrom
 returns c = rw (c .if1 .taken)
 
-loop-holds : tie.Need-loop-holds Inv-loop μ-loop
-unfolding nameTaken
-loop-holds c =
-    let d = c .before .before .before in
-    let b = d .args .image .now in
-    let i = d .args .i in
-    let t = treeOf b in
-    let u : parent t i < i = parent-lower t i (d .pre .1) (c .before .if1 .left) in
-    let e = c .parent-of .ensures .0 in
-    (omega arith, some-from (namesake t i) i (c .parent-of .result + 1) (omega arith) (λ k l. no-namesake t i k (lawful-to b i (d .pre .0) (d .pre .1) k (omega arith)) (omega arith) (omega arith)))
+is-met-requires : tie.Need-is-met-requires Inv-loop μ-loop
+is-met-requires c κs = let p = c .before .before .before .pre .1 in (p .1 .room, key-fits (p .1) (p .0))
 
 returns-2 : tie.Need-returns-2 Inv-loop μ-loop
 returns-2 c =
+    let p = c .before .before .before .before .before .pre .1 in
+    sym (not-taken (p .1) (p .0) (sym (c .before .is-met .ensures) ∙ not-true _ (c .if2 .taken)))
+
+loop-holds : tie.Need-loop-holds Inv-loop μ-loop
+unfolding nameTaken
+loop-holds c =
+    let d = c .before .before .before .before .before .before in
+    let b = d .args .image .now in
+    let i = d .args .i in
+    let t = treeOf b in
+    let u : parent t i < i = parent-lower t i (d .pre .0 .1) (c .before .before .before .if1 .left) in
+    let e = c .parent-of .ensures .0 in
+    (omega arith, some-from (namesake t i) i (c .parent-of .result + 1) (omega arith) (λ k l. no-namesake t i k (lawful-to b i (d .pre .0 .0) (d .pre .0 .1) k (omega arith)) (omega arith) (omega arith)))
+
+returns-3 : tie.Need-returns-3 Inv-loop μ-loop
+returns-3 c =
     let l = c .before .before .before in
-    sym (some-here _ _ (l .loop .j) (omega arith) (sym (c .before .is-namesake .ensures) ∙ c .if2 .taken)) ∙ l .loop .inv .1
+    sym (some-here _ _ (l .loop .j) (omega arith) (sym (c .before .is-namesake .ensures) ∙ c .if3 .taken)) ∙ l .loop .inv .1
 
 loop-again : tie.Need-loop-again Inv-loop μ-loop
 loop-again c =
     let l = c .before .before .before in
-    (omega arith, some-on _ _ (l .loop .j) (omega arith) (sym (c .before .is-namesake .ensures) ∙ c .if2 .left) ∙ l .loop .inv .1)
+    (omega arith, some-on _ _ (l .loop .j) (omega arith) (sym (c .before .is-namesake .ensures) ∙ c .if3 .left) ∙ l .loop .inv .1)
 
-returns-3 : tie.Need-returns-3 Inv-loop μ-loop
-returns-3 c = sym (someFrom-end _ _ (c .before .loop .j) (omega arith)) ∙ c .before .loop .inv .1
+returns-4 : tie.Need-returns-4 Inv-loop μ-loop
+returns-4 c = sym (someFrom-end _ _ (c .before .loop .j) (omega arith)) ∙ c .before .loop .inv .1
 
 pub name-taken-spec : {M : Type 1} → statement M
 name-taken-spec =
-    tie.close (tie.spec Inv-loop μ-loop returns (search needs) (search needs) loop-holds (λ c κs. search needs) returns-2
-    (search needs) (search needs) loop-again returns-3)
+    tie.close (tie.spec Inv-loop μ-loop returns is-met-requires returns-2 (search needs) (search needs) loop-holds (λ c κs. search needs) returns-3
+    (search needs) (search needs) loop-again returns-4)

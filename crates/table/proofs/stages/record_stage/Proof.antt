@@ -12,7 +12,8 @@ returns c = stop (c .before .before .place-stage .ensures) _ (c .enum-told2 .giv
 
 text-stage-requires : tie.Need-text-stage-requires
 text-stage-requires c κs =
-    (c .before .before .before .before .pre .0, check-pass _ _ (passes (c .before .before .place-stage .ensures) (c .enum-told .given .1)) .0)
+    let p = c .before .before .before .before .before .pre in
+    ((p .0 .0, check-pass _ _ (passes (c .before .before .place-stage .ensures) (c .enum-told .given .1)) .0), p .1)
 
 returns-2 : tie.Need-returns-2
 returns-2 c =

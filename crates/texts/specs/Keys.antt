@@ -1,0 +1,48 @@
+-- Keys of names, and the filter of the keys met so far.
+use Prim.Native.Nat.{ℕ, _+_, _*_, _/_, _%_, _<_}
+use mathlib.Core.Path.{_≡_}
+use mathlib.Core.Bool.{Bool, true, cond, _||_}
+use mathlib.Core.List.{List}
+use lib.Dec.{eqb}
+use lib.ListN.{length, getD, drop, set}
+use Rattle.model.specs.Bytes.{le}
+use Rattle.model.specs.Image.{Tree, parent, name}
+
+-- the four words of a text, each by its factor
+unfoldable pub textSum : List ℕ → ℕ
+textSum s =
+    le 8 s % 4100011 * 1000003
+    + le 8 (drop 8 s) % 4100011 * 1500007
+    + le 8 (drop 16 s) % 4100011 * 2000003
+    + le 8 (drop 24 s) % 4100011 * 2500009
+
+-- the key of a name under a parent
+unfoldable pub nameKey : ℕ → List ℕ → ℕ
+nameKey up s = (textSum s + up * 3000017) % 4100011
+
+unfoldable pub keyAt : Tree → ℕ → ℕ
+keyAt t i = nameKey (parent t i) (name t i)
+
+-- a key's place in the filter, and its mark there
+abbrev pub placeOf : ℕ → ℕ
+placeOf key = key / 128
+
+abbrev pub markOf : ℕ → ℕ
+markOf key = key % 128 + 1
+
+-- what a place holds: 0 where nothing was marked, else the mark, or 255 where two marks differ
+abbrev pub marked : ℕ → ℕ → ℕ
+marked x m = cond (eqb x 0) m (cond (eqb x m) m 255)
+
+-- the filter with a key more
+unfoldable pub withKey : List ℕ → ℕ → List ℕ
+withKey seen key = set seen (placeOf key) (marked (getD seen (placeOf key) 0) (markOf key))
+
+-- the key may have been marked
+unfoldable pub met : List ℕ → ℕ → Bool
+met seen key = eqb (getD seen (placeOf key) 0) 255 || eqb (getD seen (placeOf key) 0) (markOf key)
+
+-- the keys of the nodes before i are marked
+pub record Seen (t : Tree) (i : ℕ) (seen : List ℕ) : Type 0 where
+  pub room : length seen ≡ 32768
+  pub keys : (j : ℕ) → j < i → met seen (keyAt t j) ≡ true

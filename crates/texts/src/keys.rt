@@ -1,0 +1,74 @@
+// Keys of names, and a filter of the keys met so far: it tells at once of most names that no earlier sibling has them.
+ghost use mathlib.Core.Path.{_≡_};
+ghost use Prim.Native.Nat.{_+_, _≤_, _<_};
+ghost use lib.ListN.{length};
+ghost use Rattle.model.specs.Image.{treeOf, nodeCount};
+ghost use Rattle.model.specs.Bounds.{Laid};
+ghost use Rattle.texts.specs.Texts.{textAt};
+ghost use Rattle.texts.specs.Keys.{textSum, keyAt, marked, met, withKey};
+use records::Record;
+
+// Keys are below this prime. It and the factors of the words spread names that share most of their bytes; no answer depends on them.
+const KEYS: u64 = 4100011;
+
+// So many keys share a place of the filter.
+const SHARE: usize = 128;
+
+// What a place holds where keys that differ were marked at it.
+const MANY: u8 = 255;
+
+// The four words of the text at `at`, each by its factor.
+fn text_sum(image: &[u8], at: usize) -> u64
+    requires { ⌜ at + 32 ≤ length (now image) ⌝ }
+    ensures { λ r. ⌜ (r ≡ textSum (textAt (now (image .entry)) at)) × (r ≤ 30000000000000) ⌝ }
+{
+    let a = words::u64_at(image, at) % KEYS;
+    let b = words::u64_at(image, at + 8) % KEYS;
+    let c = words::u64_at(image, at + 16) % KEYS;
+    let d = words::u64_at(image, at + 24) % KEYS;
+    a * 1000003 + b * 1500007 + c * 2000003 + d * 2500009
+}
+
+// The key of node i, a number from its name and its parent: siblings of one name have one key.
+pub fn name_key(image: &[u8], i: usize) -> usize
+    requires { ⌜ Laid (now image) × (i < nodeCount (now image)) ⌝ }
+    ensures { λ r. ⌜ r ≡ keyAt (treeOf (now (image .entry))) i ⌝ }
+{
+    let sum = text_sum(image, Record::at(i) + Record::NAME);
+    let up = records::parent_of(image, i) as u64;
+    ((sum + up * 3000017) % KEYS) as usize
+}
+
+// What a place holds after a mark, where it held x: the mark, or that there are many.
+fn joined(x: u8, mark: u8) -> u8
+    ensures { λ r. ⌜ r ≡ marked x mark ⌝ }
+{
+    if x == 0 {
+        return mark;
+    }
+    if x == mark {
+        return mark;
+    }
+    MANY
+}
+
+// Marks a key in the filter.
+pub fn add_key(seen: &mut [u8], key: usize)
+    requires { ⌜ (length (now seen) ≡ 32768) × (key < 4194304) ⌝ }
+    ensures { λ r. ⌜ now (seen .exit) ≡ withKey (now (seen .entry)) key ⌝ }
+{
+    let at = key / SHARE;
+    seen[at] = joined(seen[at], (key % SHARE + 1) as u8);
+}
+
+// Whether the key may have been marked. It answers true for each key that was.
+pub fn is_met(seen: &[u8], key: usize) -> bool
+    requires { ⌜ (length (now seen) ≡ 32768) × (key < 4194304) ⌝ }
+    ensures { λ r. ⌜ r ≡ met (now (seen .entry)) key ⌝ }
+{
+    let x = seen[key / SHARE];
+    if x == MANY {
+        return true;
+    }
+    x == (key % SHARE + 1) as u8
+}
