@@ -55,6 +55,7 @@ static void check_sections(const char *folder)
     gongaurora_section *faces = &sections[0], *cells = &sections[1];
     gongaurora_count found;
     gongaurora_corner read;
+    int64_t corners[4] = {9, 9, 9, 9};
     int k;
     load(folder, "tetrahedron.img");
     for (k = 0; k < 27; k++) ((uint64_t *)(void *)sections)[k] = 7;
@@ -80,6 +81,15 @@ static void check_sections(const char *folder)
     CHECK(read.rule == GONGAURORA_RULE_ELEMENT_NUMBER && read.number == 0);
     read = gongaurora_corner_of(image, 1700, faces, 4, 3);
     CHECK(read.rule == GONGAURORA_RULE_UNREADABLE && read.number == 0);
+    found = gongaurora_corners_of(image, length, faces, 5, corners, 4);
+    CHECK(found.rule == GONGAURORA_RULE_ELEMENT_NUMBER && found.node == 0 && found.count == 0 && corners[0] == 9);
+    found = gongaurora_corners_of(image, 1700, faces, 4, corners, 4);
+    CHECK(found.rule == GONGAURORA_RULE_UNREADABLE && found.count == 0 && corners[0] == 9);
+    found = gongaurora_corners_of(image, length, faces, 4, corners, 2);
+    CHECK(found.rule == GONGAURORA_RULE_ROOM && found.count == 0 && corners[0] == 9);
+    found = gongaurora_corners_of(image, length, faces, 4, corners, 4);
+    CHECK(found.rule == 0 && found.node == 0 && found.count == 3);
+    CHECK(corners[2] == 4 && corners[3] == 9);
     load(folder, "polyhedra.img");
     found = gongaurora_sections(image, length, 3, sections, 3);
     CHECK(found.rule == 0 && found.count == 3);

@@ -120,6 +120,26 @@ pub fn corner(image: &[u8], section: &[u64; ENTRY_LENGTH], element: u64, corner:
     read_signed(image, at, section.connectivity_width).ok_or(Rejection::of_call(43))
 }
 
+/// All corners of an element, from 1 on, to the front of `out`, and how many they are; or 41, 43, and 46 where `out` is too short.
+pub fn element_corners(
+    image: &[u8],
+    section: &[u64; ENTRY_LENGTH],
+    element: u64,
+    out: &mut [i64],
+) -> Result<usize, Rejection> {
+    let mut corners = Vec::new();
+    loop {
+        match corner(image, section, element, corners.len() as u64 + 1) {
+            Ok(number) => corners.push(number),
+            Err(Rejection { rule: 42, .. }) => break,
+            Err(rejection) => return Err(rejection),
+        }
+    }
+    let front = out.get_mut(..corners.len()).ok_or(Rejection::of_call(46))?;
+    front.copy_from_slice(&corners);
+    Ok(corners.len())
+}
+
 /// Where an element lies in the connectivity, counted from 0; start is below end, and end within the connectivity.
 struct Span {
     start: u128,

@@ -154,28 +154,53 @@ impl Comparison<'_> {
         }
     }
 
-    /// The library's answer, with the section's numbers at the end of their pages.
+    /// All corners of an element by a section's first numbers, with `room` numbers and `one` count lent. With fewer than nine
+    /// numbers or no room for the count 46 is answered and nothing is written.
+    pub fn corners(&mut self, section: &[u64], element: u64, room: usize, one: usize) {
+        let (image, lent) = (self.image, self.lent);
+        let (mut out, mut count) = (Guarded::<i64>::new(room), Guarded::<u64>::new(one));
+        let (mut out_after, mut count_after) = (out.items().to_vec(), count.items().to_vec());
+        let mut rule = 46;
+        if let (Ok(section), Some(first)) = (<&[u64; 9]>::try_from(section), count_after.first_mut()) {
+            let (told, corners) = expected::corners(image, section, element, &mut out_after);
+            rule = told;
+            *first = corners.unwrap_or(*first);
+        }
+        let (out_at, count_at) = (out.pointer(), count.pointer());
+        let told = self.with_section(7, section, |numbers, nine| {
+            // SAFETY: the image and the section can be read, both buffers can be written; they do not overlap.
+            unsafe { gongaurora_export_corners(lent, image.len(), numbers, nine, element, out_at, room, count_at, one) }
+        });
+        self.tally.call(7, Some(rule));
+        let intact = out.guards_intact() && count.guards_intact();
+        if told != rule || out.items() != out_after || count.items() != count_after || !intact {
+            let what = format!(
+                "({section:?}, element {element}; room {room}, {one}): rule {told}, {:?}, {:?} not {rule}, {out_after:?}, {count_after:?}; guards intact {intact}",
+                out.items(),
+                count.items(),
+            );
+            self.tally.difference(7, &what);
+        }
+    }
+
     fn call_corner(&mut self, section: &[u64], element: u64, corner: u64, out: &mut Guarded<i64>) -> u64 {
+        let (lent, length) = (self.lent, self.image.len());
+        self.with_section(2, section, |numbers, nine| {
+            // SAFETY: the image and the section can be read, the buffer can be written; they do not overlap.
+            unsafe { gongaurora_export_corner(lent, length, numbers, nine, element, corner, out.pointer(), out.room()) }
+        })
+    }
+
+    /// The library's answer to a call, with the section's numbers at the end of their pages.
+    fn with_section(&mut self, call: usize, section: &[u64], make: impl FnOnce(*const u64, usize) -> u64) -> u64 {
         let bytes: Vec<u8> = section.iter().flat_map(|number| number.to_ne_bytes()).collect();
         let numbers = self.sections.place(&bytes, true).cast::<u64>();
-        now_calling(2);
-        // SAFETY: the image and the section can be read, the buffer can be written; they do not overlap.
-        let told = unsafe {
-            gongaurora_export_corner(
-                self.lent,
-                self.image.len(),
-                numbers,
-                section.len(),
-                element,
-                corner,
-                out.pointer(),
-                out.room(),
-            )
-        };
+        now_calling(call);
+        let told = make(numbers, section.len());
         // SAFETY: the numbers were put there above.
         let kept = (0..section.len()).all(|k| unsafe { numbers.add(k).read() } == section[k]);
         if !kept {
-            self.tally.difference(2, "writes the section");
+            self.tally.difference(call, "writes the section");
         }
         told
     }

@@ -1,6 +1,8 @@
 //! The reference's answers as the numbers that the exports write.
 
-use reference::{array_value, data_size, face_usage, path_into, section_entries, validate, Rejection, Value};
+use reference::{
+    array_value, data_size, element_corners, face_usage, path_into, section_entries, validate, Rejection, Value,
+};
 
 /// The numbers of a refusal: rule, node, and 0 for all others.
 fn refusal<const N: usize>(rejection: Rejection) -> [u64; N] {
@@ -74,6 +76,14 @@ pub fn value(image: &[u8], node: u64, k: u64) -> [u64; 4] {
 pub fn corner(image: &[u8], section: &[u64; 9], element: u64, corner: u64) -> (u64, Option<i64>) {
     match reference::corner(image, section, element, corner) {
         Ok(number) => (0, Some(number)),
+        Err(rejection) => (u64::from(rejection.rule), None),
+    }
+}
+
+/// The rule and, where it is 0, how many corners went to the front of `out`.
+pub fn corners(image: &[u8], section: &[u64; 9], element: u64, out: &mut [i64]) -> (u64, Option<u64>) {
+    match element_corners(image, section, element, out) {
+        Ok(count) => (0, Some(count as u64)),
         Err(rejection) => (u64::from(rejection.rule), None),
     }
 }

@@ -26,6 +26,17 @@ extern "C" {
         number: *mut i64,
         one: usize,
     ) -> u64;
+    pub fn gongaurora_export_corners(
+        image: *const u8,
+        length: usize,
+        section: *const u64,
+        nine: usize,
+        element: u64,
+        out: *mut i64,
+        numbers: usize,
+        count: *mut u64,
+        one: usize,
+    ) -> u64;
     pub fn gongaurora_export_face_usage(
         image: *const u8,
         length: usize,
@@ -60,7 +71,8 @@ extern "C" {
 }
 
 /// The calls, by the places that the fault handler knows them by.
-pub const CALLS: [&str; 7] = ["validate", "sections", "corner", "face_usage", "path", "data_size", "array_value"];
+pub const CALLS: [&str; 8] =
+    ["validate", "sections", "corner", "face_usage", "path", "data_size", "array_value", "corners"];
 
 static SEED: AtomicU64 = AtomicU64::new(0);
 static FIXED: AtomicBool = AtomicBool::new(false);

@@ -185,20 +185,32 @@ impl Asker<'_, '_> {
                 let element = *self.random.pick(&[entry.first, entry.last, inside, other[2], other[3]]);
                 let corner = self.random.below(5);
                 self.comparison.corner(&other, element, corner, 1);
+                self.all_corners(&other, element);
                 let element = self.odd_number(element);
                 self.comparison.corner(&other, element, corner, 1);
+                self.all_corners(&other, element);
             }
             let few = self.random.index(9);
             self.comparison.corner_by_few(&numbers[..few], entry.first, 1);
             self.comparison.corner(&numbers, entry.first, 1, 0);
             self.comparison.corner(&numbers, entry.first, 1, 3);
+            self.comparison.corners(&numbers[..few], entry.first, 8, 1);
+            self.comparison.corners(&numbers, entry.first, 8, 0);
+            self.comparison.corners(&numbers, entry.first, 8, 3);
         }
+    }
+
+    /// All corners of an element: room for about as many as elements mostly have, or for all of any element asked about.
+    fn all_corners(&mut self, section: &[u64; 9], element: u64) {
+        let room = if self.random.one_in(4) { 40 } else { self.random.index(10) };
+        self.comparison.corners(section, element, room, 1);
     }
 
     /// Corners of a section: its ends, all elements where they are few, else some.
     fn corners_of(&mut self, entry: &Section, numbers: &[u64; 9]) {
         for element in [0, entry.first - 1, entry.last + 1, u64::MAX] {
             self.comparison.corner(numbers, element, 1, 1);
+            self.all_corners(numbers, element);
         }
         for corner in [0, 28, 1 << 32, 1 << 62, u64::MAX] {
             self.comparison.corner(numbers, entry.first, corner, 1);
@@ -211,6 +223,7 @@ impl Asker<'_, '_> {
             for corner in 1..=greatest {
                 self.comparison.corner(numbers, element, corner, 1);
             }
+            self.all_corners(numbers, element);
         }
     }
 
@@ -252,6 +265,7 @@ impl Asker<'_, '_> {
             let element = section[2].wrapping_add(self.random.below(3));
             let corner = self.random.below(4);
             self.comparison.corner(&section, element, corner, 1);
+            self.all_corners(&section, element);
         }
     }
 }
