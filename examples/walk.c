@@ -73,44 +73,63 @@ static const gongaurora_section *section_of_face(const gongaurora_section *secti
     return NULL;
 }
 
-/* Reads the nodes of an element: from corner 1 until rule 42 says that there are no more. Answers how many there are. */
-static uint64_t walk_nodes(image_t image, const gongaurora_section *section, uint64_t element, findings_t *found)
+/* A zone's sections, and memory for the corners of any of their elements: of a cell's faces, of a face's or an element's nodes. */
+typedef struct {
+    const gongaurora_section *sections;
+    uint64_t count;
+    int64_t *faces, *nodes;
+    uint64_t room;
+} zone_t;
+
+/* Reads the nodes of an element and answers how many there are. */
+static uint64_t walk_nodes(image_t image, const zone_t *zone, const gongaurora_section *section, uint64_t element,
+                           findings_t *found)
 {
-    uint64_t corner = 1;
-    for (;; corner++) {
-        gongaurora_corner node = gongaurora_corner_of(image.bytes, image.length, section, element, corner);
-        if (node.rule != 0) break;
-        if (found->least_node == 0 || node.number < found->least_node) found->least_node = node.number;
-        if (node.number > found->greatest_node) found->greatest_node = node.number;
+    gongaurora_count size = gongaurora_corners_of(image.bytes, image.length, section, element, zone->nodes, zone->room);
+    for (uint64_t k = 0; k < size.count; k++) {
+        int64_t node = zone->nodes[k];
+        if (found->least_node == 0 || node < found->least_node) found->least_node = node;
+        if (node > found->greatest_node) found->greatest_node = node;
     }
-    found->corners += corner - 1;
-    return corner - 1;
+    found->corners += size.count;
+    return size.count;
 }
 
 /* Reads the faces of a cell, and of each face its nodes. */
-static void walk_cell(image_t image, const gongaurora_section *sections, uint64_t count, const gongaurora_section *cells,
-                      uint64_t cell, findings_t *found)
+static void walk_cell(image_t image, const zone_t *zone, const gongaurora_section *cells, uint64_t cell, findings_t *found)
 {
-    uint64_t corner = 1;
-    for (;; corner++) {
-        gongaurora_corner face = gongaurora_corner_of(image.bytes, image.length, cells, cell, corner);
-        if (face.rule != 0) break;
-        uint64_t number = face.number < 0 ? 0 - (uint64_t)face.number : (uint64_t)face.number;
-        uint64_t size = walk_nodes(image, section_of_face(sections, count, face.number), number, found);
-        if (size > found->largest_face) found->largest_face = size;
+    gongaurora_count size = gongaurora_corners_of(image.bytes, image.length, cells, cell, zone->faces, zone->room);
+    for (uint64_t k = 0; k < size.count; k++) {
+        int64_t face = zone->faces[k];
+        uint64_t number = face < 0 ? 0 - (uint64_t)face : (uint64_t)face;
+        uint64_t nodes = walk_nodes(image, zone, section_of_face(zone->sections, zone->count, face), number, found);
+        if (nodes > found->largest_face) found->largest_face = nodes;
     }
-    found->corners += corner - 1;
-    if (corner - 1 > found->largest_cell) found->largest_cell = corner - 1;
+    found->corners += size.count;
+    if (size.count > found->largest_cell) found->largest_cell = size.count;
 }
 
-static void walk_section(image_t image, const gongaurora_section *sections, uint64_t count, const gongaurora_section *section,
-                         findings_t *found)
+static void walk_section(image_t image, const zone_t *zone, const gongaurora_section *section, findings_t *found)
 {
     for (uint64_t element = section->first; element <= section->last; element++) {
-        if (section->type == NFACE_N) walk_cell(image, sections, count, section, element, found);
-        else walk_nodes(image, section, element, found);
+        if (section->type == NFACE_N) walk_cell(image, zone, section, element, found);
+        else walk_nodes(image, zone, section, element, found);
         found->elements[section->type]++;
     }
+}
+
+/* Walks all sections. No element is longer than its section's connectivity, so rule 46 never comes. */
+static void walk_zone(image_t image, const gongaurora_section *sections, uint64_t count, findings_t *found)
+{
+    zone_t zone = {sections, count, NULL, NULL, 1};
+    for (uint64_t k = 0; k < count; k++)
+        if (sections[k].connectivity_length > zone.room) zone.room = sections[k].connectivity_length;
+    zone.faces = (int64_t *)malloc(zone.room * sizeof *zone.faces);
+    zone.nodes = (int64_t *)malloc(zone.room * sizeof *zone.nodes);
+    if (zone.faces != NULL && zone.nodes != NULL)
+        for (uint64_t k = 0; k < count; k++) walk_section(image, &zone, &sections[k], found);
+    free(zone.faces);
+    free(zone.nodes);
 }
 
 /* ---- What is printed of a zone ---- */
@@ -189,7 +208,7 @@ static void print_zone(image_t image, uint64_t zone, const gongaurora_section *s
     printf("zone ");
     print_path(image, zone);
     printf(": sections %" PRIu64 "\n", count);
-    for (uint64_t k = 0; k < count; k++) walk_section(image, sections, count, &sections[k], &found);
+    walk_zone(image, sections, count, &found);
     print_findings(&found);
     print_usage(image, zone, sections, count);
 }

@@ -2,7 +2,7 @@
 
 use reference::cases::case;
 use reference::random::Random;
-use reference::{corner, corner_reads, section_entries, CornerRead, Rejection};
+use reference::{corner, corner_reads, element_corners, section_entries, CornerRead, Rejection};
 
 /// The rule of a refusal; 0 for an answer.
 fn rule(answer: Result<i64, Rejection>) -> u32 {
@@ -29,6 +29,24 @@ fn corners_of_a_tetrahedron() {
     }
     let cells = entries[1].numbers();
     assert_eq!(corner(&case("k"), &cells, 5, 4), Ok(-3));
+}
+
+#[test]
+fn all_corners_of_an_element() {
+    let image = case("a");
+    let entries = section_entries(&image, 3).unwrap();
+    let faces = entries[0].numbers();
+    let mut out = [9; 4];
+    for (element, length, rule) in [(0, 4, 41), (5, 4, 41), (2, 2, 46), (2, 0, 46)] {
+        assert_eq!(element_corners(&image, &faces, element, &mut out[..length]), Err(Rejection::of_call(rule)));
+        assert_eq!(element_corners(&image[..1700], &faces, 2, &mut out), Err(Rejection::of_call(43)));
+    }
+    assert_eq!(out, [9; 4]);
+    assert_eq!(element_corners(&image, &faces, 2, &mut out), Ok(3));
+    assert_eq!(out, [1, 2, 4, 9]);
+    let cells = entries[1].numbers();
+    assert_eq!(element_corners(&case("k"), &cells, 5, &mut out), Ok(4));
+    assert_eq!(out[3], -3);
 }
 
 #[test]
