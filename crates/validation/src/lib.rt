@@ -4,13 +4,14 @@ ghost use mathlib.Core.Bool.{true, cond};
 ghost use mathlib.Core.List.{[]};
 ghost use lib.Dec.{eqb};
 ghost use Rattle.model.specs.Rules.{answer, check, passed};
-ghost use Rattle.model.specs.Image.{treeOf};
+ghost use Rattle.model.specs.Image.{treeOf, nodeCount};
 ghost use Rattle.model.specs.Containment.{role, Elements, validated};
 ghost use Rattle.model.specs.Values.{sidsRules};
 ghost use Rattle.model.specs.Elements.{elementRules};
 ghost use Rattle.model.specs.Validation.{nodeCheckAt, nodeCheck, imageCheck, counts, validation};
 ghost use Rattle.model.specs.Given.{Sound, NodesTo};
 ghost use Rattle.model.specs.Answers.{stageTells, validationTells};
+ghost use Rattle.labels.specs.Ends.{Ends};
 
 mod counting; // counting.rt: how many nodes are validated
 mod sizes; // sizes.rt: the DataSize of an array
@@ -34,35 +35,45 @@ fn section_stage(image: &[u8], i: usize) -> Stage
 }
 
 // Rules 20 to 35 at node i, to which validation has come; a node that is not validated is skipped.
-fn node_stage(image: &[u8], i: usize) -> Stage
-    requires { ⌜ NodesTo (now image) i ⌝ }
+fn node_stage(image: &[u8], ends: &[u16], i: usize) -> Stage
+    requires { ⌜ NodesTo (now image) i × Ends (now image) (now ends) (nodeCount (now image)) ⌝ }
     ensures { λ r. ⌜ stageTells r ≡ nodeCheckAt (treeOf (now (image .entry))) i ⌝ }
 {
     if !labels::validated(image, i) {
         return Stage::Pass;
     }
-    let s = sids::sids_stage(image, i);
+    let s = sids::sids_stage(image, ends, i);
     let Stage::Pass = s else {
         return s;
     };
     section_stage(image, i)
 }
 
-// Rules 20 to 35 at every node, the lowest first.
-fn nodes_stage(image: &[u8]) -> Stage
-    requires { ⌜ Sound (now image) ⌝ }
+// Rules 20 to 35 at every node, the lowest first. `ends` tells where the children of each node end.
+fn every_node(image: &[u8], ends: &[u16]) -> Stage
+    requires { ⌜ Sound (now image) × Ends (now image) (now ends) (nodeCount (now image)) ⌝ }
     ensures { λ r. ⌜ stageTells r ≡ nodeCheck (treeOf (now (image .entry))) ⌝ }
 {
     let n = labels::node_count(image);
     let mut i = 0;
     while i < n {
-        let s = node_stage(image, i);
+        let s = node_stage(image, ends, i);
         let Stage::Pass = s else {
             return s;
         };
         i += 1;
     }
     Stage::Pass
+}
+
+// The same, where the ends of the children are not known yet: found once, they spare each search for a child that is missing the way to the last node.
+fn nodes_stage(image: &[u8]) -> Stage
+    requires { ⌜ Sound (now image) ⌝ }
+    ensures { λ r. ⌜ stageTells r ≡ nodeCheck (treeOf (now (image .entry))) ⌝ }
+{
+    let mut ends: [u16; 4096] = [0; 4096];
+    labels::mark_ends(image, &mut ends);
+    every_node(image, &ends)
 }
 
 // Every rule, 1 to 35, as one stage.

@@ -11,7 +11,7 @@ returns : tie.Need-returns
 returns c = node-skipped _ _ (sym (c .before .validated .ensures) ∙ not-true _ (c .if1 .taken))
 
 sids-stage-requires : tie.Need-sids-stage-requires
-sids-stage-requires c κs = (c .before .before .before .pre, sym (c .before .validated .ensures) ∙ not-false _ (c .if1 .left))
+sids-stage-requires c κs = let s = c .before .before .before .before in ((s .pre .0, sym (c .before .validated .ensures) ∙ not-false _ (c .if1 .left)), s .pre .1)
 
 returns-2 : tie.Need-returns-2
 returns-2 c =
@@ -21,7 +21,7 @@ returns-2 c =
 section-stage-requires : tie.Need-section-stage-requires
 section-stage-requires c κs =
     let e = c .before .before .before in
-    ((e .before .before .before .pre, sym (e .before .validated .ensures) ∙ not-false _ (e .if1 .left)), passes (c .before .before .sids-stage .ensures) (c .enum-told .given .1))
+    ((e .before .before .before .before .pre .0, sym (e .before .validated .ensures) ∙ not-false _ (e .if1 .left)), passes (c .before .before .sids-stage .ensures) (c .enum-told .given .1))
 
 returns-3 : tie.Need-returns-3
 returns-3 c =
