@@ -12,10 +12,10 @@ use Rattle.validation.proofs.every_node.Statement.{statement}
 use Rattle.validation.proofs.every_node.Tie as tie
 
 abbrev Inv-loop : tie.InvT-loop
-Inv-loop image ends n i₀ i = NodesLeft (treeOf image) n i
+Inv-loop image ends kinds n i₀ i = NodesLeft (treeOf image) n i
 
 abbrev μ-loop : tie.MeasureT-loop
-μ-loop image ends n i₀ i = n - i
+μ-loop image ends kinds n i₀ i = n - i
 
 loop-holds : tie.Need-loop-holds Inv-loop μ-loop
 unfolding treeOf
@@ -23,8 +23,8 @@ loop-holds c = nodes-start _ _ (c .node-count .ensures .0)
 
 node-stage-requires : tie.Need-node-stage-requires Inv-loop μ-loop
 node-stage-requires c κs =
-    let s = c .before .before .before .before .before in
-    (record { sound = s .pre .0; inside = omega arith; before = c .before .loop .inv .before }, s .pre .1)
+    let s = c .before .before .before .before .before .before in
+    ((record { sound = s .pre .0 .0; inside = omega arith; before = c .before .loop .inv .before }, s .pre .0 .1), s .pre .1)
 
 returns : tie.Need-returns Inv-loop μ-loop
 returns c =
