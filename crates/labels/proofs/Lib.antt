@@ -4,3 +4,4 @@ pub mod Known
 pub mod Kin
 pub mod Climbing
 pub mod Grid
+pub mod Children

@@ -9,7 +9,7 @@ use native.Mathlib.Numerals.{add-one}
 use lib.Dec.{eqb, leb}
 use lib.ListN.{length, getD, take, drop, drop-of-length-le, length-drop}
 use lib.Seq.{take-all, take-at, drop-append-add, drop-cons, length-take-le}
-use borrow.Author.Tests.{leb-true}
+use borrow.Author.Tests.{leb-true, eqb-true, eqb-false}
 use Rattle.model.specs.Bytes.{le, same, spells, blank, placeFrom}
 use Rattle.model.proofs.Logic.{and-first, and-second}
 use Rattle.labels.specs.Padded.{pad, fieldWord}
@@ -52,21 +52,29 @@ pad-bytes (suc n) (y ∷ x) e (suc i) = pad-bytes n x (and-second (leb y 255) (a
 pad-full : (x : List ℕ) → 0 + 32 ≤ length (pad 32 x)
 pad-full x = rw (length-pad 32 x) (omega arith)
 
--- the field at p against the words of a text, at word j
-module _ {b : List ℕ} {p : ℕ} (x : List ℕ) (j : ℕ) (l : Same 32 b p (pad 32 x) 0 (8 * j)) (h : p + 32 ≤ length b) where
-  pub spelling-done : length x ≤ 32 → 4 ≤ j → true ≡ spells (take 32 (drop p b)) x
-  spelling-done m k = same-done l h (pad-full x) (omega arith) ∙ field-spells b p x h m
+-- the field at p against the words of a text: after the last one
+spelling-done : {b : List ℕ} {p : ℕ} (x : List ℕ) (j : ℕ) → Same 32 b p (pad 32 x) 0 (8 * j) → p + 32 ≤ length b → length x ≤ 32 → 4 ≤ j → true ≡ spells (take 32 (drop p b)) x
+spelling-done {b} {p} x j l h m k = same-done l h (pad-full x) (omega arith) ∙ field-spells b p x h m
 
-  module _ (f : Bytes b) (a : allBytes x ≡ true) (k : j < 4) where
-    pub spelling-more : le 8 (drop (p + 8 * j) b) ≡ fieldWord x j → Same 32 b p (pad 32 x) 0 (8 * (j + 1))
-    unfolding fieldWord
-    spelling-more e =
-        let y : 8 * j + 8 ≡ 8 * (j + 1) = omega arith in
-        rw y at (same-more-word l h (pad-full x) 8 (omega arith) f (pad-bytes 32 x a) (rw (zero-add (8 * j)) e))
+-- at word j
+module _ {b : List ℕ} {p : ℕ} (x : List ℕ) (j : ℕ) (l : Same 32 b p (pad 32 x) 0 (8 * j)) (h : p + 32 ≤ length b) (f : Bytes b) (a : allBytes x ≡ true) (k : j < 4) where
+  pub spelling-more : le 8 (drop (p + 8 * j) b) ≡ fieldWord x j → Same 32 b p (pad 32 x) 0 (8 * (j + 1))
+  unfolding fieldWord
+  spelling-more e =
+      let y : 8 * j + 8 ≡ 8 * (j + 1) = omega arith in
+      rw y at (same-more-word l h (pad-full x) 8 (omega arith) f (pad-bytes 32 x a) (rw (zero-add (8 * j)) e))
 
-    pub spelling-stop : length x ≤ 32 → (le 8 (drop (p + 8 * j) b) ≡ fieldWord x j → ⊥) → false ≡ spells (take 32 (drop p b)) x
-    unfolding fieldWord
-    spelling-stop m e = same-stop-word l h (pad-full x) 8 (omega arith) f (pad-bytes 32 x a) (rw (zero-add (8 * j)) e) ∙ field-spells b p x h m
+  pub spelling-stop : length x ≤ 32 → (le 8 (drop (p + 8 * j) b) ≡ fieldWord x j → ⊥) → false ≡ spells (take 32 (drop p b)) x
+  unfolding fieldWord
+  spelling-stop m e = same-stop-word l h (pad-full x) 8 (omega arith) f (pad-bytes 32 x a) (rw (zero-add (8 * j)) e) ∙ field-spells b p x h m
+
+  -- the last word decides
+  pub spelling-last : 4 ≡ j + 1 → length x ≤ 32 → eqb (le 8 (drop (p + 8 * j) b)) (fieldWord x j) ≡ spells (take 32 (drop p b)) x
+  spelling-last n m = by-test (eqb (le 8 (drop (p + 8 * j) b)) (fieldWord x j)) refl
+    where
+      by-test : (c : Bool) → eqb (le 8 (drop (p + 8 * j) b)) (fieldWord x j) ≡ c → c ≡ spells (take 32 (drop p b)) x
+      by-test true e = spelling-done x (j + 1) (spelling-more (eqb-true _ _ e)) h m (omega arith)
+      by-test false e = spelling-stop m (eqb-false _ _ e)
 
 -- padded texts, one after the other
 abbrev pub padded : List (List ℕ) → List ℕ
@@ -109,3 +117,9 @@ module _ {s : List ℕ} {ts : List (List ℕ)} {k : ℕ} (l : Placing s ts k) wh
 
     pub placing-more : spells s (getD ts k []) ≡ false → Placing s ts (k + 1)
     placing-more e = record { inside = omega arith; rest = rw add-one (rw e at step) }
+
+-- texts that the field does not hold are passed over
+pub placing-past : {s : List ℕ} {ts : List (List ℕ)} (k : ℕ) → k ≤ length ts → ((j : ℕ) → j < k → spells s (getD ts j []) ≡ false) → Placing s ts k
+placing-past {s} {ts} zero h f = placing-start s ts
+placing-past {s} {ts} (suc k) h f =
+    rw add-one at (placing-more {s = s} {ts = ts} (placing-past k (omega arith) (λ j l. f j (omega arith))) (omega arith) (f k (omega arith)))

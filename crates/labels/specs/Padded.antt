@@ -1,8 +1,10 @@
 -- Texts as fields of 32 bytes.
-use Prim.Native.Nat.{ℕ, zero, suc, _*_}
+use Prim.Native.Nat.{ℕ, zero, suc, _*_, _≤_, _<_}
+use mathlib.Core.Path.{_≡_}
 use mathlib.Core.List.{List, [], _∷_}
-use lib.ListN.{drop}
+use lib.ListN.{drop, getD}
 use Rattle.model.specs.Bytes.{le}
+use Rattle.model.specs.Containment.{knownLabels}
 
 -- a text padded right with blanks to n bytes
 abbrev pub pad : ℕ → List ℕ → List ℕ
@@ -13,3 +15,9 @@ pad (suc n) (y ∷ x) = y ∷ pad n x
 -- word j of a text's field
 unfoldable pub fieldWord : List ℕ → ℕ → ℕ
 fieldWord x j = le 8 (drop (8 * j) (pad 32 x))
+
+-- known label r, counted from 0, begins with this word, and no other does; 13 where none does
+pub record Begins (word r : ℕ) : Type 0 where
+  pub inside : r ≤ 13
+  pub is : r < 13 → word ≡ fieldWord (getD knownLabels r []) 0
+  pub only : (k : ℕ) → k < 13 → word ≡ fieldWord (getD knownLabels k []) 0 → k ≡ r

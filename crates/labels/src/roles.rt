@@ -3,11 +3,11 @@ ghost use mathlib.Core.Path.{_≡_};
 ghost use Prim.Native.Nat.{_+_, _*_, _≤_, _<_};
 ghost use mathlib.Core.List.{[]};
 ghost use lib.ListN.{length, take, drop, getD};
-ghost use Rattle.model.specs.Bytes.{spells};
+ghost use Rattle.model.specs.Bytes.{le, spells};
 ghost use Rattle.model.specs.Image.{treeOf, nodeCount};
 ghost use Rattle.model.specs.Bounds.{Laid};
 ghost use Rattle.model.specs.Containment.{role, knownLabels};
-ghost use Rattle.labels.specs.Padded.{fieldWord};
+ghost use Rattle.labels.specs.Padded.{fieldWord, Begins};
 use records::Record;
 
 pub const LIBRARY_VERSION: u64 = 1;
@@ -41,28 +41,30 @@ pub const ROOT: u64 = 14;
 // Eight blanks.
 const BLANKS: u64 = 2314885530818453536;
 
-// The known labels as words, each label padded to 32 bytes. Here are the first eight bytes of label k, counted from 0.
-fn first_word(k: usize) -> u64
-    requires { ⌜ k < 13 ⌝ }
-    ensures { λ r. ⌜ r ≡ fieldWord (getD knownLabels k []) 0 ⌝ }
+// The known labels as words, each label padded to 32 bytes: their first eight bytes are all different.
+// Here is the one label that may begin with this word, counted from 0; 13 where none does.
+fn candidate(word: u64) -> usize
+    ensures { λ r. ⌜ Begins word r ⌝ }
 {
-    match k {
-        0 => 8242266044577498947, // CGNSLibr
-        1 => 7310293557645821763, // CGNSBase
-        2 => 2314978161540886362, // Zone_t
-        3 => 7309475598608265050, // ZoneType
-        4 => 8245931777976791623, // GridCoor
-        5 => 8461260204199078982, // FlowSolu
-        6 => 8319395793566264389, // Elements
-        7 => 7953729093963640393, // IndexRan
-        8 => 2314978161524107602, // Rind_t
-        9 => 7017575018266194503, // GridLoca
-        10 => 7021800394157482308, // DataArra
-        11 => 8390322045806929220, // Descript
-        _ => 7594869166258352981, // UserDefi
+    match word {
+        8242266044577498947 => 0, // CGNSLibr
+        7310293557645821763 => 1, // CGNSBase
+        2314978161540886362 => 2, // Zone_t
+        7309475598608265050 => 3, // ZoneType
+        8245931777976791623 => 4, // GridCoor
+        8461260204199078982 => 5, // FlowSolu
+        8319395793566264389 => 6, // Elements
+        7953729093963640393 => 7, // IndexRan
+        2314978161524107602 => 8, // Rind_t
+        7017575018266194503 => 9, // GridLoca
+        7021800394157482308 => 10, // DataArra
+        8390322045806929220 => 11, // Descript
+        7594869166258352981 => 12, // UserDefi
+        _ => 13,
     }
 }
 
+// The second eight bytes of label k.
 fn second_word(k: usize) -> u64
     requires { ⌜ k < 13 ⌝ }
     ensures { λ r. ⌜ r ≡ fieldWord (getD knownLabels k []) 1 ⌝ }
@@ -84,6 +86,7 @@ fn second_word(k: usize) -> u64
     }
 }
 
+// The third.
 fn third_word(k: usize) -> u64
     requires { ⌜ k < 13 ⌝ }
     ensures { λ r. ⌜ r ≡ fieldWord (getD knownLabels k []) 2 ⌝ }
@@ -96,32 +99,19 @@ fn third_word(k: usize) -> u64
     }
 }
 
-// Word j of label k.
-fn label_word(k: usize, j: usize) -> u64
-    requires { ⌜ (k < 13) × (j < 4) ⌝ }
-    ensures { λ r. ⌜ r ≡ fieldWord (getD knownLabels k []) j ⌝ }
-{
-    match j {
-        0 => first_word(k),
-        1 => second_word(k),
-        2 => third_word(k),
-        _ => BLANKS,
-    }
-}
-
-// Does a field hold the known label k, counted from 0? It leaves off at the first word that differs.
+// Does a field that begins as the known label k hold it? It leaves off at the first word that differs.
 fn label_is(image: &[u8], at: usize, k: usize) -> bool
     requires { ⌜ (at + 32 ≤ length (now image)) × (k < 13) ⌝ }
+    requires { ⌜ le 8 (drop at (now image)) ≡ fieldWord (getD knownLabels k []) 0 ⌝ }
     ensures { λ r. ⌜ r ≡ spells (take 32 (drop at (now (image .entry)))) (getD knownLabels k []) ⌝ }
 {
-    let mut j = 0;
-    while j < 4 {
-        if words::u64_at(image, at + 8 * j) != label_word(k, j) {
-            return false;
-        }
-        j += 1;
+    if words::u64_at(image, at + 8) != second_word(k) {
+        return false;
     }
-    true
+    if words::u64_at(image, at + 16) != third_word(k) {
+        return false;
+    }
+    words::u64_at(image, at + 24) == BLANKS
 }
 
 // The role of node i: 1 to 13 for a known label, 0 for any other, 14 for the root whatever its label.
@@ -133,12 +123,11 @@ pub fn role_of(image: &[u8], i: usize) -> u64
         return ROOT;
     }
     let at = Record::at(i) + Record::LABEL;
-    let mut k = 0;
-    while k < 13 {
+    let k = candidate(words::u64_at(image, at));
+    if k < 13 {
         if label_is(image, at, k) {
             return k as u64 + 1;
         }
-        k += 1;
     }
     0
 }

@@ -7,6 +7,7 @@ ghost use lib.ListN.{length};
 ghost use Rattle.model.specs.Image.{treeOf, nodeCount, parent};
 ghost use Rattle.model.specs.Bounds.{Laid};
 ghost use Rattle.model.specs.Given.{Sound};
+ghost use Rattle.labels.specs.Ends.{ChildrenBefore, Ends};
 ghost use Rattle.model.specs.Containment.{role, isChild, child, validated, validatedAs, isZone, sectionOf};
 use super::roles;
 use super::roles::role_of;
@@ -44,20 +45,42 @@ fn is_child(image: &[u8], i: usize, role: u64, name: &[u8], j: usize) -> bool
     spells_at(image, Record::at(j) + Record::NAME, name)
 }
 
-// The first child of node i with this role and this name; the node count where there is none. Children have higher numbers.
-pub fn child(image: &[u8], i: usize, role: u64, name: &[u8]) -> usize
+// The first child of node i with this role and this name; the node count where there is none. Children have higher numbers, and none is from `end` on.
+pub fn child_before(image: &[u8], i: usize, role: u64, name: &[u8], end: usize) -> usize
     requires { ⌜ (Sound (now image) × (i < nodeCount (now image))) × (length (now name) ≤ 32) ⌝ }
+    requires { ⌜ ChildrenBefore (now image) i end ⌝ }
     ensures { λ r. ⌜ (r ≡ child (treeOf (now (image .entry))) i role (now (name .entry))) × (r ≤ nodeCount (now (image .entry))) ⌝ }
 {
-    let n = node_count(image);
     let mut j = i + 1;
-    while j < n {
+    while j < end {
         if is_child(image, i, role, name, j) {
             return j;
         }
         j += 1;
     }
-    j
+    node_count(image)
+}
+
+// The same, with no end known.
+pub fn child(image: &[u8], i: usize, role: u64, name: &[u8]) -> usize
+    requires { ⌜ (Sound (now image) × (i < nodeCount (now image))) × (length (now name) ≤ 32) ⌝ }
+    ensures { λ r. ⌜ (r ≡ child (treeOf (now (image .entry))) i role (now (name .entry))) × (r ≤ nodeCount (now (image .entry))) ⌝ }
+{
+    child_before(image, i, role, name, node_count(image))
+}
+
+// Marks where the children of each node end: one after the last child's number. Entries of nodes without children stay.
+pub fn mark_ends(image: &[u8], ends: &mut [u16])
+    requires { ⌜ Sound (now image) × Ends (now image) (now ends) 1 ⌝ }
+    ensures { λ r. ⌜ Ends (now (image .entry)) (now (ends .exit)) (nodeCount (now (image .entry))) ⌝ }
+{
+    let n = node_count(image);
+    let mut j = 1;
+    while j < n {
+        let up = records::parent_of(image, j);
+        ends[up] = (j + 1) as u16;
+        j += 1;
+    }
 }
 
 // Is node i validated? Up the parents: every label on the way is known, and no node that holds another is a UserDefinedData_t.

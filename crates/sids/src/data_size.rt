@@ -1,4 +1,4 @@
-// DataSize: the sizes of the arrays under a GridCoordinates_t or FlowSolution_t node p.
+// DataSize: the sizes of the arrays under a GridCoordinates_t or FlowSolution_t node p, whose children are before `end`.
 ghost use mathlib.Core.Path.{_≡_};
 ghost use Prim.Native.Nat.{_+_, _*_, _≤_, _<_};
 ghost use Rattle.model.specs.Bytes.{text};
@@ -6,9 +6,10 @@ ghost use Rattle.model.specs.Image.{treeOf, nodeCount, parent};
 ghost use Rattle.model.specs.Given.{Sound};
 ghost use Rattle.model.specs.Containment.{Rind};
 ghost use Rattle.model.specs.Values.{indexDimension, conforming, cellCentred, rindNumber, dataSize};
+ghost use Rattle.labels.specs.Ends.{ChildrenBefore};
 ghost use Rattle.sids.specs.Given.{Held};
 ghost use Rattle.sids.specs.Sizes.{direction, directions, innerSize};
-use super::children::conforming;
+use super::children::conforming_before;
 use super::zone::zone_sizes;
 use labels::roles;
 
@@ -16,8 +17,9 @@ use labels::roles;
 const NO_RIND: u64 = 0;
 
 // The arrays under p stand at CellCenter.
-fn cell_centred(image: &[u8], p: usize) -> bool
+fn cell_centred(image: &[u8], p: usize, end: usize) -> bool
     requires { ⌜ Sound (now image) × (p < nodeCount (now image)) ⌝ }
+    requires { ⌜ ChildrenBefore (now image) p end ⌝ }
     ensures { λ r. ⌜ r ≡ cellCentred (treeOf (now (image .entry))) p ⌝ }
 {
     if labels::role_of(image, p) != roles::FLOW_SOLUTION {
@@ -25,18 +27,19 @@ fn cell_centred(image: &[u8], p: usize) -> bool
     }
     types::reads_if_found(
         image,
-        conforming(image, p, roles::GRID_LOCATION, b"GridLocation"),
+        conforming_before(image, p, roles::GRID_LOCATION, b"GridLocation", end),
         b"CellCenter",
     )
 }
 
 // VertexSize, or CellSize for CellCenter, in each direction.
-fn inner_sizes(image: &[u8], p: usize) -> [u64; 3]
+fn inner_sizes(image: &[u8], p: usize, end: usize) -> [u64; 3]
     requires { ⌜ Sound (now image) × Held (now image) p ⌝ }
+    requires { ⌜ ChildrenBefore (now image) p end ⌝ }
     ensures { λ r. ⌜ r ≡ directions (innerSize (treeOf (now (image .entry))) p) (indexDimension (treeOf (now (image .entry))) (parent (treeOf (now (image .entry))) p)) ⌝ }
 {
     let sizes = zone_sizes(image, records::parent_of(image, p));
-    if cell_centred(image, p) {
+    if cell_centred(image, p, end) {
         return sizes[1];
     }
     sizes[0]
@@ -70,12 +73,13 @@ fn data_size_at(image: &[u8], p: usize, rind: usize, n: usize, inner: [u64; 3], 
 }
 
 // DataSize under node p in each direction; 0 in a direction that the zone lacks.
-pub fn data_sizes(image: &[u8], p: usize) -> [u64; 3]
+pub fn data_sizes(image: &[u8], p: usize, end: usize) -> [u64; 3]
     requires { ⌜ Sound (now image) × Held (now image) p ⌝ }
+    requires { ⌜ ChildrenBefore (now image) p end ⌝ }
     ensures { λ r. ⌜ r ≡ directions (dataSize (treeOf (now (image .entry))) p) (indexDimension (treeOf (now (image .entry))) (parent (treeOf (now (image .entry))) p)) ⌝ }
 {
-    let inner = inner_sizes(image, p);
-    let rind = conforming(image, p, roles::RIND, b"Rind");
+    let inner = inner_sizes(image, p, end);
+    let rind = conforming_before(image, p, roles::RIND, b"Rind", end);
     let n = types::index_dimension(image, records::parent_of(image, p)) as usize;
     let i = data_size_at(image, p, rind, n, inner, 0);
     let j = data_size_at(image, p, rind, n, inner, 1);

@@ -8,6 +8,7 @@ ghost use Rattle.model.specs.Given.{Sound, NodesTo};
 ghost use Rattle.model.specs.Containment.{validated};
 ghost use Rattle.model.specs.Values.{sidsRules, sizedArray, sizesLawful};
 ghost use Rattle.model.specs.Answers.{stageTells};
+ghost use Rattle.labels.specs.Ends.{Ends};
 ghost use Rattle.types.specs.Given.{Ready};
 ghost use Rattle.sids.specs.Given.{Held};
 ghost use Rattle.sids.specs.Groups.{placeRules, contentRules};
@@ -73,8 +74,9 @@ pub fn sized_array(image: &[u8], i: usize) -> bool
 }
 
 // Rule 26: a coordinate or flow array has exactly the dimensions of DataSize.
-fn sizes_lawful(image: &[u8], i: usize) -> bool
+fn sizes_lawful(image: &[u8], ends: &[u16], i: usize) -> bool
     requires { ⌜ Sound (now image) × (i < nodeCount (now image)) ⌝ }
+    requires { ⌜ Ends (now image) (now ends) (nodeCount (now image)) ⌝ }
     requires { ⌜ (sizedArray (treeOf (now image)) i ≡ true → Held (now image) (parent (treeOf (now image)) i)) ⌝ }
     ensures { λ r. ⌜ r ≡ sizesLawful (treeOf (now (image .entry))) i ⌝ }
 {
@@ -83,12 +85,13 @@ fn sizes_lawful(image: &[u8], i: usize) -> bool
     }
     let up = records::parent_of(image, i);
     let n = types::index_dimension(image, records::parent_of(image, up)) as usize;
-    types::shaped(image, i, n, data_sizes(image, up))
+    types::shaped(image, i, n, data_sizes(image, up, ends[up] as usize))
 }
 
-// Rules 20 to 26 at a validated node that validation has come to.
-pub fn sids_stage(image: &[u8], i: usize) -> Stage
+// Rules 20 to 26 at a validated node that validation has come to. `ends` tells where the children of each node end.
+pub fn sids_stage(image: &[u8], ends: &[u16], i: usize) -> Stage
     requires { ⌜ NodesTo (now image) i × (validated (treeOf (now image)) i ≡ true) ⌝ }
+    requires { ⌜ Ends (now image) (now ends) (nodeCount (now image)) ⌝ }
     ensures { λ r. ⌜ stageTells r ≡ check i (sidsRules (treeOf (now (image .entry))) i) ⌝ }
 {
     let place = place_stage(image, i);
@@ -99,7 +102,7 @@ pub fn sids_stage(image: &[u8], i: usize) -> Stage
     let Stage::Pass = content else {
         return content;
     };
-    if !sizes_lawful(image, i) {
+    if !sizes_lawful(image, ends, i) {
         return reject(26, i);
     }
     Stage::Pass

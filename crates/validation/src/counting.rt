@@ -1,4 +1,4 @@
-// How many nodes are validated, and how many of them have a role.
+// How many nodes are validated, and how many of them have a role, by the table of kinds.
 ghost use mathlib.Core.Path.{_≡_};
 ghost use mathlib.Core.Bool.{cond};
 ghost use Prim.Native.Nat.{_<_, _≤_};
@@ -6,6 +6,9 @@ ghost use Rattle.model.specs.Lists.{countFrom};
 ghost use Rattle.model.specs.Image.{treeOf, nodeCount};
 ghost use Rattle.model.specs.Containment.{validated, validatedAs};
 ghost use Rattle.model.specs.Given.{Sound};
+ghost use Rattle.validation.specs.Kinds.{Kinds};
+use super::kinds::is_validated;
+use super::kinds::is_validated_as;
 
 // 1 for a test that holds, 0 for one that does not.
 fn unit(test: bool) -> u64
@@ -15,30 +18,31 @@ fn unit(test: bool) -> u64
 }
 
 // How many nodes are validated.
-pub fn count_validated(image: &[u8]) -> u64
-    requires { ⌜ Sound (now image) ⌝ }
+pub fn count_validated(image: &[u8], kinds: &[u8]) -> u64
+    requires { ⌜ Sound (now image) × Kinds (now image) (now kinds) (nodeCount (now image)) ⌝ }
     ensures { λ r. ⌜ (r ≡ countFrom (validated (treeOf (now (image .entry)))) (nodeCount (now (image .entry))) 0) × (r ≤ nodeCount (now (image .entry))) ⌝ }
 {
     let n = labels::node_count(image);
     let mut count: u64 = 0;
     let mut i = 0;
     while i < n {
-        count += unit(labels::validated(image, i));
+        count += unit(is_validated(image, kinds, i));
         i += 1;
     }
     count
 }
 
 // How many validated nodes have a role.
-pub fn count_as(image: &[u8], role: u64) -> u64
-    requires { ⌜ Sound (now image) ⌝ }
+pub fn count_as(image: &[u8], kinds: &[u8], role: u64) -> u64
+    requires { ⌜ Sound (now image) × Kinds (now image) (now kinds) (nodeCount (now image)) ⌝ }
+    requires { ⌜ 0 < role ⌝ }
     ensures { λ r. ⌜ r ≡ countFrom (validatedAs (treeOf (now (image .entry))) role) (nodeCount (now (image .entry))) 0 ⌝ }
 {
     let n = labels::node_count(image);
     let mut count: u64 = 0;
     let mut i = 0;
     while i < n {
-        count += unit(labels::validated_as(image, role, i));
+        count += unit(is_validated_as(image, kinds, role, i));
         i += 1;
     }
     count

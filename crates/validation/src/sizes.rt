@@ -39,7 +39,7 @@ fn array_sizes(image: &[u8], i: usize) -> DataSize
 {
     let up = records::parent_of(image, i);
     let n = types::index_dimension(image, records::parent_of(image, up));
-    let sizes = sids::data_sizes(image, up);
+    let sizes = sids::data_sizes(image, up, labels::node_count(image));
     DataSize::Sizes {
         directions: n,
         i: sizes[0],

@@ -1,19 +1,14 @@
--- Validated nodes are counted; the others are skipped.
-use native.Mathlib.Omega.{arith}
-use Prim.Native.Nat.{_-_}
-use mathlib.Core.Path.{_≡_, refl, ap}
+-- The table of kinds, then the counts.
+use mathlib.Core.Path.{refl}
 use borrow.Author.Needs.{needs}
-use Rattle.model.specs.Image.{treeOf, nodeCount}
-use Rattle.validation.proofs.Laws.{counts-are}
 use Rattle.validation.proofs.accepted.Statement.{statement}
 use Rattle.validation.proofs.accepted.Tie as tie
 
-returns : tie.Need-returns
-unfolding treeOf
-returns c =
-    let d = c .before .before in
-    counts-are _ (nodeCount (d .before .before .before .args .image .now)) _ _ _ _ refl (d .count-validated .ensures .0)
-    (ap (λ n. n - d .count-validated .result) (d .before .node-count .ensures .0)) (c .before .count-as .ensures) (c .count-as2 .ensures)
+mark-kinds-requires : tie.Need-mark-kinds-requires
+mark-kinds-requires c κs = let s = c .before .before in (s .pre, s .pre .laid .few)
+
+counted-requires : tie.Need-counted-requires
+counted-requires c κs = (c .before .before .before .before .before .pre, c .before .before .mark-kinds .ensures)
 
 pub accepted-spec : {M : Type 1} → statement M
-accepted-spec = tie.close (tie.spec (λ c κs. search needs) (λ c κs. search needs) (λ c κs. search needs) (λ c κs. search needs) (search needs) returns)
+accepted-spec = tie.close (tie.spec (λ c. refl) mark-kinds-requires (search needs) counted-requires (λ c. c .counted .ensures))

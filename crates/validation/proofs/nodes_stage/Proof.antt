@@ -1,43 +1,20 @@
--- The lowest node first: the whole is what is left from here.
-use native.Mathlib.Omega.{arith}
-use Prim.Native.Nat.{ℕ, _-_, _≤_, _<_}
-use mathlib.Core.Path.{_≡_, refl, sym, _∙_}
+-- The ends of the children and the kinds of the nodes, each from a table of zeros, then the nodes.
+use mathlib.Core.Path.{refl}
 use borrow.Author.Needs.{needs}
-use Rattle.model.specs.Image.{treeOf, nodeCount}
-use Rattle.model.specs.Validation.{nodeCheckAt, nodeCheck}
-use Rattle.model.proofs.Passed.{checkFrom-on, checkFrom-off, checkFrom-end}
-use Rattle.model.proofs.Staging.{passes, refuses}
-use Rattle.validation.proofs.Laws.{NodesLeft, nodes-start, nodes-on, nodes-off, nodes-end}
+use Rattle.labels.proofs.Children.{none-marked}
 use Rattle.validation.proofs.nodes_stage.Statement.{statement}
 use Rattle.validation.proofs.nodes_stage.Tie as tie
 
-abbrev Inv-loop : tie.InvT-loop
-Inv-loop image n i₀ i = NodesLeft (treeOf image) n i
+mark-ends-requires : tie.Need-mark-ends-requires
+mark-ends-requires c κs = let s = c .before .before in (s .pre, none-marked (s .args .image .now) 4096 (s .pre .laid .few))
 
-abbrev μ-loop : tie.MeasureT-loop
-μ-loop image n i₀ i = n - i
+mark-kinds-requires : tie.Need-mark-kinds-requires
+mark-kinds-requires c κs = let s = c .before .before .before .before .before in (s .pre, s .pre .laid .few)
 
-loop-holds : tie.Need-loop-holds Inv-loop μ-loop
-unfolding treeOf
-loop-holds c = nodes-start _ _ (c .node-count .ensures .0)
-
-node-stage-requires : tie.Need-node-stage-requires Inv-loop μ-loop
-node-stage-requires c κs =
-    record { sound = c .before .before .before .before .pre; inside = omega arith; before = c .before .loop .inv .before }
-
-returns : tie.Need-returns Inv-loop μ-loop
-returns c =
-    let d = c .before .before in
-    let e = refuses (d .node-stage .ensures) (c .enum-told2 .given .1) in
-    d .node-stage .ensures ∙ e ∙ sym (nodes-off (d .before .before .loop .inv) (omega arith) e)
-
-loop-again : tie.Need-loop-again Inv-loop μ-loop
-loop-again c =
-    let d = c .before .before in
-    nodes-on (d .before .before .loop .inv) (omega arith) (passes (d .node-stage .ensures) (c .enum-told .given .1))
-
-returns-2 : tie.Need-returns-2 Inv-loop μ-loop
-returns-2 c = sym (nodes-end (c .before .loop .inv) (omega arith))
+every-node-requires : tie.Need-every-node-requires
+every-node-requires c κs =
+    let d = c .before .before .before in
+    ((d .before .before .before .before .before .before .pre, d .before .before .before .mark-ends .ensures), d .mark-kinds .ensures)
 
 pub nodes-stage-spec : {M : Type 1} → statement M
-nodes-stage-spec = tie.close (tie.spec Inv-loop μ-loop (search needs) loop-holds node-stage-requires (search needs) (search needs) returns (search needs) (search needs) loop-again returns-2)
+nodes-stage-spec = tie.close (tie.spec (λ c. refl) mark-ends-requires (λ c. refl) mark-kinds-requires (search needs) (search needs) every-node-requires (λ c. c .every-node .ensures))

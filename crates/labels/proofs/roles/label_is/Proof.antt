@@ -1,43 +1,38 @@
--- Word by word against the label's field.
-use Prim.Native.Nat.{_+_, _*_, _-_}
+-- Word by word against the label's field; the first word is known.
 use mathlib.Core.Path.{_≡_, sym, _∙_}
-use mathlib.Core.List.{[]}
-use lib.ListN.{getD}
-use Rattle.model.specs.Containment.{knownLabels}
-use Rattle.labels.specs.Padded.{pad}
-use Rattle.labels.proofs.Fields.{Same, same-start}
-use Rattle.labels.proofs.Tables.{spelling-more, spelling-stop, spelling-done}
-use Rattle.labels.proofs.Known.{known-short, known-bytes}
+use Rattle.labels.proofs.Known.{second-off, third-off, fourth-tells}
 use native.Mathlib.Omega.{arith}
 use borrow.Author.Needs.{needs}
 use Rattle.labels.proofs.roles.label_is.Statement.{statement}
 use Rattle.labels.proofs.roles.label_is.Tie as tie
 
-abbrev Inv-loop : tie.InvT-loop
-Inv-loop image at k j₀ j = Same 32 image at (pad 32 (getD knownLabels k [])) 0 (8 * j)
-
-abbrev μ-loop : tie.MeasureT-loop
-μ-loop image at k j₀ j = 4 - j
-
-loop-holds : tie.Need-loop-holds Inv-loop μ-loop
-loop-holds c = same-start _ _ _ _ _
-
-returns : tie.Need-returns Inv-loop μ-loop
+returns : tie.Need-returns
 returns c =
-    let l = c .before .before .before .before in
-    let k = l .before .before .args .k in
-    spelling-stop _ _ (l .loop .inv) (omega arith) (λ i. omega (arith, l .before .shared-slice-known .given i)) (known-bytes k (omega arith)) (omega arith) (known-short k (omega arith))
-    (λ e. c .if1 .taken (c .before .before .u64-at .ensures ∙ e ∙ sym (c .before .label-word .ensures)))
+    let d = c .before .before .before in
+    let a = d .before .args in
+    second-off (a .image .now) (a .at) (a .k) (omega arith) (λ i. omega (arith, d .shared-slice-known .given i)) (omega arith) (d .before .pre .1)
+    (λ e. c .if1 .taken (c .before .before .u64-at .ensures ∙ e ∙ sym (c .before .second-word .ensures)))
 
-loop-again : tie.Need-loop-again Inv-loop μ-loop
-loop-again c =
-    let l = c .before .before .before .before in
-    spelling-more _ _ (l .loop .inv) (omega arith) (λ i. omega (arith, l .before .shared-slice-known .given i)) (known-bytes (l .before .before .args .k) (omega arith)) (omega arith)
-    (sym (c .before .before .u64-at .ensures) ∙ c .if1 .left ∙ c .before .label-word .ensures)
+returns-2 : tie.Need-returns-2
+returns-2 c =
+    let x = c .before .before .before in
+    let d = x .before .before .before in
+    let a = d .before .args in
+    third-off (a .image .now) (a .at) (a .k) (omega arith) (λ i. omega (arith, d .shared-slice-known .given i)) (omega arith) (d .before .pre .1)
+    (sym (x .before .before .u64-at .ensures) ∙ x .if1 .left ∙ x .before .second-word .ensures)
+    (λ e. c .if2 .taken (c .before .before .u64-at2 .ensures ∙ e ∙ sym (c .before .third-word .ensures)))
 
-returns-2 : tie.Need-returns-2 Inv-loop μ-loop
-returns-2 c = spelling-done _ _ (c .before .loop .inv) (omega arith) (known-short (c .before .before .before .args .k) (omega arith)) (omega arith)
+returns-3 : tie.Need-returns-3
+returns-3 c =
+    let y = c .before in
+    let x = y .before .before .before in
+    let d = x .before .before .before in
+    let a = d .before .args in
+    rw (c .u64-at3 .ensures)
+    (fourth-tells (a .image .now) (a .at) (a .k) (omega arith) (λ i. omega (arith, d .shared-slice-known .given i)) (omega arith) (d .before .pre .1)
+    (sym (x .before .before .u64-at .ensures) ∙ x .if1 .left ∙ x .before .second-word .ensures)
+    (sym (y .before .before .u64-at2 .ensures) ∙ y .if2 .left ∙ y .before .third-word .ensures))
 
 pub label-is-spec : {M : Type 1} → statement M
-label-is-spec = tie.close (tie.spec Inv-loop μ-loop loop-holds (search needs) (search needs) (search needs)
-    (search needs) returns (search needs) (search needs) loop-again returns-2)
+label-is-spec = tie.close (tie.spec (search needs) (search needs) (search needs) returns (search needs) (search needs) (search needs) returns-2 (search needs) (search needs)
+    returns-3)

@@ -1,36 +1,54 @@
--- The search for the label among the known ones, one after the other.
-use Prim.Native.Nat.{_-_}
+-- No label but the one that begins with the field's first word can be the field's.
+use Prim.Native.Nat.{_+_}
 use mathlib.Core.Path.{_≡_, sym, _∙_}
-use lib.ListN.{take, drop}
-use Rattle.model.specs.Containment.{knownLabels}
-use Rattle.labels.proofs.Tables.{Placing, placing-start, placing-more, placing-stop, placing-done}
-use Rattle.labels.proofs.Known.{known-length, role-root, role-by-label}
+use Rattle.labels.proofs.Known.{role-root, role-by-label, is-candidate, no-candidate}
 use native.Mathlib.Omega.{arith}
 use borrow.Author.Needs.{needs}
 use Rattle.labels.proofs.roles.role_of.Statement.{statement}
 use Rattle.labels.proofs.roles.role_of.Tie as tie
 
-abbrev Inv-loop : tie.InvT-loop
-Inv-loop image i at k₀ k = Placing (take 32 (drop at image)) knownLabels k
-
-abbrev μ-loop : tie.MeasureT-loop
-μ-loop image i at k₀ k = 13 - k
-
-returns : tie.Need-returns Inv-loop μ-loop
+returns : tie.Need-returns
 returns c = (role-root _ _ (c .if1 .taken), omega arith)
 
-loop-holds : tie.Need-loop-holds Inv-loop μ-loop
-loop-holds c = placing-start _ _
+label-is-requires : tie.Need-label-is-requires
+label-is-requires c κs =
+    let k = c .before in (search needs, sym (k .before .u64-at .ensures) ∙ k .candidate .ensures .is (omega arith))
 
-returns-2 : tie.Need-returns-2 Inv-loop μ-loop
-returns-2 c = let l = c .before .before .before in (placing-stop (l .loop .inv) (omega (arith, known-length)) (sym (c .before .label-is .ensures) ∙ c .if2 .taken) ∙ role-by-label _ _ (l .before .at .ensures) (omega arith) (l .before .before .if1 .left), omega arith)
+returns-2 : tie.Need-returns-2
+returns-2 c =
+    let k = c .before .before .before in
+    let p = k .before .before in
+    let s = p .before .before in
+    let b = s .before .args .image .now in
+    let g = rw (k .before .u64-at .ensures) at (k .candidate .ensures) in (
+      is-candidate b (p .at .result + 32) (k .candidate .result) (omega arith) (λ i. omega (arith, s .shared-slice-known .given i)) g (omega arith) (sym (c .before .label-is .ensures) ∙ c .if3 .taken)
+          ∙ role-by-label _ _ (p .at .ensures) (omega arith) (p .before .if1 .left),
+      omega arith,
+    )
 
-loop-again : tie.Need-loop-again Inv-loop μ-loop
-loop-again c = let l = c .before .before .before in placing-more (l .loop .inv) (omega (arith, known-length)) (sym (c .before .label-is .ensures) ∙ c .if2 .left)
+returns-3 : tie.Need-returns-3
+returns-3 c =
+    let k = c .before .before .before in
+    let p = k .before .before in
+    let s = p .before .before in
+    let b = s .before .args .image .now in
+    let g = rw (k .before .u64-at .ensures) at (k .candidate .ensures) in (
+      no-candidate b (p .at .result + 32) (k .candidate .result) (omega arith) (λ i. omega (arith, s .shared-slice-known .given i)) g (λ h. sym (c .before .label-is .ensures) ∙ c .if3 .left)
+          ∙ role-by-label _ _ (p .at .ensures) (omega arith) (p .before .if1 .left),
+      omega arith,
+    )
 
-returns-3 : tie.Need-returns-3 Inv-loop μ-loop
-returns-3 c = let l = c .before in (placing-done (l .loop .inv) (omega (arith, known-length)) ∙ role-by-label _ _ (l .before .at .ensures) (omega arith) (l .before .before .if1 .left), omega arith)
+returns-4 : tie.Need-returns-4
+returns-4 c =
+    let k = c .before in
+    let p = k .before .before in
+    let s = p .before .before in
+    let b = s .before .args .image .now in
+    let g = rw (k .before .u64-at .ensures) at (k .candidate .ensures) in (
+      no-candidate b (p .at .result + 32) (k .candidate .result) (omega arith) (λ i. omega (arith, s .shared-slice-known .given i)) g (λ h. absurd (omega arith))
+          ∙ role-by-label _ _ (p .at .ensures) (omega arith) (p .before .if1 .left),
+      omega arith,
+    )
 
 pub role-of-spec : {M : Type 1} → statement M
-role-of-spec = tie.close (tie.spec Inv-loop μ-loop returns (search needs) (search needs) loop-holds (search needs)
-    (search needs) returns-2 (search needs) (search needs) loop-again returns-3)
+role-of-spec = tie.close (tie.spec returns (search needs) (search needs) (search needs) (search needs) label-is-requires (search needs) returns-2 returns-3 returns-4)

@@ -5,7 +5,7 @@ use Rattle.sids.proofs.data_size.inner_sizes.Statement.{statement}
 use Rattle.sids.proofs.data_size.inner_sizes.Tie as tie
 
 zone-sizes-requires : tie.Need-zone-sizes-requires
-zone-sizes-requires c κs = let s = c .before .before in (s .pre .0, rw (c .parent-of .ensures .0) (s .pre .1 .zone))
+zone-sizes-requires c κs = let s = c .before .before in (s .pre .0 .0, rw (c .parent-of .ensures .0) (s .pre .0 .1 .zone))
 
 returns : tie.Need-returns
 returns c =

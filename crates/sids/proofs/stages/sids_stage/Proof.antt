@@ -13,9 +13,9 @@ returns c = stop (c .before .before .place-stage .ensures) _ (c .enum-told2 .giv
 
 content-stage-requires : tie.Need-content-stage-requires
 content-stage-requires c κs =
-    let s = c .before .before .before .before in
+    let s = c .before .before .before .before .before in
     let q = check-pass _ _ (passes (c .before .before .place-stage .ensures) (c .enum-told .given .1)) .0 in
-    (s .pre .0 .sound, ready (s .args .image .now) (s .args .i) (s .pre .0) (s .pre .1) q)
+    (s .pre .0 .0 .sound, ready (s .args .image .now) (s .args .i) (s .pre .0 .0) (s .pre .0 .1) q)
 
 returns-2 : tie.Need-returns-2
 returns-2 c =
@@ -25,9 +25,9 @@ returns-2 c =
 sizes-lawful-requires : tie.Need-sizes-lawful-requires
 sizes-lawful-requires c κs =
     let d = c .before .before .before in
-    let s = d .before .before .before .before in
+    let s = d .before .before .before .before .before in
     let q = check-pass _ _ (passes (d .before .before .place-stage .ensures) (d .enum-told .given .1)) .0 in
-    ((s .pre .0 .sound, s .pre .0 .inside), sized-held (s .args .image .now) (s .args .i) (s .pre .0) (s .pre .1) q)
+    ((s .pre .0 .0 .sound, s .pre .0 .0 .inside), (s .pre .1, sized-held (s .args .image .now) (s .args .i) (s .pre .0 .0) (s .pre .0 .1) q))
 
 returns-3 : tie.Need-returns-3
 returns-3 c =

@@ -5,6 +5,7 @@ use borrow.Author.Needs.{needs}
 use Rattle.model.specs.Image.{treeOf, nodeCount, parent}
 use Rattle.model.specs.Values.{indexDimension}
 use Rattle.validation.proofs.Laws.{sizes-told}
+use Rattle.labels.proofs.Children.{before-all}
 use Rattle.sids.proofs.Context.{accepted-held}
 use Rattle.validation.proofs.sizes.array_sizes.Statement.{statement}
 use Rattle.validation.proofs.sizes.array_sizes.Tie as tie
@@ -23,9 +24,10 @@ index-dimension-requires c κs =
 
 data-sizes-requires : tie.Need-data-sizes-requires
 data-sizes-requires c κs =
-    let s = c .before .before .before .before in
+    let d = c .before in
+    let s = d .before .before .before .before in
     let k = accepted-held (s .args .image .now) (s .pre .0 .0) (s .args .i) (s .pre .0 .1) (s .pre .1 .1) (s .pre .1 .0) in
-    (s .pre .0 .0 .sound, rw (c .before .before .parent-of .ensures .0) k)
+    ((s .pre .0 .0 .sound, rw (d .before .before .parent-of .ensures .0) k), before-all _ _ (c .node-count .ensures .0))
 
 array-read-t10 : tie.Need-array-read-t10
 array-read-t10 c = search needs
@@ -38,7 +40,7 @@ array-read-t16 c = search needs
 
 returns : tie.Need-returns
 returns c =
-    let n = c .before in
+    let n = c .before .before in
     let q = n .before in
     let a = q .before .before .before .args in
     let t = treeOf (a .image .now) in
@@ -48,4 +50,4 @@ returns c =
 
 pub array-sizes-spec : {M : Type 1} → statement M
 array-sizes-spec =
-    tie.close (tie.spec (λ c κs. search needs) parent-of-requires-2 index-dimension-requires data-sizes-requires array-read-t10 array-read-t13 array-read-t16 returns)
+    tie.close (tie.spec (λ c κs. search needs) parent-of-requires-2 index-dimension-requires (λ c κs. search needs) data-sizes-requires array-read-t10 array-read-t13 array-read-t16 returns)
