@@ -11,7 +11,7 @@ use borrow.Author.Tests.{ne-eqb, eq-eqb, eqb-true, leb-true}
 use Rattle.model.specs.Lists.{everyFrom, among, row}
 use Rattle.model.specs.Bytes.{same, spells, blank, text, placeFrom}
 use Rattle.model.specs.Containment.{mayHold, containment, Named, _holds_called_, fixedName, fixedNames}
-use Rattle.model.proofs.Logic.{and-first, and-second, untrue}
+use Rattle.model.proofs.Logic.{same-is, untrue}
 use Rattle.model.proofs.Walks.{every-at}
 use Rattle.labels.specs.Cells.{fixedTexts, cellOf}
 
@@ -51,13 +51,6 @@ cell-held above below = by-test (mayHold above below) (placeFrom 1 (fixedName ab
     by-test : (c : Bool) (n : ℕ) → not (eqb (cond c (48 + n) 46) 46) ≡ c
     by-test true n = rw (ne-eqb (48 + n) 46 (λ (z : 48 + n ≡ 46). absurd (omega arith)))
     by-test false n = refl
-
-same-is : (s t : List ℕ) → same s t ≡ true → s ≡ t
-unfolding same
-same-is [] [] e = refl
-same-is [] (y ∷ t) e = untrue e
-same-is (x ∷ s) [] e = untrue e
-same-is (x ∷ s) (y ∷ t) e = rw (eqb-true x y (and-first (eqb x y) (same s t) e), same-is s t (and-second (eqb x y) (same s t) e))
 
 -- a digit
 fixed-cell : (above below : ℕ) → above < 15 → below < 15 → fixedName above below [] fixedNames ≡ getD ([] ∷ fixedTexts) (cellOf above below - 48) []

@@ -17,7 +17,7 @@ use Rattle.model.proofs.Walks.{every-at}
 use Rattle.model.proofs.Reading.{label-at}
 use Rattle.labels.specs.Cells.{fixedTexts}
 use Rattle.labels.specs.Padded.{pad, fieldWord, Begins}
-use Rattle.labels.proofs.Fields.{Bytes, Same, same-start}
+use Rattle.words.proofs.Same.{Bytes, Same, same-start}
 use Rattle.labels.proofs.Tables.{allBytes, spelling-more, spelling-stop, spelling-last, placing-past, placing-stop, placing-done}
 
 -- no text of a list is longer than a field

@@ -13,7 +13,7 @@ use borrow.Author.Tests.{leb-true, eqb-true, eqb-false}
 use Rattle.model.specs.Bytes.{le, same, spells, blank, placeFrom}
 use Rattle.model.proofs.Logic.{and-first, and-second}
 use Rattle.labels.specs.Padded.{pad, fieldWord}
-use Rattle.labels.proofs.Fields.{Bytes, Same, same-more-word, same-stop-word, same-done}
+use Rattle.words.proofs.Same.{Bytes, Same, same-more-word, same-stop-word, same-done}
 
 pub length-pad : (n : ℕ) (x : List ℕ) → length (pad n x) ≡ n
 length-pad zero x = refl

@@ -12,7 +12,6 @@ ghost use Rattle.model.specs.Values.{named, second};
 ghost use Rattle.labels.specs.Cells.{fixedTexts, cellOf};
 use super::roles;
 use super::roles::role_of;
-use super::texts::same_fields;
 use super::tree::is_child_as;
 use records::Record;
 
@@ -66,7 +65,7 @@ fn name_is(image: &[u8], at: usize, k: usize) -> bool
     requires { ⌜ (at + 32 ≤ length (now image)) × (k < 5) ⌝ }
     ensures { λ r. ⌜ r ≡ spells (take 32 (drop at (now (image .entry)))) (getD fixedTexts k []) ⌝ }
 {
-    same_fields(image, at, &FIXED_NAMES, 32 * k)
+    words::same_fields(image, at, &FIXED_NAMES, 32 * k)
 }
 
 // Rule 21: does node i have its fixed name, where it is to have one?

@@ -9,7 +9,6 @@ pub use containment::named;
 pub use containment::second;
 pub use roles::role_of;
 pub use texts::same_at;
-pub use texts::same_fields;
 pub use texts::spells_at;
 pub use tree::child;
 pub use tree::child_before;

@@ -2,11 +2,13 @@
 use Prim.Native.Nat.{ℕ, _≤_, _<_}
 use mathlib.Core.Path.{_≡_, refl}
 use mathlib.Core.Bool.{Bool, true, false, cond, _&&_, _||_}
+use mathlib.Core.List.{List, [], _∷_}
 use native.Mathlib.Omega.{arith}
-use lib.Dec.{leb}
+use lib.Dec.{leb, eqb}
 use mathlib.Core.Logic.{_⊎_, inl, inr}
-use borrow.Author.Tests.{leb-true, leb-false, le-leb}
+use borrow.Author.Tests.{leb-true, leb-false, le-leb, eqb-true}
 use Rattle.model.specs.Lists.{_⊃_}
+use Rattle.model.specs.Bytes.{same}
 
 pub untrue : {A : Type 0} → false ≡ true → A
 untrue e = let z : _≡_ {A = ℕ} 0 1 = cc in absurd (omega arith)
@@ -72,3 +74,14 @@ not-between lo x hi f = by-tests (leb lo x) refl (leb x hi) refl
 -- of two numbers neither is below the other
 pub neither : (a b : ℕ) → (a < b → ⊥) → (b < a → ⊥) → a ≡ b
 neither a b f g = omega arith
+
+-- two lists of bytes that are the same
+pub same-is : (s u : List ℕ) → same s u ≡ true → s ≡ u
+unfolding same
+same-is [] [] e = refl
+same-is [] (y ∷ u) e = untrue e
+same-is (x ∷ s) [] e = untrue e
+same-is (x ∷ s) (y ∷ u) e =
+    let p = eqb-true x y (and-first (eqb x y) (same s u) e) in
+    let q = same-is s u (and-second (eqb x y) (same s u) e) in
+    rw (p, q)

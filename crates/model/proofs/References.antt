@@ -15,7 +15,7 @@ use Rattle.model.specs.Containment.{role, Zone, Elements, isZone, valida
 use Rattle.model.specs.Values.{sidsRules, reads, structured, unstructured, zoneTypeOf, indexDimension, vertexSize, cellSize, unstructuredSizes, zoneValue, typeLawful, valueLawful, placed, connectivityOf}
 use Rattle.model.specs.Elements.{NGON, NFACE, elementType, firstElement, lastElement, inRange, meets, overlap, overlaps, reference, connectivityLength, isNode, allNodes, faceSection, hasFace, faceOf, faceNumber, isFace, allFaces, elementRules}
 use Rattle.model.specs.Validation.{imageCheck}
-use Rattle.model.proofs.Logic.{untrue, and-first, and-second, and-both, or-cases, when, neither}
+use Rattle.model.proofs.Logic.{same-is, untrue, and-first, and-second, and-both, or-cases, when, neither}
 use Rattle.model.proofs.Walks.{every-at, some-by, some-at}
 use Rattle.model.proofs.Accepted.{sids-rule}
 use Rattle.model.proofs.TwosComplement.{half-wide, signed-is, magnitude-is}
@@ -25,17 +25,6 @@ use Rattle.model.proofs.InZone.{InZone, parts, role-is, section-rule, c
 pub record InRange (t : Tree) (s f : ℕ) : Type 0 where
   pub from : firstElement t s ≤ f
   pub to : f ≤ lastElement t s
-
--- two lists of bytes that are the same
-same-is : (s u : List ℕ) → same s u ≡ true → s ≡ u
-unfolding same
-same-is [] [] e = refl
-same-is [] (y ∷ u) e = untrue e
-same-is (x ∷ s) [] e = untrue e
-same-is (x ∷ s) (y ∷ u) e =
-    let p = eqb-true x y (and-first (eqb x y) (same s u) e) in
-    let q = same-is s u (and-second (eqb x y) (same s u) e) in
-    rw (p, q)
 
 -- an unstructured zone is not structured, and has one index dimension
 one-direction : (t : Tree) (z : ℕ) → unstructured t z ≡ true → structured t z ≡ false

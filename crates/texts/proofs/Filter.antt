@@ -14,24 +14,13 @@ use Rattle.model.specs.Bytes.{same}
 use Rattle.model.specs.Image.{Tree, parent, name}
 use Rattle.model.specs.Records.{sibling, namesake, nameTaken}
 use Rattle.model.proofs.Walks.{someFrom-end}
-use Rattle.model.proofs.Logic.{untrue, and-first, and-second, or-right}
+use Rattle.model.proofs.Logic.{same-is, untrue, and-first, and-second, or-right}
 use Rattle.texts.specs.Keys.{nameKey, keyAt, placeOf, markOf, marked, withKey, met, Seen}
 use Rattle.texts.proofs.Laws.{some-from}
 
 pub key-small : (t : Tree) (i : ℕ) → keyAt t i < 4194304
 unfolding keyAt nameKey
 key-small t i = omega arith
-
--- texts that are the same are equal
-same-is : (s u : List ℕ) → same s u ≡ true → s ≡ u
-unfolding same
-same-is [] [] e = refl
-same-is [] (y ∷ u) e = untrue e
-same-is (x ∷ s) [] e = untrue e
-same-is (x ∷ s) (y ∷ u) e =
-    let f = and-first (eqb x y) _ e in
-    let g = and-second (eqb x y) _ e in
-    ap₂ _∷_ (eqb-true x y f) (same-is s u g)
 
 -- what a mark leaves of a place: a mark that was there, and its own
 module _ (x m : ℕ) where

@@ -108,41 +108,6 @@ no-zero-barred s = by-test (printable s) refl
     by-test false e = refl
     by-test true e = rw (no-zero s e) (and-true (not (eqb (getD s 0 32) 32)))
 
--- all of them are bytes
-abbrev Bytes : List ℕ → Type 0
-Bytes s = (i : ℕ) → getD s i 0 < 256
-
-byte-pair : (x y m n : ℕ) → x < 256 → y < 256 → eqb (x + 256 * m) (y + 256 * n) ≡ (eqb x y && eqb m n)
-byte-pair x y m n h l = by-test (eqb x y) (eqb m n) refl refl
-  where
-    by-test : (a b : Bool) → eqb x y ≡ a → eqb m n ≡ b → eqb (x + 256 * m) (y + 256 * n) ≡ (a && b)
-    by-test true true e f = let p = eqb-true x y e in let q = eqb-true m n f in eq-eqb (x + 256 * m) (y + 256 * n) (omega arith)
-    by-test true false e f = let p = eqb-true x y e in let q = eqb-false m n f in ne-eqb (x + 256 * m) (y + 256 * n) (λ (z : x + 256 * m ≡ y + 256 * n). q (omega arith))
-    by-test false b e f = let q = eqb-false x y e in ne-eqb (x + 256 * m) (y + 256 * n) (λ (z : x + 256 * m ≡ y + 256 * n). q (omega arith))
-
-and-assoc : (a b c : Bool) → ((a && b) && c) ≡ (a && (b && c))
-and-assoc true b c = refl
-and-assoc false b c = refl
-
--- two lists of bytes are the same where their first words are, and what comes after them
-same-word : (w : ℕ) (s t : List ℕ) → w ≤ length s → w ≤ length t → Bytes s → Bytes t → same s t ≡ (eqb (le w s) (le w t) && same (drop w s) (drop w t))
-unfolding same le
-same-word zero s t h l a b = refl
-same-word (suc w) [] t h l a b = absurd (omega arith)
-same-word (suc w) (x ∷ s) [] h l a b = absurd (omega arith)
-same-word (suc w) (x ∷ s) (y ∷ t) h l a b =
-    rw (byte-pair x y (le w s) (le w t) (a 0) (b 0), and-assoc (eqb x y) (eqb (le w s) (le w t)) (same (drop w s) (drop w t)))
-    (ap (λ (r : Bool). eqb x y && r) (same-word w s t (omega arith) (omega arith) (λ i. a (suc i)) (λ i. b (suc i))))
-
-bytes-take : (n : ℕ) (s : List ℕ) → Bytes s → Bytes (take n s)
-bytes-take zero s b i = omega arith
-bytes-take (suc n) [] b i = omega arith
-bytes-take (suc n) (x ∷ s) b zero = b 0
-bytes-take (suc n) (x ∷ s) b (suc i) = bytes-take n s (λ j. b (suc j)) i
-
-bytes-drop : (n : ℕ) (s : List ℕ) → Bytes s → Bytes (drop n s)
-bytes-drop n s b i = rw getD-drop (b (n + i))
-
 -- a number within the first n bytes
 le-within : (k w n : ℕ) (s : List ℕ) → k + w ≤ n → le w (drop k (take n s)) ≡ le w (drop k s)
 le-within zero w n s h = le-take w n s (omega arith)
@@ -153,32 +118,6 @@ le-within (suc k) w (suc n) (x ∷ s) h = le-within k w n s (omega arith)
 -- the word at byte k of a text, read in place
 pub word-of : (b : List ℕ) (at k : ℕ) → k + 8 ≤ 32 → le 8 (drop k (textAt b at)) ≡ le 8 (drop (at + k) b)
 word-of b at k h = le-within k 8 32 (drop at b) h ∙ ap (le 8) (drop-drop k at b)
-
--- two texts from word j on
-module _ (b : List ℕ) (p q : ℕ) (h : p + 32 ≤ length b) (m : q + 32 ≤ length b) where
-  pub same-end : (j : ℕ) → 4 ≤ j → same (drop (8 * j) (textAt b p)) (drop (8 * j) (textAt b q)) ≡ true
-  unfolding same
-  same-end j l =
-      rw (drop-of-length-le (textAt b p) {i = 8 * j} (rw (text-length b p h) (omega arith)), drop-of-length-le (textAt b q) {i = 8 * j} (rw (text-length b q m) (omega arith)))
-
-  module _ (f : Bytes b) (j : ℕ) (l : j < 4) where
-    word-step : same (drop (8 * j) (textAt b p)) (drop (8 * j) (textAt b q))
-        ≡ (eqb (le 8 (drop (p + 8 * j) b)) (le 8 (drop (q + 8 * j) b)) && same (drop (8 * (j + 1)) (textAt b p)) (drop (8 * (j + 1)) (textAt b q)))
-    word-step =
-        let s = drop (8 * j) (textAt b p) in
-        let t = drop (8 * j) (textAt b q) in
-        let e : 8 * j + 8 ≡ 8 * (j + 1) = omega arith in
-        let x : 8 ≤ length s = rw (length-drop, text-length b p h) (omega arith) in
-        let y : 8 ≤ length t = rw (length-drop, text-length b q m) (omega arith) in
-        same-word 8 s t x y (bytes-drop (8 * j) (textAt b p) (bytes-take 32 (drop p b) (bytes-drop p b f))) (bytes-drop (8 * j) (textAt b q) (bytes-take 32 (drop q b) (bytes-drop q b f)))
-        ∙ rw (word-of b p (8 * j) (omega arith), word-of b q (8 * j) (omega arith), drop-drop 8 (8 * j) (textAt b p), drop-drop 8 (8 * j) (textAt b q), e)
-
-    pub words-on : le 8 (drop (p + 8 * j) b) ≡ le 8 (drop (q + 8 * j) b)
-        → same (drop (8 * (j + 1)) (textAt b p)) (drop (8 * (j + 1)) (textAt b q)) ≡ same (drop (8 * j) (textAt b p)) (drop (8 * j) (textAt b q))
-    words-on e = rw (word-step, eq-eqb _ _ e)
-
-    pub words-off : (le 8 (drop (p + 8 * j) b) ≡ le 8 (drop (q + 8 * j) b) → ⊥) → same (drop (8 * j) (textAt b p)) (drop (8 * j) (textAt b q)) ≡ false
-    words-off n = rw (word-step, ne-eqb _ _ n)
 
 -- a search that ends at i, one that goes on, one that is at its end
 module _ (p : ℕ → Bool) (n i : ℕ) where

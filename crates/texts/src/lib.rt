@@ -83,21 +83,6 @@ pub fn label_lawful(image: &[u8], i: usize) -> bool
     is_text(image, Record::at(i) + Record::LABEL, 0)
 }
 
-// Whether the texts from p and from q are the same. It leaves off at the first word that differs.
-fn same_texts(image: &[u8], p: usize, q: usize) -> bool
-    requires { ⌜ (p + 32 ≤ length (now image)) × (q + 32 ≤ length (now image)) ⌝ }
-    ensures { λ r. ⌜ r ≡ same (textAt (now (image .entry)) p) (textAt (now (image .entry)) q) ⌝ }
-{
-    let mut j: usize = 0;
-    while j < 4 {
-        if words::u64_at(image, p + 8 * j) != words::u64_at(image, q + 8 * j) {
-            return false;
-        }
-        j += 1;
-    }
-    true
-}
-
 // Whether node j has the parent `up` of node i, and its name.
 fn is_namesake(image: &[u8], i: usize, up: usize, j: usize) -> bool
     requires { ⌜ Laid (now image) × (i < nodeCount (now image)) ⌝ }
@@ -107,9 +92,10 @@ fn is_namesake(image: &[u8], i: usize, up: usize, j: usize) -> bool
     if records::parent_of(image, j) != up {
         return false;
     }
-    same_texts(
+    words::same_fields(
         image,
         Record::at(j) + Record::NAME,
+        image,
         Record::at(i) + Record::NAME,
     )
 }

@@ -19,7 +19,7 @@ use Rattle.model.proofs.Logic.{and-second}
 use Rattle.model.proofs.Accepted.{record-rule}
 use Rattle.words.specs.Width.{isWidth}
 use Rattle.types.specs.Given.{Has}
-use Rattle.types.proofs.Same.{same-is}
+use Rattle.model.proofs.Logic.{same-is}
 
 numbers-length : (w n : ℕ) (s : List ℕ) → length (numbers w n s) ≡ n
 unfolding numbers

@@ -11,14 +11,6 @@ use borrow.Author.Tests.{eqb-true, eq-eqb, ne-eqb}
 use Rattle.model.specs.Bytes.{same}
 use Rattle.model.proofs.Logic.{and-first, and-second, untrue}
 
-pub same-is : (s u : List ℕ) → same s u ≡ true → s ≡ u
-unfolding same
-same-is [] [] e = refl
-same-is [] (y ∷ u) e = untrue e
-same-is (x ∷ s) [] e = untrue e
-same-is (x ∷ s) (y ∷ u) e =
-    rw (eqb-true x y (and-first (eqb x y) (same s u) e), same-is s u (and-second (eqb x y) (same s u) e))
-
 -- lists of two lengths differ
 pub same-not : (s u : List ℕ) → (length s ≡ length u → ⊥) → same s u ≡ false
 unfolding same

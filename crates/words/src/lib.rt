@@ -3,8 +3,8 @@ ghost use mathlib.Core.Path.{_≡_};
 ghost use Prim.Native.Nat.{_+_, _*_, _^_, _≤_, _<_};
 ghost use lib.Dec.{T};
 ghost use lib.IntN.{natAbs};
-ghost use lib.ListN.{length, getD, drop};
-ghost use Rattle.model.specs.Bytes.{le, half, signed};
+ghost use lib.ListN.{length, getD, take, drop};
+ghost use Rattle.model.specs.Bytes.{le, half, signed, same};
 ghost use Rattle.words.specs.Width.{isWidth, twos};
 
 // One byte, widened: its bound comes with it.
@@ -49,6 +49,21 @@ pub fn u64_at(s: &[u8], at: usize) -> u64
     ensures { λ r. ⌜ r ≡ le 8 (drop at (now (s .entry))) ⌝ }
 {
     word_at(s, at, 8)
+}
+
+// Do two fields of 32 bytes hold the same bytes? It leaves off at the first word that differs.
+pub fn same_fields(a: &[u8], p: usize, b: &[u8], q: usize) -> bool
+    requires { ⌜ (p + 32 ≤ length (now a)) × (q + 32 ≤ length (now b)) ⌝ }
+    ensures { λ r. ⌜ r ≡ same (take 32 (drop p (now (a .entry)))) (take 32 (drop q (now (b .entry)))) ⌝ }
+{
+    let mut j = 0;
+    while j < 4 {
+        if u64_at(a, p + 8 * j) != u64_at(b, q + 8 * j) {
+            return false;
+        }
+        j += 1;
+    }
+    true
 }
 
 // The two's-complement number whose bits are x, where half of the patterns are below `half`.

@@ -30,7 +30,7 @@ returns-2 c =
     let q : c .before .at2 .result + 0 ≡ recordAt (d .args .i) = omega arith in
     let s = sym (g .before .parent-of .ensures .0) ∙ g .if1 .left ∙ d .pre .1 .0 in
     rw (eq-eqb (parent t (d .args .j)) (parent t (d .args .i)) s, name-at b (d .args .j) k, name-at b (d .args .i) h)
-    (rw (p, q) at (c .same-texts .ensures))
+    (rw (p, q) at (c .same-fields .ensures))
 
 pub is-namesake-spec : {M : Type 1} → statement M
 is-namesake-spec =

@@ -3,7 +3,8 @@ use Prim.Native.Nat.{_-_}
 use mathlib.Core.Path.{_≡_, sym, _∙_}
 use lib.ListN.{take, drop, replicate, length-replicate, length-drop}
 use lib.Seq.{length-take-le}
-use Rattle.labels.proofs.Fields.{Same, same-start, same-more, same-stop, same-done, blank-at, blank-same}
+use Rattle.words.proofs.Same.{Same, same-start, same-more, same-stop, same-done}
+use Rattle.labels.proofs.Fields.{blank-at, blank-same}
 use native.Mathlib.Omega.{arith}
 use borrow.Author.Needs.{needs}
 use Rattle.labels.proofs.texts.blank_at.Statement.{statement}

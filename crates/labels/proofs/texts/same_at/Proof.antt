@@ -2,7 +2,8 @@
 use native.Mathlib.Nat.{zero-add}
 use Prim.Native.Nat.{_-_}
 use mathlib.Core.Path.{_≡_, sym, _∙_}
-use Rattle.labels.proofs.Fields.{Same, same-start, same-more, same-stop, same-done, same-long, same-text}
+use Rattle.words.proofs.Same.{Same, same-start, same-more, same-stop, same-done}
+use Rattle.labels.proofs.Fields.{same-long, same-text}
 use native.Mathlib.Omega.{arith}
 use borrow.Author.Needs.{needs}
 use Rattle.labels.proofs.texts.same_at.Statement.{statement}

@@ -1,11 +1,11 @@
 -- Word by word: what is left gives the whole.
 use Prim.Native.Nat.{_+_, _*_, _-_}
 use mathlib.Core.Path.{_≡_, sym, _∙_}
-use Rattle.labels.proofs.Fields.{Same, same-start, same-more-word, same-stop-word, same-done}
+use Rattle.words.proofs.Same.{Same, same-start, same-more-word, same-stop-word, same-done}
 use native.Mathlib.Omega.{arith}
 use borrow.Author.Needs.{needs}
-use Rattle.labels.proofs.texts.same_fields.Statement.{statement}
-use Rattle.labels.proofs.texts.same_fields.Tie as tie
+use Rattle.words.proofs.same_fields.Statement.{statement}
+use Rattle.words.proofs.same_fields.Tie as tie
 
 abbrev Inv-loop : tie.InvT-loop
 Inv-loop a p b q j₀ j = Same 32 a p b q (8 * j)
