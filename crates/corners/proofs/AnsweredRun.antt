@@ -1,20 +1,18 @@
 -- What the runner wrote is a run of its list of reads, so demand 3 holds of it.
 use Prim.Native.Nat.{ℕ, zero, suc, _+_, _≤_, _<_}
-use mathlib.Core.Path.{_≡_, refl, sym, ap, _∙_}
+use mathlib.Core.Path.{_≡_, refl}
 use mathlib.Core.Bool.{Bool, true, false}
 use mathlib.Core.List.{List, [], _∷_}
 use native.Mathlib.Omega.{arith}
-use lib.Dec.{ltb}
 use lib.ListN.{getD}
 use lib.IntN.{ℤ, pos}
-use Rattle.model.specs.declared.Section.{Section}
-use Rattle.model.specs.Rules.{Answer, rejected, answer, _unless_, check, _then_, _gives_}
+use Rattle.model.specs.Rules.{Answer, answer, _unless_, check, _then_, _gives_}
 use Rattle.model.specs.Image.{treeOf}
 use Rattle.model.specs.Containment.{isZone}
 use Rattle.model.specs.Validation.{Counts, validation}
-use Rattle.model.specs.Corner.{inEntry, readable, isCorner, cornerCheck, cornerNumber, cornerAnswer}
+use Rattle.model.specs.Corner.{cornerCheck, cornerAnswer}
 use Rattle.model.specs.Answers.{cornerTells}
-use Rattle.model.specs.Reads.{readAnswer, ReadState, Request, ReadMade, IsRead, ReadRun, done, next, AllOf}
+use Rattle.model.specs.Reads.{readAnswer, ReadState, IsRead, ReadRun, done, next, AllOf}
 use Rattle.model.specs.ReadList.{requestsIn, requestAt, answerAt, ruleOf, numberOf, valuesFrom, ReadsAnswered}
 use Rattle.model.specs.Demand3.{given, Listed, ReadHolds}
 use Rattle.model.proofs.Demand3.{demand3}

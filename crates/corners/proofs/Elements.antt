@@ -1,7 +1,7 @@
 -- All corners of an element, by what was found on the way: 41, 43, 46 and the numbers; and that the corner reader answers each of them.
 use Prim.Native.Nat.{ℕ, suc, _+_, _-_, _≤_, _<_}
 use mathlib.Core.Path.{_≡_, refl, sym, ap, _∙_}
-use mathlib.Core.Bool.{Bool, true, false, _&&_, and-false}
+use mathlib.Core.Bool.{Bool, true, false, and-false}
 use mathlib.Core.List.{List, [], _∷_}
 use native.Mathlib.Omega.{arith}
 use lib.Dec.{leb}
@@ -11,7 +11,7 @@ use borrow.Author.Tests.{le-leb, lt-leb}
 use Rattle.model.specs.declared.Section.{Section}
 use Rattle.model.specs.Lists.{over}
 use Rattle.model.specs.Bytes.{signed}
-use Rattle.model.specs.Rules.{rejected, rejection, Answer, answer, Check, passed, _unless_, check, _then_, _gives_, leaves}
+use Rattle.model.specs.Rules.{rejected, rejection, answer, Check, passed, _unless_, check, _then_, _gives_, leaves}
 use Rattle.model.specs.Corner.{inEntry, numberAt, entryStart, entrySize, readable, isCorner, cornerCheck, cornerNumber, cornerAnswer}
 use Rattle.model.specs.ReadList.{valuesFrom}
 use Rattle.model.specs.ElementCorners.{elementCornersCheck, elementCornersAnswer, elementCornersMemory}

@@ -1,14 +1,12 @@
 -- The reader's answer by what was found on the way: 41, 43, 42 and the number.
 use Prim.Native.Nat.{ℕ, suc, _-_, _≤_, _<_}
-use mathlib.Core.Path.{_≡_, refl, sym, _∙_}
-use mathlib.Core.Bool.{Bool, true, false, _&&_, and-false}
+use mathlib.Core.Path.{_≡_, refl}
+use mathlib.Core.Bool.{Bool, true, false, and-false}
 use mathlib.Core.List.{List}
 use native.Mathlib.Omega.{arith}
-use lib.Dec.{leb}
-use lib.IntN.{ℤ}
 use borrow.Author.Tests.{le-leb, lt-leb}
 use Rattle.model.specs.declared.Section.{Section}
-use Rattle.model.specs.Rules.{rejected, rejection, Answer, check, _then_, _gives_}
+use Rattle.model.specs.Rules.{rejected, rejection, check, _then_, _gives_}
 use Rattle.model.specs.Corner.{inEntry, entryStart, entrySize, readable, isCorner, cornerCheck, cornerNumber, cornerAnswer}
 use Rattle.corners.specs.declared.spans.Span.{Span}
 use Rattle.corners.specs.declared.spans.Span.the-variants as Span

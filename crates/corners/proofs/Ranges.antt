@@ -1,17 +1,17 @@
 -- An element's range: by a product with no overflow, by its start offsets, and that both make what the model reads.
-use Prim.Native.Nat.{ℕ, zero, suc, _+_, _*_, _-_, _/_, _^_, _≤_, _<_}
-use mathlib.Core.Path.{_≡_, refl, sym, ap, _∙_}
+use Prim.Native.Nat.{ℕ, suc, _+_, _*_, _-_, _/_, _^_, _≤_, _<_}
+use mathlib.Core.Path.{_≡_, refl}
 use mathlib.Core.Bool.{Bool, true, false, cond, not, _&&_, _||_, or-true}
 use mathlib.Core.List.{List}
 use native.Mathlib.Omega.{arith}
 use native.Mathlib.Nat.{mul-le-mul-left, mul-le-mul-right, suc-mul, add-mul, mul-assoc}
 use lib.Dec.{leb, ltb}
-use borrow.Author.Tests.{lt-ltb, le-ltb, le-leb, lt-leb, ltb-true}
+use borrow.Author.Tests.{lt-ltb, le-ltb, le-leb, lt-leb}
 use Rattle.model.specs.declared.Section.{Section}
 use Rattle.model.specs.Lists.{_⊃_}
 use Rattle.model.specs.Bytes.{half, negative, below}
 use Rattle.model.specs.Elements.{hasOffsets, nodesPer, taken}
-use Rattle.model.specs.Corner.{inside, numberAt, entryStart, startsBefore, readable}
+use Rattle.model.specs.Corner.{inside, entryStart, startsBefore, readable}
 use Rattle.corners.specs.declared.spans.Span.{Span}
 use Rattle.corners.specs.declared.spans.Span.the-variants as Span
 use Rattle.corners.specs.Spans.{provided, fixedSpan, rangeBetween, offsetSpan, spanOf, SpanIn, SpanInside}

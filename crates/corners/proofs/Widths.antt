@@ -1,14 +1,13 @@
 -- Rows of numbers inside the image, over the width.
-use Prim.Native.Nat.{ℕ, zero, suc, _+_, _*_, _-_, _/_, _^_, _≤_, _<_}
-use mathlib.Core.Path.{_≡_, refl, sym, subst, _∙_}
+use Prim.Native.Nat.{ℕ, suc, _+_, _*_, _-_, _/_, _^_, _≤_, _<_}
+use mathlib.Core.Path.{_≡_, refl, sym, subst}
 use mathlib.Core.Bool.{Bool, true, false, _&&_, _||_}
 use mathlib.Core.List.{List}
 use native.Mathlib.Omega.{arith}
-use native.Mathlib.Nat.{mul-le-mul-left, le-div-iff-mul-le, mul-comm, mul-suc, mul-add}
+use native.Mathlib.Nat.{mul-le-mul-left, le-div-iff-mul-le, mul-comm, mul-suc}
 use lib.Dec.{T, leb, eqb}
 use lib.ListN.{length}
 use borrow.Author.Tests.{le-leb, lt-leb, leb-true, leb-false, eqb-true}
-use Rattle.model.specs.Bytes.{half}
 use Rattle.model.specs.Corner.{widthLawful, inside}
 use Rattle.model.proofs.Logic.{and-both, and-first, and-second}
 use Rattle.words.specs.Width.{isWidth}

@@ -5,13 +5,13 @@ use mathlib.Core.Bool.{Bool, true, false, cond, _&&_}
 use mathlib.Core.List.{List, [], _∷_}
 use native.Mathlib.Omega.{arith}
 use lib.Dec.{eqb, leb}
-use borrow.Author.Tests.{eqb-true, leb-true}
+use borrow.Author.Tests.{leb-true}
 use Rattle.model.specs.Lists.{seekFrom, sumBefore}
 use Rattle.model.specs.Image.{treeOf, nodeCount, number, I4}
 use Rattle.model.specs.Given.{Accepted}
-use Rattle.model.specs.Containment.{sectionOf, role, Elements, found}
-use Rattle.model.specs.Values.{sidsRules, typed, shaped, typeLawful, valueLawful, rangeOf}
-use Rattle.model.specs.Elements.{NGON, NFACE, elementType, firstElement, lastElement, elementCount, inRange, faceSection, hasFace}
+use Rattle.model.specs.Containment.{sectionOf, found}
+use Rattle.model.specs.Values.{sidsRules, typed, typeLawful, valueLawful, rangeOf}
+use Rattle.model.specs.Elements.{NGON, elementType, firstElement, lastElement, elementCount, inRange, faceSection, hasFace}
 use Rattle.model.specs.FaceUsage.{facesIn, faceCount, facePlace, usesIn}
 use Rattle.model.proofs.Logic.{and-first, and-second}
 use Rattle.model.proofs.Walks.{seek-holds, seek-before, sum-part}

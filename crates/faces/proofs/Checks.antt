@@ -1,14 +1,13 @@
 -- The refusals of face usage, in their order: the verdict's, 40, 44.
 use Prim.Native.Nat.{ℕ, _≤_, _<_}
-use mathlib.Core.Path.{_≡_, refl, sym, ap, _∙_}
-use mathlib.Core.Bool.{Bool, true, false}
-use mathlib.Core.List.{List, [], _∷_}
+use mathlib.Core.Path.{_≡_, refl, _∙_}
+use mathlib.Core.Bool.{true, false}
+use mathlib.Core.List.{List, []}
 use lib.ListN.{length}
-use lib.Dec.{leb}
 use borrow.Author.Tests.{le-leb, lt-leb}
 use Rattle.model.specs.declared.Rejection.{Rejection}
 use Rattle.model.specs.Lists.{over}
-use Rattle.model.specs.Rules.{Answer, rejected, answer, rejection, passed, _unless_, check, _then_, _into_, leaves}
+use Rattle.model.specs.Rules.{rejected, answer, rejection, passed, check, _then_, _into_, leaves}
 use Rattle.model.specs.Image.{treeOf}
 use Rattle.model.specs.Given.{Accepted}
 use Rattle.model.specs.Containment.{isZone}

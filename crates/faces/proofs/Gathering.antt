@@ -1,13 +1,13 @@
 -- The ranges of a zone's faces: none yet, one node more, all of them.
-use Prim.Native.Nat.{ℕ, zero, suc, _+_, _-_, _≤_, _<_}
+use Prim.Native.Nat.{ℕ, _+_, _-_, _≤_, _<_}
 use mathlib.Core.Path.{_≡_, refl, sym, ap, subst, _∙_}
-use mathlib.Core.Bool.{Bool, true, false, cond, _&&_, _||_}
+use mathlib.Core.Bool.{Bool, true, false, cond, _&&_}
 use mathlib.Core.List.{List}
 use native.Mathlib.Omega.{arith}
 use native.Mathlib.Decide.{ℕ-discrete}
 use native.Mathlib.Nat.{zero-add}
 use native.Mathlib.Numerals.{add-one}
-use lib.Dec.{leb, ltb, eqb}
+use lib.Dec.{leb, ltb}
 use lib.ListN.{length, getD, set}
 use lib.Seq.{getD-set-same, getD-set-other}
 use borrow.Author.Tests.{ltb-true, eqb-true, leb-false, le-leb}
@@ -22,7 +22,7 @@ use Rattle.elements.specs.Arrays.{holds, inRanges}
 use Rattle.elements.proofs.Seeks.{range-sought}
 use Rattle.elements.proofs.Pushes.{some-last, put-behind, put-longer}
 use Rattle.faces.specs.Ranges.{Ranges, placeBy, follows, Ends, Pushed}
-use Rattle.faces.proofs.Accepted.{face-section-is, faces-are, place-is, few-faces, no-face-section, sum-none, sum-bounded}
+use Rattle.faces.proofs.Accepted.{faces-are, place-is, few-faces, no-face-section, sum-none, sum-bounded}
 
 -- where the last range ends
 ends-by : (firsts lasts bases : List ℕ) (k n : ℕ) → n - 1 ≡ k → getD firsts k 0 ≤ getD lasts k 0 → getD bases k 0 + (getD lasts k 0 - getD firsts k 0 + 1) ≡ getD bases n 0

@@ -1,15 +1,14 @@
 -- One byte of the bytes that are lent, a sign's bit; and one start offset.
-use Prim.Native.Nat.{ℕ, zero, suc, _+_, _/_, _%_, _≤_, _<_}
-use mathlib.Core.Path.{_≡_, refl, sym, _∙_}
-use mathlib.Core.Bool.{Bool, true, false, cond}
+use Prim.Native.Nat.{ℕ, _+_, _/_, _%_, _≤_, _<_}
+use mathlib.Core.Path.{_≡_}
+use mathlib.Core.Bool.{true, false}
 use mathlib.Core.List.{List}
 use native.Mathlib.Omega.{arith}
 use native.Mathlib.Numerals.{add-one}
-use lib.Dec.{eqb}
 use borrow.Author.Tests.{eqb-true, lt-ltb, le-ltb}
 use Rattle.model.specs.Corner.{numberAt}
 use Rattle.model.specs.FaceUsage.{unused}
-use Rattle.faces.specs.Uses.{signOf, endsAfterAt}
+use Rattle.faces.specs.Uses.{endsAfterAt}
 
 -- a free bit leaves room for it
 pub forward-room : (x : ℕ) → x < 256 → unused 1 x ≡ true → x + 1 < 256

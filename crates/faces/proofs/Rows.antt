@@ -1,18 +1,18 @@
 -- The arrays of a cell section of an accepted image: its start offsets and its connectivity.
 use Prim.Native.Nat.{ℕ, zero, suc, _+_, _-_, _≤_, _<_}
 use mathlib.Core.Path.{_≡_, refl, sym, ap, subst, _∙_}
-use mathlib.Core.Bool.{Bool, true, false, cond, _&&_}
-use mathlib.Core.List.{List, [], _∷_}
+use mathlib.Core.Bool.{Bool, true, _&&_}
+use mathlib.Core.List.{List}
 use native.Mathlib.Omega.{arith}
-use lib.ListN.{length, getD}
-use lib.Dec.{eqb, ltb}
+use lib.ListN.{getD}
+use lib.Dec.{eqb}
 use borrow.Author.Tests.{eqb-true, lt-ltb}
 use Rattle.model.specs.Lists.{seekFrom}
 use Rattle.model.specs.Image.{treeOf, nodeCount, wordCount, node, dimensions, dataType, width, widths, number}
 use Rattle.model.specs.Given.{Sound, Accepted}
 use Rattle.model.specs.Containment.{role, found, sectionOf, Elements}
 use Rattle.model.specs.Values.{flat, size, offsetsOf, connectivityOf}
-use Rattle.model.specs.Elements.{NFACE, hasOffsets, elementType, firstElement, lastElement, elementCount, startOffset, elementStart, connectivityLength, reference, faceOf, faceNumber, isFace, allFaces, elementRules}
+use Rattle.model.specs.Elements.{NFACE, hasOffsets, elementType, firstElement, elementCount, startOffset, elementStart, connectivityLength, reference, faceOf, faceNumber, isFace, allFaces, elementRules}
 use Rattle.model.specs.Corner.{numberAt}
 use Rattle.model.specs.FaceUsage.{endsAfter, elementHolding}
 use Rattle.model.proofs.Logic.{and-first, and-second, when}

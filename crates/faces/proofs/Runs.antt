@@ -1,12 +1,11 @@
 -- Runs of uses: one use, the rest of a section's entries, the rest of a zone's nodes.
 use Prim.Native.Nat.{ℕ, zero, suc, _+_, _-_, _≤_, _<_}
-use mathlib.Core.Path.{_≡_, refl, sym, ap, subst, _∙_}
+use mathlib.Core.Path.{_≡_, refl, sym, ap, _∙_}
 use mathlib.Core.Bool.{Bool, true, false, cond, _&&_}
 use mathlib.Core.List.{List}
 use native.Mathlib.Omega.{arith}
-use native.Mathlib.Nat.{zero-add}
 use native.Mathlib.Numerals.{add-one}
-use lib.ListN.{length, getD, set, drop, length-set}
+use lib.ListN.{length, getD, set, drop}
 use lib.Seq.{drop-set-lt}
 use lib.Dec.{leb, eqb}
 use borrow.Author.Tests.{leb-true}
@@ -20,10 +19,9 @@ use Rattle.model.specs.Given.{Accepted}
 use Rattle.model.specs.Containment.{sectionOf}
 use Rattle.model.specs.Elements.{NFACE, elementType, connectivityLength, faceOf, faceNumber}
 use Rattle.model.specs.Corner.{numberAt}
-use Rattle.model.specs.FaceUsage.{faceCount, facePlace, unused, elementHolding, usePlace, useSign, useEntry, useEntries, usesIn, useNodes}
+use Rattle.model.specs.FaceUsage.{facePlace, unused, elementHolding, usePlace, useSign, useEntry, useEntries, usesIn, useNodes}
 use Rattle.model.proofs.Logic.{and-first}
 use Rattle.elements.specs.Arrays.{holds}
-use Rattle.faces.specs.Ranges.{Ranges, placeBy}
 use Rattle.faces.specs.Uses.{signOf, afterUse, UsedAt, used, Used, References}
 use Rattle.faces.proofs.Accepted.{no-uses}
 

@@ -1,12 +1,12 @@
 -- The way up from a node to the root, as a loop takes it.
-use Prim.Native.Nat.{ℕ, zero, suc, _+_, _≤_, _<_}
-use mathlib.Core.Path.{_≡_, refl, ap, sym, _∙_}
+use Prim.Native.Nat.{ℕ, _≤_, _<_}
+use mathlib.Core.Path.{_≡_, refl, sym, _∙_}
 use mathlib.Core.Bool.{Bool, true, false, not, _&&_}
 use mathlib.Core.List.{List}
 use native.Mathlib.Omega.{arith}
 use lib.Dec.{eqb, ltb}
-use borrow.Author.Tests.{ne-eqb, eq-eqb, le-ltb, lt-ltb}
-use Rattle.model.specs.Image.{Tree, treeOf, nodeCount, parent}
+use borrow.Author.Tests.{ne-eqb, eq-eqb, lt-ltb}
+use Rattle.model.specs.Image.{treeOf, nodeCount, parent}
 use Rattle.model.specs.Containment.{role, validated, UserDefinedData}
 use Rattle.model.specs.Given.{Sound}
 use Rattle.model.proofs.Parents.{parent-lower, lawful-at}

@@ -1,16 +1,14 @@
 -- Laws of the comparison of bytes: word by word, and against a padded text.
-use Prim.Native.Nat.{ℕ, zero, suc, _+_, _*_, _-_, _≤_, _<_}
+use Prim.Native.Nat.{ℕ, zero, suc, _+_, _-_, _≤_, _<_}
 use mathlib.Core.Path.{_≡_, refl, ap, sym, _∙_}
-use mathlib.Core.Bool.{Bool, true, false, cond, _&&_, and-assoc}
-use mathlib.Core.List.{List, [], _∷_, _++_}
+use mathlib.Core.Bool.{Bool, true, false, _&&_, and-assoc}
+use mathlib.Core.List.{List, [], _∷_}
 use native.Mathlib.Omega.{arith}
-use native.Mathlib.Nat.{add-zero, zero-add, suc-add}
-use native.Mathlib.Numerals.{add-one}
+use native.Mathlib.Nat.{zero-add}
 use lib.Dec.{eqb}
-use lib.ListN.{length, getD, take, drop, replicate, length-take, length-drop, getD-replicate}
-use lib.Seq.{drop-drop, drop-cons, length-take-le, getD-drop, take-nil, take-length, take-take}
-use borrow.Author.Tests.{eqb-true, eqb-false, eq-eqb, ne-eqb}
-use Rattle.model.specs.Bytes.{le, same, spells, blank, placeFrom}
+use lib.ListN.{length, getD, take, drop, replicate, length-drop, getD-replicate}
+use lib.Seq.{drop-drop, length-take-le, take-length, take-take}
+use Rattle.model.specs.Bytes.{same, spells, blank}
 use Rattle.words.proofs.Same.{drop-take}
 
 -- texts of different lengths

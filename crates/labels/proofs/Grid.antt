@@ -1,13 +1,13 @@
 -- The table of cells: what a cell tells of the placing table and of the fixed names.
 use Prim.Native.Nat.{ℕ, zero, suc, _+_, _*_, _-_, _/_, _%_, _≤_, _<_}
 use mathlib.Core.Path.{_≡_, refl, ap, sym, _∙_}
-use mathlib.Core.Bool.{Bool, true, false, cond, not, _&&_, _||_}
+use mathlib.Core.Bool.{Bool, true, false, cond, not, _&&_}
 use mathlib.Core.List.{List, [], _∷_}
 use native.Mathlib.Omega.{arith}
 use native.Mathlib.Nat.{add-zero, zero-add}
 use lib.Dec.{eqb, leb}
-use lib.ListN.{length, getD}
-use borrow.Author.Tests.{ne-eqb, eq-eqb, eqb-true, leb-true}
+use lib.ListN.{getD}
+use borrow.Author.Tests.{ne-eqb, eq-eqb, leb-true}
 use Rattle.model.specs.Lists.{everyFrom, among, row}
 use Rattle.model.specs.Bytes.{same, spells, blank, text, placeFrom}
 use Rattle.model.specs.Containment.{mayHold, containment, Named, _holds_called_, fixedName, fixedNames}

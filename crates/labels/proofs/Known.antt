@@ -2,7 +2,7 @@
 use Prim.Native.Nat.{ℕ, zero, suc, _+_, _*_, _≤_, _<_}
 use mathlib.Core.Path.{_≡_, refl, ap, sym, _∙_}
 use mathlib.Core.Bool.{Bool, true, false, not, _||_}
-use mathlib.Core.List.{List, [], _∷_}
+use mathlib.Core.List.{List, []}
 use native.Mathlib.Omega.{arith}
 use native.Mathlib.Nat.{add-zero}
 use native.Mathlib.Decide.{ℕ-discrete}
@@ -10,8 +10,8 @@ use lib.Dec.{eqb, leb}
 use lib.ListN.{length, getD, take, drop}
 use borrow.Author.Tests.{eq-eqb, ne-eqb, eqb-true, leb-true}
 use Rattle.model.specs.Bytes.{le, spells, text, placeFrom}
-use Rattle.model.specs.Image.{treeOf, nodeCount, recordAt, label}
-use Rattle.model.specs.Containment.{role, Root, knownLabels}
+use Rattle.model.specs.Image.{treeOf, nodeCount, recordAt}
+use Rattle.model.specs.Containment.{role, knownLabels}
 use Rattle.model.specs.Lists.{everyFrom}
 use Rattle.model.proofs.Walks.{every-at}
 use Rattle.model.proofs.Reading.{label-at}

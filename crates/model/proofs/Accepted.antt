@@ -1,11 +1,11 @@
 -- What rules 1 to 18 passed, and what an acceptance say: each rule, asked for by its number, holds at each node.
-use Prim.Native.Nat.{ℕ, zero, suc, _+_, _≤_, _<_}
-use mathlib.Core.Path.{_≡_, refl}
-use mathlib.Core.Bool.{Bool, true, false}
-use mathlib.Core.List.{List, [], _++_}
+use Prim.Native.Nat.{ℕ, _<_}
+use mathlib.Core.Path.{_≡_}
+use mathlib.Core.Bool.{true}
+use mathlib.Core.List.{List}
 use native.Mathlib.Omega.{arith}
 use lib.Dec.{eqb}
-use Rattle.model.specs.Rules.{Answer, answer, passed, _then_}
+use Rattle.model.specs.Rules.{answer, passed, _then_}
 use Rattle.model.specs.Image.{treeOf, nodeCount}
 use Rattle.model.specs.Header.{headerCheck, headerRules}
 use Rattle.model.specs.Records.{recordCheckAt, recordRules, recordCheck, trailingCheck, tableCheck, nothingTrails}

@@ -1,20 +1,19 @@
 -- What rules 1 to 6 buy: the bounds that readers need. What rules 15 and 17 add at a node.
-use Prim.Native.Nat.{ℕ, _+_, _*_, _≤_, _<_}
-use mathlib.Core.Path.{_≡_, refl, sym, _∙_}
-use mathlib.Core.Bool.{Bool, true, _&&_}
+use Prim.Native.Nat.{ℕ, _+_, _*_, _<_}
+use mathlib.Core.Path.{_≡_, _∙_}
+use mathlib.Core.Bool.{Bool, _&&_}
 use mathlib.Core.List.{List}
-use native.Mathlib.Omega.{arith}
 use lib.ListN.{length}
 use lib.Dec.{eqb, leb}
 use borrow.Author.Tests.{leb-true, eqb-true}
-use Rattle.model.specs.Rules.{passed, _then_}
-use Rattle.model.specs.Image.{totalLength, nodeCount, recordOffset, dimensionOffset, wordCount, dataOffset, dataLength, treeOf, node}
+use Rattle.model.specs.Rules.{passed}
+use Rattle.model.specs.Image.{nodeCount, recordOffset, dimensionOffset, wordCount, dataOffset, treeOf, node}
 use Rattle.model.specs.Header.{headerCheck, headerRules, lengthLawful, nodeCountLawful, laidOut}
 use Rattle.model.specs.Bounds.{Laid, Placed}
 use Rattle.model.specs.Given.{Sound}
 use Rattle.model.specs.Records.{tableCheck, recordRules, wordsLawful, dataAtLawful, wordsBefore, bytesBefore}
 use Rattle.model.proofs.Logic.{and-first, and-second}
-use Rattle.model.proofs.Passed.{Hold, check-pass, then-first}
+use Rattle.model.proofs.Passed.{Hold, check-pass}
 use Rattle.model.proofs.Accepted.{header-holds, record-holds}
 
 laid-by : (b : List ℕ) → Hold (headerRules b) → Laid b

@@ -2,8 +2,8 @@
 use Prim.Native.Nat.{ℕ}
 use Prim.Native.String.{String}
 use mathlib.Core.Path.{_≡_, refl}
-use mathlib.Core.List.{List, [], _∷_, _++_}
-use lib.ListN.{length, take, replicate}
+use mathlib.Core.List.{List, [], _∷_}
+use lib.ListN.{length, replicate}
 use Rattle.model.specs.Bytes.{text, numbers}
 use Rattle.model.specs.Rules.{Answer, rejected, answer, rejection, repetition}
 use Rattle.model.specs.Validation.{Counts, validation}

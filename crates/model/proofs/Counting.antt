@@ -1,6 +1,6 @@
 -- Of an accepted image: nodes validated plus nodes skipped are all N.
 use Prim.Native.Nat.{ℕ, _+_}
-use mathlib.Core.Path.{_≡_, refl, sym, ap, _∙_}
+use mathlib.Core.Path.{_≡_, refl}
 use mathlib.Core.List.{List}
 use Rattle.model.specs.Rules.{answer}
 use Rattle.model.specs.Image.{Tree, treeOf, nodeCount}

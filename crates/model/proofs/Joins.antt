@@ -1,8 +1,6 @@
 -- Two tests joined, as code makes them: the second only where the first leaves it open.
-use Prim.Native.Nat.{ℕ}
-use mathlib.Core.Path.{_≡_, refl, sym, _∙_}
-use mathlib.Core.Bool.{Bool, true, false, cond, not, _&&_, _||_}
-use lib.Dec.{eqb}
+use mathlib.Core.Path.{_≡_, sym, _∙_}
+use mathlib.Core.Bool.{Bool, true, false, _&&_, _||_}
 
 -- r answers a, s answers b
 module _ {r s a b : Bool} (e : r ≡ a) where

@@ -1,7 +1,7 @@
 -- The walks of specs/Lists as a loop meets them, from any start: what is left from number i up to n gives the whole w.
 use Prim.Native.Nat.{ℕ, zero, suc, _+_, _-_, _≤_, _<_}
-use mathlib.Core.Path.{_≡_, refl, sym, ap, _∙_}
-use mathlib.Core.Bool.{Bool, true, false, cond, _&&_, _||_}
+use mathlib.Core.Path.{_≡_, sym}
+use mathlib.Core.Bool.{Bool, true, false}
 use native.Mathlib.Omega.{arith}
 use native.Mathlib.Nat.{add-zero}
 use Rattle.model.specs.Lists.{everyFrom, someFrom, seekFrom, countFrom, listFrom}

@@ -1,14 +1,12 @@
 -- What rule 7 says of a node's parent, and of the nodes before it.
 use Prim.Native.Nat.{ℕ, zero, suc, _≤_, _<_}
-use mathlib.Core.Path.{_≡_, refl, subst, sym, _∙_}
-use mathlib.Core.Bool.{Bool, true, false, _&&_}
+use mathlib.Core.Path.{_≡_, subst}
+use mathlib.Core.Bool.{true, false}
 use mathlib.Core.List.{List}
 use native.Mathlib.Omega.{arith}
 use native.Mathlib.Decide.{ℕ-discrete}
-use lib.Dec.{eqb}
 use borrow.Author.Tests.{eqb-true, ltb-true, ne-eqb}
-use Rattle.model.specs.Rules.{passed}
-use Rattle.model.specs.Image.{Tree, treeOf, nodeCount, parent, name}
+use Rattle.model.specs.Image.{Tree, treeOf, nodeCount, parent}
 use Rattle.model.specs.Records.{parentLawful, noParent, sibling, namesake, recordCheckAt, recordRules}
 use Rattle.model.specs.Given.{RecordsTo, Sound}
 use Rattle.model.proofs.Passed.{check-pass}

@@ -1,11 +1,10 @@
 -- The tree against the image's bytes: what a reader of one field, one dimension word or one stored number needs.
 use Prim.Native.Nat.{ℕ, zero, suc, _+_, _*_, _-_, _≤_, _<_}
-use mathlib.Core.Path.{_≡_, refl, ap, sym, _∙_}
+use mathlib.Core.Path.{_≡_, refl, ap, _∙_}
 use mathlib.Core.List.{List, [], _∷_}
 use native.Mathlib.Omega.{arith}
-use native.Mathlib.Nat.{add-zero}
 use native.Mathlib.Numerals.{add-one}
-use lib.ListN.{length, getD, take, drop}
+use lib.ListN.{getD, take, drop}
 use lib.Seq.{drop-drop, drop-nil, take-nil}
 use Rattle.model.specs.Bytes.{le, numbers}
 use Rattle.model.specs.Image.{Node, nodeOf, nodesOf, node, treeOf, nodeCount, recordAt, name, label, parent, dimensions, stored, number, width, dataOffset, dimensionOffset}

@@ -1,15 +1,15 @@
 -- The sections of a validated zone: its Elements_t children.
 use Prim.Native.Nat.{ℕ, _≤_, _<_}
-use mathlib.Core.Path.{_≡_, refl, ap, sym, _∙_}
+use mathlib.Core.Path.{_≡_, refl, sym, _∙_}
 use mathlib.Core.Bool.{Bool, true, false, _&&_}
 use mathlib.Core.List.{List}
 use native.Mathlib.Omega.{arith}
 use lib.Dec.{eqb, ltb}
-use borrow.Author.Tests.{eqb-true, eq-eqb, ne-eqb, ltb-true}
+use borrow.Author.Tests.{eqb-true, ltb-true}
 use Rattle.model.specs.Image.{Tree, treeOf, nodeCount, parent}
 use Rattle.model.specs.Containment.{role, validated, validatedAs, isZone, sectionOf, Root, Zone, Elements, UserDefinedData}
 use Rattle.model.specs.Given.{Sound}
-use Rattle.model.proofs.Logic.{and-first, and-second, untrue}
+use Rattle.model.proofs.Logic.{and-first, and-second}
 use Rattle.model.proofs.Children.{no-child}
 use Rattle.model.proofs.Validated.{validated-child}
 

@@ -6,7 +6,7 @@ use mathlib.Core.List.{List, [], _∷_, _++_}
 use Rattle.model.specs.declared.Rejection.{Rejection}
 use Rattle.model.specs.declared.Stage.{Stage}
 use Rattle.model.specs.declared.Stage.the-variants as Stage
-use Rattle.model.specs.Rules.{Answer, rejected, answer, rejection, Check, passed, Rule, _unless_, check, _then_}
+use Rattle.model.specs.Rules.{rejected, rejection, Check, passed, Rule, _unless_, check, _then_}
 use Rattle.model.specs.Answers.{stageTells, rejectionOf}
 use Rattle.model.proofs.Passed.{then-on, then-off}
 

@@ -1,7 +1,7 @@
 -- Face usage of an accepted image: positive plus negative uses are the zone's type 23 connectivity lengths summed.
 -- Each entry means a face of the zone (rule 35), so it has a place below F, and its use sets one bit that was free.
-use Prim.Native.Nat.{ℕ, zero, suc, _+_, _-_, _*_, _/_, _%_, _≤_, _<_}
-use mathlib.Core.Path.{_≡_, refl, sym, ap, _∙_}
+use Prim.Native.Nat.{ℕ, zero, suc, _+_, _-_, _/_, _%_, _≤_, _<_}
+use mathlib.Core.Path.{_≡_, refl, _∙_}
 use mathlib.Core.Bool.{Bool, true, false, cond, _&&_}
 use mathlib.Core.List.{List, [], _∷_}
 use native.Mathlib.Omega.{arith}
@@ -10,10 +10,10 @@ use native.Mathlib.Nat.{add-zero, zero-add}
 use lib.ListN.{length, getD, set, replicate, length-set, length-replicate}
 use lib.Seq.{getD-set-same, getD-set-other, set-out}
 use lib.Dec.{eqb, leb, ltb}
-use borrow.Author.Tests.{eqb-true, leb-true, ltb-true, ltb-false}
-use Rattle.model.specs.Lists.{_⊃_, sumBefore, seekFrom}
+use borrow.Author.Tests.{leb-true, ltb-true, ltb-false}
+use Rattle.model.specs.Lists.{sumBefore, seekFrom}
 use Rattle.model.specs.Bytes.{negative}
-use Rattle.model.specs.Rules.{Answer, rejected, answer, passed, repetition, _into_}
+use Rattle.model.specs.Rules.{rejected, answer, passed, repetition, _into_}
 use Rattle.model.specs.Image.{Tree, treeOf, nodeCount, parent, width}
 use Rattle.model.specs.Containment.{sectionOf}
 use Rattle.model.specs.Values.{connectivityOf}
@@ -22,7 +22,7 @@ use Rattle.model.specs.FaceUsage.{facesIn, faceCount, facePlace, usePlac
 use Rattle.model.specs.Validation.{imageCheck}
 use Rattle.model.proofs.Logic.{untrue, and-first, and-second, when}
 use Rattle.model.proofs.Walks.{every-at, Some, some-at, seek-holds, seek-before, sum-part}
-use Rattle.model.proofs.Passed.{refused, into-value, Claim}
+use Rattle.model.proofs.Passed.{refused, into-value}
 use Rattle.model.proofs.Accepted.{element-rule}
 use Rattle.model.proofs.Conforming.{section-is}
 

@@ -10,7 +10,7 @@ use lib.ListN.{length, getD, take, drop, drop-of-length-le}
 use lib.Seq.{drop-cons}
 use borrow.Author.Tests.{eqb-true, eqb-false, eq-eqb, ne-eqb}
 use Rattle.model.specs.Bytes.{le, same, text, blank, spells, placeFrom}
-use Rattle.model.specs.Image.{Tree, node, dataType, dataTypes, widths}
+use Rattle.model.specs.Image.{Tree, node, dataType, dataTypes}
 use Rattle.model.specs.Records.{link}
 
 -- two bytes are c and d where their number is that of c and d

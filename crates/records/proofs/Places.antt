@@ -4,7 +4,7 @@ use mathlib.Core.Path.{_≡_, refl}
 use mathlib.Core.List.{List}
 use lib.ListN.{drop}
 use Rattle.model.specs.Bytes.{le}
-use Rattle.model.specs.Image.{headerWord, nodeCount, dimensionOffset, wordCount, dataOffset, dataLength, treeOf}
+use Rattle.model.specs.Image.{headerWord, nodeCount, dimensionOffset, dataOffset, treeOf}
 
 module _ (b : List ℕ) where
   pub node-count-at : nodeCount b ≡ le 4 (drop 8 b)

@@ -1,14 +1,14 @@
 -- The sections of a zone after a node: all of them after the zone itself, and one less after the next.
 use Prim.Native.Nat.{ℕ, suc, _+_, _-_, _≤_, _<_}
 use mathlib.Core.Path.{_≡_, refl, sym, ap, _∙_}
-use mathlib.Core.Bool.{Bool, true, false, _&&_}
-use mathlib.Core.List.{List, [], _∷_}
+use mathlib.Core.Bool.{Bool, true, false}
+use mathlib.Core.List.{List, _∷_}
 use native.Mathlib.Omega.{arith}
 use native.Mathlib.Numerals.{add-one}
 use lib.ListN.{length, getD, drop}
 use lib.Dec.{eqb, ltb}
 use borrow.Author.Tests.{ltb-true, ltb-false}
-use Rattle.model.specs.Lists.{countFrom, listFrom, seekFrom}
+use Rattle.model.specs.Lists.{countFrom, seekFrom}
 use Rattle.model.specs.Image.{treeOf, nodeCount, parent}
 use Rattle.model.specs.Containment.{Elements, validatedAs, sectionOf}
 use Rattle.model.specs.Given.{Sound, Accepted}

@@ -1,5 +1,5 @@
 -- A list that is filled with a zone's entries, one after the other.
-use Prim.Native.Nat.{ℕ, zero, suc, _+_, _*_, _≤_, _<_}
+use Prim.Native.Nat.{ℕ, suc, _+_, _*_, _≤_, _<_}
 use mathlib.Core.Path.{_≡_, refl, sym, ap, _∙_}
 use mathlib.Core.List.{List, [], _∷_, _++_, append-assoc}
 use native.Mathlib.Omega.{arith}
@@ -14,7 +14,7 @@ use Rattle.model.specs.Given.{Sound, Accepted}
 use Rattle.model.specs.Sections.{sectionNodes, entry, entries, sectionEntries, entryNumbers, allNumbers}
 use Rattle.model.proofs.Flat.{numbers-length, entries-length}
 use Rattle.sections.specs.After.{sectionsAfter}
-use Rattle.sections.proofs.After.{next, next-is, next-section, after-next, all-after}
+use Rattle.sections.proofs.After.{next-is, next-section, after-next, all-after}
 
 module _ {A : Type 0} where
   pub over-length : (out new : List A) → length new ≤ length out → length (over out new) ≡ length out

@@ -1,20 +1,19 @@
 -- The nodes of a section of an accepted image: what was looked up conforms, and its numbers can be read.
-use Prim.Native.Nat.{ℕ, zero, suc, _+_, _*_, _≤_, _<_}
+use Prim.Native.Nat.{ℕ, zero, suc, _+_, _≤_, _<_}
 use mathlib.Core.Path.{_≡_, refl, sym, ap, _∙_}
-use mathlib.Core.Bool.{Bool, true, false, cond, _&&_}
+use mathlib.Core.Bool.{true, false, _&&_}
 use mathlib.Core.List.{List, [], _∷_}
 use native.Mathlib.Omega.{arith}
 use lib.ListN.{length, drop, List·getD-eq-default}
-use lib.Dec.{eqb, ltb}
+use lib.Dec.{eqb}
 use borrow.Author.Tests.{lt-ltb, le-ltb, eqb-true, eq-eqb}
-use Rattle.model.specs.declared.Section.{Section}
 use Rattle.model.specs.Lists.{row}
 use Rattle.model.specs.Bytes.{text, spells, placeFrom}
-use Rattle.model.specs.Image.{Tree, treeOf, nodeCount, parent, node, nodeOf, nodesOf, wordCount, dimensions, dataTypes, dataType, width, widths, number, I4, I8}
-use Rattle.model.specs.Containment.{role, validatedAs, sectionOf, child, found, Root, Elements, IndexRange, DataArray, UserDefinedData}
+use Rattle.model.specs.Image.{treeOf, nodeCount, parent, node, nodeOf, nodesOf, wordCount, dimensions, dataTypes, dataType, width, widths, number, I4, I8}
+use Rattle.model.specs.Containment.{role, sectionOf, child, found, Root, IndexRange, DataArray, UserDefinedData}
 use Rattle.model.specs.Values.{sidsRules, typed, shaped, flat, size, indexArray, typeLawful, conforming, rangeOf, offsetsOf, connectivityOf}
 use Rattle.model.specs.Elements.{elementType, firstElement, lastElement, connectivityLength}
-use Rattle.model.specs.Given.{Sound, Accepted}
+use Rattle.model.specs.Given.{Sound}
 use Rattle.model.specs.Sections.{dataStart, entry}
 use Rattle.model.proofs.Logic.{and-first, and-second, and-both, or-left}
 use Rattle.model.proofs.Accepted.{sids-rule}

@@ -1,18 +1,17 @@
 -- What the answer of the call says of the image, and of what the call leaves.
 use Prim.Native.Nat.{ℕ, _≤_, _<_}
-use mathlib.Core.Path.{_≡_, refl, sym, ap, _∙_}
+use mathlib.Core.Path.{_≡_, refl, sym, _∙_}
 use mathlib.Core.Bool.{true}
 use mathlib.Core.List.{List, []}
 use native.Mathlib.Omega.{arith}
 use lib.ListN.{length, take}
-use lib.Dec.{leb}
 use borrow.Author.Tests.{leb-true}
 use Rattle.model.specs.declared.Section.{Section}
 use Rattle.model.specs.declared.Rejection.{Rejection}
 use Rattle.model.specs.declared.Count.{Count}
 use Rattle.model.specs.declared.Count.the-variants as Count
 use Rattle.model.specs.Lists.{over}
-use Rattle.model.specs.Rules.{Answer, rejected, answer, Check, passed, _then_, _gives_, leaves}
+use Rattle.model.specs.Rules.{rejected, answer, Check, passed, _then_, _gives_, leaves}
 use Rattle.model.specs.Image.{treeOf, nodeCount}
 use Rattle.model.specs.Containment.{isZone}
 use Rattle.model.specs.Given.{Accepted}

@@ -18,7 +18,7 @@ use Rattle.model.proofs.Logic.{and-first, and-second}
 use Rattle.types.specs.Given.{Has}
 use Rattle.types.proofs.Held.{whole-wide, shaped-is, has-by}
 use Rattle.sids.specs.Given.{Shaped}
-use Rattle.sids.specs.Sizes.{direction, directions, zoneSizes, sizeIn, structuredIn, unstructuredIn, permittedIn, innerSize}
+use Rattle.sids.specs.Sizes.{directions, zoneSizes, sizeIn, structuredIn, unstructuredIn, permittedIn, innerSize}
 
 zone-type : (t : Tree) (z : ℕ) → role t z ≡ Zone → typeLawful t z ≡ true → (typed t z (I4 ∷ I8 ∷ []) && shaped t z (indexDimension t z ∷ 3 ∷ [])) ≡ true
 unfolding typeLawful row

@@ -1,7 +1,7 @@
 -- The check of the records as a loop over the nodes meets it.
-use Prim.Native.Nat.{ℕ, zero, suc, _+_, _-_, _≤_, _<_}
+use Prim.Native.Nat.{ℕ, _+_, _-_, _≤_, _<_}
 use mathlib.Core.Path.{_≡_, refl, sym, ap, _∙_}
-use mathlib.Core.Bool.{Bool, true, false, _&&_}
+use mathlib.Core.Bool.{true, false, _&&_}
 use mathlib.Core.List.{List, [], _++_}
 use native.Mathlib.Omega.{arith}
 use lib.Dec.{eqb, leb}
@@ -12,7 +12,7 @@ use Rattle.records.specs.declared.Record.{Record}
 use Rattle.records.specs.Fields.{headerOf, recordOf}
 use Rattle.model.specs.Lists.{sumBefore}
 use Rattle.model.specs.Rules.{Check, passed, rejected, rejection, check, checkFrom, _then_}
-use Rattle.model.specs.Image.{Tree, treeOf, nodeCount, wordCount, dataLength, node}
+use Rattle.model.specs.Image.{Tree, treeOf, nodeCount, node}
 use Rattle.model.specs.Records.{wordsBefore, wordsLawful, bytesBefore, dataAtLawful, recordRules, recordCheckAt, recordCheck, nothingTrails, trailingCheck}
 use Rattle.model.specs.Bounds.{Laid}
 use Rattle.model.specs.Given.{RecordsTo}

@@ -7,9 +7,8 @@ use native.Mathlib.Numerals.{add-one}
 use lib.ListN.{length, getD, take, drop, drop-of-length-le}
 use lib.Seq.{drop-cons, length-take-le, getD-take}
 use lib.Dec.{eqb}
-use borrow.Author.Tests.{eqb-true, eq-eqb, ne-eqb}
+use borrow.Author.Tests.{eq-eqb, ne-eqb}
 use Rattle.model.specs.Bytes.{same}
-use Rattle.model.proofs.Logic.{and-first, and-second, untrue}
 
 -- lists of two lengths differ
 pub same-not : (s u : List ℕ) → (length s ≡ length u → ⊥) → same s u ≡ false

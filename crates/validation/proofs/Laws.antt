@@ -1,8 +1,8 @@
 -- Rules 20 to 26, then a section's own; and a count as a loop meets it.
-use Prim.Native.Nat.{ℕ, zero, suc, _+_, _-_, _≤_, _<_}
+use Prim.Native.Nat.{ℕ, _+_, _-_, _≤_, _<_}
 use mathlib.Core.Path.{_≡_, refl, sym, ap, _∙_}
 use mathlib.Core.Bool.{Bool, true, false, cond, _&&_}
-use mathlib.Core.List.{List, [], _∷_, _++_}
+use mathlib.Core.List.{List, [], _∷_}
 use native.Mathlib.Omega.{arith}
 use native.Mathlib.Decide.{ℕ-discrete}
 use lib.Dec.{eqb, ltb}
@@ -13,7 +13,7 @@ use Rattle.model.proofs.Bounds.{sound}
 use Rattle.model.proofs.Accepted.{table-passed}
 use Rattle.model.specs.Lists.{countFrom}
 use Rattle.model.specs.declared.Rejection.{Rejection}
-use Rattle.model.specs.Rules.{Check, Answer, answer, rejected, rejection, _gives_, passed, check, checkFrom, _then_}
+use Rattle.model.specs.Rules.{Check, answer, rejected, rejection, _gives_, passed, check, checkFrom, _then_}
 use Rattle.model.specs.Image.{Tree, treeOf, nodeCount, parent}
 use Rattle.model.specs.Containment.{role, Zone, Elements, validated, skipped, validatedAs}
 use Rattle.model.specs.Values.{sidsRules, sizedArray, dataSizes, dataSize, indexDimension}
@@ -23,7 +23,7 @@ use Rattle.validation.specs.Sizes.{Zeros}
 use Rattle.model.specs.DataSize.{isSizedArray, dataSizeAnswer}
 use Rattle.model.specs.Given.{Accepted}
 use Rattle.model.specs.Elements.{elementRules}
-use Rattle.model.specs.Validation.{nodeRules, nodeCheckAt, nodeCheck, imageCheck, Counts, counts}
+use Rattle.model.specs.Validation.{nodeRules, nodeCheckAt, nodeCheck, imageCheck, counts}
 use Rattle.model.proofs.Walks.{countFrom-step, countFrom-end, count-both}
 use Rattle.model.proofs.Passed.{checkFrom-on, checkFrom-off, checkFrom-end}
 use Rattle.model.proofs.Staging.{check-append}

@@ -1,5 +1,5 @@
 -- Laws of `le` as a loop from the highest byte down meets it, over the width.
-use Prim.Native.Nat.{ℕ, zero, suc, _+_, _*_, _-_, _^_, _≤_, _<_}
+use Prim.Native.Nat.{ℕ, suc, _+_, _*_, _-_, _^_, _≤_, _<_}
 use mathlib.Core.Path.{_≡_, refl}
 use mathlib.Core.List.{List}
 use native.Mathlib.Nat.{pow-succ', lt-of-lt-of-le, pow-le-pow-right}

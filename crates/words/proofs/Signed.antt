@@ -1,5 +1,5 @@
 -- Laws of two's complement and of the magnitude, over half the patterns and over the width.
-use mathlib.Core.Path.{_≡_, refl, ap, sym, _∙_}
+use mathlib.Core.Path.{_≡_, refl, ap, _∙_}
 use mathlib.Core.Bool.{Bool, true, false, cond}
 use Prim.Native.Nat.{ℕ, zero, suc, _+_, _*_, _-_, _%_, _^_, _≤_, _<_}
 use native.Mathlib.Omega.{arith}
@@ -8,7 +8,7 @@ use lib.IntN.{ℤ, pos, negsuc, natAbs, _-ℤ_}
 use lib.Signed.{ltZ, mag, nonNeg}
 use lib.Dec.{T, ltb, leb, eqb, eqb→eq}
 use mir.Syntax.{Width, w32, w64}
-use mir.Val.{SFits, Fits, toZ, ofZ, hbits}
+use mir.Val.{SFits, toZ, ofZ, hbits}
 use mir.Facts.{toZ-pos, toZ-ofZ}
 use Rattle.model.specs.Bytes.{half, negative, signed, magnitude}
 use Rattle.words.specs.Width.{twos, isWidth}

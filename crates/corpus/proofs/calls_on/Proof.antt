@@ -1,5 +1,4 @@
 -- The calls left fall at each turn.
-use native.Mathlib.Omega.{arith}
 use borrow.Author.Needs.{needs}
 use Rattle.corpus.proofs.calls_on.Statement.{statement}
 use Rattle.corpus.proofs.calls_on.Tie as tie

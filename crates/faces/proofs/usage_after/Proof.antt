@@ -1,6 +1,5 @@
 -- The check's rejection, 40, or the zone's usage.
 use mathlib.Core.Path.{sym, ap, _∙_}
-use native.Mathlib.Omega.{arith}
 use borrow.Author.Needs.{needs}
 use borrow.Author.Tests.{not-true, not-false}
 use Rattle.model.specs.Rules.{rejected}

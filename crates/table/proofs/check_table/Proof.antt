@@ -1,11 +1,10 @@
 -- The stage's rejection, or the header's counts.
 use native.Mathlib.Omega.{arith}
-use mathlib.Core.Path.{_≡_, sym, ap, _∙_}
+use mathlib.Core.Path.{sym}
 use borrow.Author.Needs.{needs}
-use Rattle.records.specs.declared.Header.{Header}
-use Rattle.model.specs.Rules.{Answer, answer, _gives_}
+use Rattle.model.specs.Rules.{_gives_}
 use Rattle.model.specs.Image.{treeOf}
-use Rattle.model.specs.Records.{TableCounts, tableCounts, tableAnswer}
+use Rattle.model.specs.Records.{tableCounts, tableAnswer}
 use Rattle.model.proofs.Bounds.{table-laid}
 use Rattle.model.proofs.Passed.{then-on, then-off}
 use Rattle.model.proofs.Staging.{passes, rejects}

@@ -1,7 +1,6 @@
 -- Validated nodes are counted; the others are skipped.
-use native.Mathlib.Omega.{arith}
 use Prim.Native.Nat.{_-_}
-use mathlib.Core.Path.{_≡_, refl, ap}
+use mathlib.Core.Path.{refl, ap}
 use borrow.Author.Needs.{needs}
 use Rattle.model.specs.Image.{treeOf, nodeCount}
 use Rattle.validation.proofs.Laws.{counts-are}

@@ -1,11 +1,9 @@
 -- The lowest node first: the whole is what is left from here.
 use native.Mathlib.Omega.{arith}
-use Prim.Native.Nat.{ℕ, _-_, _≤_, _<_}
-use mathlib.Core.Path.{_≡_, refl, sym, _∙_}
+use Prim.Native.Nat.{_-_}
+use mathlib.Core.Path.{sym, _∙_}
 use borrow.Author.Needs.{needs}
-use Rattle.model.specs.Image.{treeOf, nodeCount}
-use Rattle.model.specs.Validation.{nodeCheckAt, nodeCheck}
-use Rattle.model.proofs.Passed.{checkFrom-on, checkFrom-off, checkFrom-end}
+use Rattle.model.specs.Image.{treeOf}
 use Rattle.model.proofs.Staging.{passes, refuses}
 use Rattle.validation.proofs.Laws.{NodesLeft, nodes-start, nodes-on, nodes-off, nodes-end}
 use Rattle.validation.proofs.every_node.Statement.{statement}

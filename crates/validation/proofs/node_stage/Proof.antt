@@ -1,5 +1,5 @@
 -- A node that is not validated is skipped; another meets rules 20 to 26, then a section's own.
-use mathlib.Core.Path.{_≡_, sym, _∙_}
+use mathlib.Core.Path.{sym, _∙_}
 use borrow.Author.Needs.{needs}
 use borrow.Author.Tests.{not-true, not-false}
 use Rattle.model.proofs.Staging.{passes, stop, go}

@@ -1,5 +1,5 @@
 -- The first refusal, or the counts.
-use mathlib.Core.Path.{_≡_, sym, _∙_}
+use mathlib.Core.Path.{sym, _∙_}
 use borrow.Author.Needs.{needs}
 use Rattle.model.specs.Rules.{_gives_}
 use Rattle.model.specs.Validation.{validation}

@@ -1,6 +1,5 @@
 -- The number of 4 bytes fits in 32 bits.
-use native.Mathlib.Omega.{arith}
-use mathlib.Core.Path.{_≡_, _∙_, ap}
+use mathlib.Core.Path.{_∙_, ap}
 use borrow.Author.Needs.{needs, sfits-of}
 use mir.Syntax.{w32, w64}
 use mir.Val.{SFits, toZ, ofZ}

@@ -1,10 +1,10 @@
 -- Each width's branch is two's complement at that width.
 use native.Mathlib.Omega.{arith}
-use mathlib.Core.Path.{_≡_, _∙_, ap}
+use mathlib.Core.Path.{_∙_, ap}
 use borrow.Author.Needs.{needs, sfits-of}
 use mir.Syntax.{w64}
 use mir.Facts.{toZ-ofZ}
-use Rattle.model.specs.Bytes.{half, signed}
+use Rattle.model.specs.Bytes.{half}
 use Rattle.words.specs.Width.{twos}
 use Rattle.words.proofs.Signed.{eight, signed-is}
 use Rattle.words.proofs.signed_at.Statement.{statement}

@@ -1,5 +1,4 @@
 -- Each width's row.
-use mathlib.Core.Path.{_≡_, sym}
 use borrow.Author.Needs.{needs}
 use Rattle.words.proofs.Signed.{eight}
 use Rattle.corners.proofs.Widths.{inside-width}

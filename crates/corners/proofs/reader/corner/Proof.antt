@@ -1,5 +1,5 @@
 use native.Mathlib.Omega.{arith}
-use mathlib.Core.Path.{_≡_, refl, sym, ap, _∙_}
+use mathlib.Core.Path.{refl, sym, ap, _∙_}
 use borrow.Author.Needs.{needs}
 use Rattle.model.specs.Rules.{rejected}
 use Rattle.corners.proofs.Outcomes.{below-range, above-range, unreadable, in-range}

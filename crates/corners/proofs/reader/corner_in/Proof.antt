@@ -1,5 +1,5 @@
 use native.Mathlib.Omega.{arith}
-use mathlib.Core.Path.{_≡_, ap}
+use mathlib.Core.Path.{ap}
 use borrow.Author.Needs.{needs, sfits-of}
 use borrow.Author.Tests.{le-leb, lt-leb}
 use mir.Syntax.{w64}

@@ -9,7 +9,6 @@ use denote.Ref.{now}
 use lib.IntN.{ℤ}
 use lib.ListN.{length, length-set}
 use mir.Syntax.{w64}
-use mir.Val.{toZ, ofZ}
 use mir.Facts.{toZ-ofZ}
 use Rattle.model.specs.Lists.{over}
 use Rattle.model.specs.ReadList.{requestsIn, answerAt, numberOf, ruleOf, valuesFrom, roomForAnswers}

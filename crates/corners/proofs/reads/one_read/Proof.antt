@@ -1,7 +1,6 @@
-use mathlib.Core.Path.{_≡_, refl, sym, _∙_, ap}
+use mathlib.Core.Path.{refl, sym, _∙_, ap}
 use borrow.Author.Needs.{needs}
 use Rattle.model.specs.Rules.{rejected}
-use Rattle.model.specs.Reads.{CornerRead}
 use Rattle.model.proofs.Runs.{entry-read, read-unlisted}
 use Rattle.corners.proofs.reads.one_read.Statement.{statement}
 use Rattle.corners.proofs.reads.one_read.Tie as tie

@@ -1,5 +1,5 @@
 -- The room after the offset, by the width.
-use mathlib.Core.Path.{_≡_, sym}
+use mathlib.Core.Path.{sym}
 use borrow.Author.Tests.{ne-eqb}
 use Rattle.corners.proofs.Widths.{inside-past, inside-by-room, inside-unlawful}
 use Rattle.corners.proofs.rows.inside.Statement.{statement}

@@ -1,7 +1,6 @@
 -- The product of k / 32 tells whether k's product is beyond the length; where it is not, that product fits.
 use Prim.Native.Nat.{_+_, _*_, _<_, _^_}
 use native.Mathlib.Omega.{arith}
-use borrow.Author.Needs.{needs}
 use Rattle.corners.proofs.Ranges.{product-low, product-high, product-fits, fixed-none, fixed-beyond, fixed-range}
 use Rattle.corners.proofs.spans.fixed_span.Statement.{statement}
 use Rattle.corners.proofs.spans.fixed_span.Tie as tie

@@ -1,6 +1,4 @@
 -- An end below half of the patterns that is above the start: neither is negative.
-use native.Mathlib.Omega.{arith}
-use mathlib.Core.Path.{_≡_, refl}
 use borrow.Author.Needs.{needs}
 use borrow.Author.Tests.{le-leb, lt-leb}
 use Rattle.corners.proofs.Ranges.{end-negative, not-rising, rising}

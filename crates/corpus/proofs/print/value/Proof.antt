@@ -1,4 +1,3 @@
-use native.Mathlib.Omega.{arith}
 use borrow.Author.Needs.{needs}
 use Rattle.corpus.proofs.Laws.{single-no-nan, double-no-nan}
 use Rattle.corpus.proofs.print.value.Statement.{statement}

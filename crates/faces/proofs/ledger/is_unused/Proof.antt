@@ -1,7 +1,6 @@
 use Prim.Native.Nat.{_/_}
 use mathlib.Core.Path.{_≡_}
 use native.Mathlib.Omega.{arith}
-use borrow.Author.Needs.{needs}
 use Rattle.model.specs.FaceUsage.{unused}
 use Rattle.faces.proofs.ledger.is_unused.Statement.{statement}
 use Rattle.faces.proofs.ledger.is_unused.Tie as tie

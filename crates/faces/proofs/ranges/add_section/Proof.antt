@@ -1,9 +1,7 @@
 -- A face section's range behind the others, with its first face's place as base.
-use mathlib.Core.Path.{_≡_, sym, _∙_}
+use mathlib.Core.Path.{sym, _∙_}
 use native.Mathlib.Omega.{arith}
 use borrow.Author.Needs.{needs}
-use Rattle.model.specs.Image.{treeOf}
-use Rattle.model.specs.Containment.{sectionOf}
 use Rattle.model.proofs.Logic.{and-first}
 use borrow.Author.Tests.{not-true, not-false}
 use Rattle.faces.proofs.Accepted.{face-section-is, range-has, range-read}

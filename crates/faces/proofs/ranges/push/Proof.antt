@@ -1,5 +1,4 @@
 use mathlib.Core.Path.{sym, _∙_}
-use native.Mathlib.Omega.{arith}
 use borrow.Author.Needs.{needs}
 use Rattle.faces.proofs.Gathering.{pushed-on, pushed-off, follows-some}
 use Rattle.faces.proofs.ranges.push.Statement.{statement}

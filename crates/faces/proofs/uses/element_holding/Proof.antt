@@ -1,10 +1,6 @@
 -- The range's first element, and those that end before entry k.
-use mathlib.Core.Path.{_≡_, sym, ap, _∙_}
-use Prim.Native.Nat.{ℕ, _<_}
-use mathlib.Core.Path.{subst}
 use native.Mathlib.Omega.{arith}
 use borrow.Author.Needs.{needs}
-use Rattle.model.specs.Image.{nodeCount}
 use Rattle.faces.proofs.Accepted.{range-has, range-read}
 use Rattle.faces.proofs.Rows.{offsets-inside, offsets-row, element-read}
 use Rattle.faces.proofs.uses.element_holding.Statement.{statement}

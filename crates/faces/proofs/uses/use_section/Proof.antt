@@ -1,5 +1,4 @@
 -- The section's connectivity, all of it.
-use native.Mathlib.Omega.{arith}
 use borrow.Author.Needs.{needs}
 use Rattle.faces.proofs.Rows.{connectivity-inside, connectivity-dimension, connectivity-row, connectivity-size}
 use Rattle.faces.proofs.uses.use_section.Statement.{statement}

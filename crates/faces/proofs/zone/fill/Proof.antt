@@ -1,11 +1,11 @@
 -- A run over cleared bytes; cleared again where it is refused.
 use Prim.Native.Nat.{ℕ}
-use mathlib.Core.Path.{_≡_, sym, ap, _∙_}
-use mathlib.Core.List.{List, _++_}
+use mathlib.Core.Path.{sym, ap, _∙_}
+use mathlib.Core.List.{_++_}
 use native.Mathlib.Omega.{arith}
 use borrow.Author.Needs.{needs}
 use lib.ListN.{drop, replicate}
-use Rattle.model.specs.Rules.{Answer, rejected, answer}
+use Rattle.model.specs.Rules.{rejected, answer}
 use Rattle.model.specs.Answers.{rejectionOf}
 use Rattle.faces.proofs.Gathering.{all-faces}
 use Rattle.faces.proofs.Runs.{at-most, still-room}

@@ -1,5 +1,5 @@
 -- The table is what the placing table and the fixed names give, cell by cell.
-use mathlib.Core.Path.{_≡_, _∙_}
+use mathlib.Core.Path.{_∙_}
 use Rattle.model.specs.Lists.{among, row}
 use Rattle.model.specs.Bytes.{spells, blank, text, placeFrom}
 use Rattle.model.specs.Containment.{mayHold, containment, fixedName, fixedNames}

@@ -1,6 +1,5 @@
 -- A dot.
 use Rattle.labels.proofs.Grid.{cell-held}
-use native.Mathlib.Omega.{arith}
 use borrow.Author.Needs.{needs}
 use Rattle.labels.proofs.containment.may_hold.Statement.{statement}
 use Rattle.labels.proofs.containment.may_hold.Tie as tie

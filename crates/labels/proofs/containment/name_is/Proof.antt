@@ -1,6 +1,6 @@
 -- A row of the table of fixed names.
 use Rattle.labels.proofs.Known.{fixed-short}
-use mathlib.Core.Path.{_≡_, _∙_}
+use mathlib.Core.Path.{_∙_}
 use Rattle.model.specs.Bytes.{text}
 use Rattle.labels.specs.Cells.{fixedTexts}
 use Rattle.labels.proofs.Tables.{row-spells}

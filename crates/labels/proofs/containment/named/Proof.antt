@@ -1,6 +1,6 @@
 -- The cell tells the fixed name; the root has none.
 use Prim.Native.Nat.{ℕ, _-_}
-use mathlib.Core.Path.{_≡_, ap, _∙_}
+use mathlib.Core.Path.{ap, _∙_}
 use mathlib.Core.List.{List, []}
 use lib.ListN.{getD}
 use Rattle.model.specs.Bytes.{spells}

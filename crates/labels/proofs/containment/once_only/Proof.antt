@@ -1,8 +1,6 @@
 -- One number of the list after the other.
 use Rattle.model.specs.Containment.{onceOnly}
 use Rattle.labels.proofs.Kin.{among-here, among-later, among-last}
-use native.Mathlib.Omega.{arith}
-use borrow.Author.Needs.{needs}
 use Rattle.labels.proofs.containment.once_only.Statement.{statement}
 use Rattle.labels.proofs.containment.once_only.Tie as tie
 

@@ -1,6 +1,6 @@
 -- No node up to the parent is a sibling, so the search starts after it.
 use Prim.Native.Nat.{_-_}
-use mathlib.Core.Path.{_≡_, sym, _∙_}
+use mathlib.Core.Path.{sym, _∙_}
 use borrow.Author.Tests.{not-true, not-false}
 use Rattle.model.specs.Lists.{someFrom}
 use Rattle.model.specs.Image.{treeOf}

@@ -1,5 +1,5 @@
 -- Word by word against the label's field; the first word is known.
-use mathlib.Core.Path.{_≡_, sym, _∙_}
+use mathlib.Core.Path.{sym, _∙_}
 use Rattle.labels.proofs.Known.{second-off, third-off, fourth-tells}
 use native.Mathlib.Omega.{arith}
 use borrow.Author.Needs.{needs}

@@ -1,6 +1,6 @@
 -- No label but the one that begins with the field's first word can be the field's.
 use Prim.Native.Nat.{_+_}
-use mathlib.Core.Path.{_≡_, sym, _∙_}
+use mathlib.Core.Path.{sym, _∙_}
 use Rattle.labels.proofs.Known.{role-root, role-by-label, is-candidate, no-candidate}
 use native.Mathlib.Omega.{arith}
 use borrow.Author.Needs.{needs}

@@ -1,6 +1,6 @@
 -- The bytes against so many blanks.
 use Prim.Native.Nat.{_-_}
-use mathlib.Core.Path.{_≡_, sym, _∙_}
+use mathlib.Core.Path.{sym, _∙_}
 use lib.ListN.{take, drop, replicate, length-replicate, length-drop}
 use lib.Seq.{length-take-le}
 use Rattle.words.proofs.Same.{Same, same-start, same-more, same-stop, same-done}

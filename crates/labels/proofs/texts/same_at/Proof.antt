@@ -1,7 +1,7 @@
 -- Byte by byte; texts of different lengths differ.
 use native.Mathlib.Nat.{zero-add}
 use Prim.Native.Nat.{_-_}
-use mathlib.Core.Path.{_≡_, sym, _∙_}
+use mathlib.Core.Path.{_∙_}
 use Rattle.words.proofs.Same.{Same, same-start, same-more, same-stop, same-done}
 use Rattle.labels.proofs.Fields.{same-long, same-text}
 use native.Mathlib.Omega.{arith}

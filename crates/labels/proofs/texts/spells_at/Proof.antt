@@ -1,5 +1,5 @@
 -- The text, then blanks.
-use mathlib.Core.Path.{_≡_, sym, _∙_}
+use mathlib.Core.Path.{sym, _∙_}
 use Rattle.model.proofs.Joins.{and-on, and-done}
 use borrow.Author.Tests.{not-true, not-false}
 use Rattle.labels.proofs.Fields.{spells-parts}

@@ -1,6 +1,6 @@
 -- No node up to i is a child of i, so the search starts after it; and none is from `end` on.
 use Prim.Native.Nat.{_-_}
-use mathlib.Core.Path.{_≡_, sym, _∙_}
+use mathlib.Core.Path.{sym, _∙_}
 use Rattle.model.specs.Image.{treeOf, nodeCount}
 use Rattle.model.specs.Containment.{isChild, child}
 use Rattle.model.proofs.Loops.{SeekLeft, seek-more, seek-stop}

@@ -1,6 +1,6 @@
 -- The parent decides, then the role, then the name.
 use Prim.Native.Nat.{ℕ}
-use mathlib.Core.Path.{_≡_, ap, _∙_}
+use mathlib.Core.Path.{ap, _∙_}
 use mathlib.Core.List.{List}
 use Rattle.model.specs.Bytes.{spells}
 use Rattle.labels.proofs.Kin.{other-parent, other-role, by-name, name-field}

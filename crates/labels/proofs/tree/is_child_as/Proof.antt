@@ -1,10 +1,9 @@
 -- The parent decides, then the role.
 use Prim.Native.Nat.{ℕ}
-use mathlib.Core.Path.{_≡_, ap, _∙_}
+use mathlib.Core.Path.{ap, _∙_}
 use lib.Dec.{eqb}
 use borrow.Author.Tests.{ne-eqb}
 use Rattle.labels.proofs.Kin.{alike, unlike}
-use native.Mathlib.Omega.{arith}
 use borrow.Author.Needs.{needs}
 use Rattle.labels.proofs.tree.is_child_as.Statement.{statement}
 use Rattle.labels.proofs.tree.is_child_as.Tie as tie

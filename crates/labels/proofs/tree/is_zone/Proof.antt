@@ -1,6 +1,5 @@
 -- A number past the last node is no zone.
 use Rattle.labels.proofs.Kin.{some-node, no-node}
-use native.Mathlib.Omega.{arith}
 use borrow.Author.Needs.{needs}
 use Rattle.labels.proofs.tree.is_zone.Statement.{statement}
 use Rattle.labels.proofs.tree.is_zone.Tie as tie

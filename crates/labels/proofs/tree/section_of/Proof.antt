@@ -1,7 +1,6 @@
 -- The parent decides, then what it is validated as.
 use Rattle.model.specs.Containment.{sectionOf}
 use Rattle.labels.proofs.Kin.{unlike, alike}
-use native.Mathlib.Omega.{arith}
 use borrow.Author.Needs.{needs}
 use Rattle.labels.proofs.tree.section_of.Statement.{statement}
 use Rattle.labels.proofs.tree.section_of.Tie as tie

@@ -1,7 +1,6 @@
 -- The role decides, then the way up.
 use Rattle.model.specs.Containment.{validatedAs}
 use Rattle.labels.proofs.Kin.{unlike, alike}
-use native.Mathlib.Omega.{arith}
 use borrow.Author.Needs.{needs}
 use Rattle.labels.proofs.tree.validated_as.Statement.{statement}
 use Rattle.labels.proofs.tree.validated_as.Tie as tie

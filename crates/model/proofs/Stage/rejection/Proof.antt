@@ -1,6 +1,5 @@
 -- Each case gives its rejection.
-use native.Mathlib.Omega.{arith}
-use mathlib.Core.Path.{_≡_, sym, ap, _∙_}
+use mathlib.Core.Path.{sym, ap, _∙_}
 use borrow.Author.Needs.{needs}
 use Rattle.model.specs.Answers.{rejectionOf}
 use Rattle.model.proofs.Stage.rejection.Statement.{statement}

@@ -1,9 +1,7 @@
 -- The bytes at the number's place, at either width.
 use native.Mathlib.Omega.{arith}
-use Prim.Native.Nat.{_≤_, _<_, _+_, _*_}
 use mathlib.Core.Path.{_≡_}
 use borrow.Author.Needs.{needs}
-use Rattle.model.specs.Image.{nodeCount, dimensionOffset}
 use Rattle.model.proofs.Reading.{number-at}
 use Rattle.words.proofs.Signed.{eight}
 use Rattle.records.proofs.Places.{area-at}

@@ -1,8 +1,7 @@
 -- The two bytes are read at the data type's place.
 use native.Mathlib.Omega.{arith}
-use Prim.Native.Nat.{ℕ, _<_, _+_, _*_, _%_, _/_}
-use mathlib.Core.Path.{_≡_, _∙_}
-use mathlib.Core.List.{_∷_, []}
+use Prim.Native.Nat.{_<_, _+_}
+use mathlib.Core.Path.{_∙_}
 use borrow.Author.Needs.{needs}
 use Rattle.model.specs.Image.{nodeCount, recordAt}
 use Rattle.model.proofs.Reading.{type-at}

@@ -3,7 +3,6 @@ use Rattle.model.specs.Rules.{rejected}
 use Rattle.model.proofs.Staging as stage
 use Rattle.sections.proofs.Room.{image-off, image-on}
 use Rattle.sections.proofs.Told.{accepted}
-use native.Mathlib.Omega.{arith}
 use borrow.Author.Needs.{needs}
 use Rattle.sections.proofs.answers.answer_after.Statement.{statement}
 use Rattle.sections.proofs.answers.answer_after.Tie as tie

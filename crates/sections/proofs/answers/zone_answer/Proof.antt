@@ -1,9 +1,6 @@
-use mathlib.Core.Path.{_≡_, sym, ap, _∙_}
-use mathlib.Core.Bool.{true}
+use mathlib.Core.Path.{sym, ap, _∙_}
 use borrow.Author.Tests.{not-true, not-false}
 use Rattle.model.specs.Rules.{rejected, answer, _gives_}
-use Rattle.model.specs.Image.{treeOf}
-use Rattle.model.specs.Containment.{isZone}
 use Rattle.model.proofs.Passed.{then-on, then-off}
 use Rattle.model.proofs.Sections.{zone-is}
 use Rattle.sections.proofs.Room.{no-zone, no-room, room-enough}

@@ -1,7 +1,5 @@
-use mathlib.Core.Path.{_≡_}
 use Rattle.model.specs.Bytes.{text}
 use Rattle.sections.proofs.Parts.{own-has, first-has, last-has, found-inside, found-flat, entry-made}
-use native.Mathlib.Omega.{arith}
 use borrow.Author.Needs.{needs}
 use Rattle.sections.proofs.entries.entry_of.Statement.{statement}
 use Rattle.sections.proofs.entries.entry_of.Tie as tie

@@ -1,7 +1,5 @@
 use Rattle.model.specs.Values.{size}
 use Rattle.sections.proofs.Parts.{one-word}
-use native.Mathlib.Omega.{arith}
-use borrow.Author.Needs.{needs}
 use Rattle.sections.proofs.entries.size_of.Statement.{statement}
 use Rattle.sections.proofs.entries.size_of.Tie as tie
 

@@ -1,10 +1,9 @@
-use Prim.Native.Nat.{_+_, _*_, _-_, _≤_}
-use mathlib.Core.Path.{_≡_, refl, sym, ap, _∙_}
+use Prim.Native.Nat.{_-_, _≤_}
+use mathlib.Core.Path.{_≡_, refl, _∙_}
 use lib.ListN.{length, take}
-use lib.Seq.{length-sets}
 use Rattle.model.specs.Lists.{over}
 use Rattle.model.specs.Image.{treeOf}
-use Rattle.model.specs.Sections.{sectionNodes, entries, allNumbers, entryNumbers}
+use Rattle.model.specs.Sections.{sectionNodes, entries, allNumbers}
 use Rattle.sections.proofs.Filling.{Visited, none-visited, some-left, next-entry, one-visited, store-numbers, all-taken}
 use native.Mathlib.Omega.{arith}
 use borrow.Author.Needs.{needs}

@@ -1,6 +1,4 @@
-use Prim.Native.Nat.{_/_}
-use mathlib.Core.Path.{_≡_, sym, ap, _∙_}
-use lib.ListN.{length}
+use mathlib.Core.Path.{sym, ap, _∙_}
 use Rattle.model.specs.Sections.{sectionNumbersMemory}
 use Rattle.model.specs.Answers.{countTells}
 use Rattle.sections.proofs.Told.{counts, count-leaves, rejection-leaves}

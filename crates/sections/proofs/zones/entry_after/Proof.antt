@@ -1,8 +1,7 @@
-use mathlib.Core.Path.{_≡_, ap, _∙_}
+use mathlib.Core.Path.{ap, _∙_}
 use Rattle.model.specs.Image.{treeOf}
 use Rattle.model.specs.Sections.{entry}
-use Rattle.sections.proofs.After.{next, next-is, next-section}
-use native.Mathlib.Omega.{arith}
+use Rattle.sections.proofs.After.{next-is, next-section}
 use borrow.Author.Needs.{needs}
 use Rattle.sections.proofs.zones.entry_after.Statement.{statement}
 use Rattle.sections.proofs.zones.entry_after.Tie as tie

@@ -1,6 +1,6 @@
 -- The dimensions from k on, and the product before them, decide.
 use native.Mathlib.Omega.{arith}
-use Prim.Native.Nat.{ℕ, _-_, _≤_, _<_, _*_}
+use Prim.Native.Nat.{_-_, _≤_, _<_, _*_}
 use mathlib.Core.Path.{_≡_, sym, ap, _∙_}
 use mathlib.Core.Bool.{not}
 use lib.Dec.{eqb}

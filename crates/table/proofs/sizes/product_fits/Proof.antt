@@ -1,5 +1,4 @@
 use native.Mathlib.Omega.{arith}
-use borrow.Author.Needs.{needs}
 use borrow.Author.Tests.{eq-eqb, ne-eqb}
 use Rattle.table.proofs.Laws.{product-fits, nothing-fits}
 use Rattle.table.proofs.sizes.product_fits.Statement.{statement}

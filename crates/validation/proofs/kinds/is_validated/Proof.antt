@@ -1,6 +1,5 @@
 -- The kind of a validated node is not 0.
 use mathlib.Core.Path.{ap, _∙_}
-use native.Mathlib.Omega.{arith}
 use borrow.Author.Needs.{needs}
 use lib.Dec.{ltb}
 use Rattle.validation.proofs.Marking.{kind-validated}

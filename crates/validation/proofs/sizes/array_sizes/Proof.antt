@@ -1,8 +1,7 @@
 -- The zone of an accepted image's array: its directions, and DataSize in each.
-use native.Mathlib.Omega.{arith}
-use mathlib.Core.Path.{_≡_, refl, sym, ap, _∙_}
+use mathlib.Core.Path.{ap, _∙_}
 use borrow.Author.Needs.{needs}
-use Rattle.model.specs.Image.{treeOf, nodeCount, parent}
+use Rattle.model.specs.Image.{treeOf}
 use Rattle.model.specs.Values.{indexDimension}
 use Rattle.validation.proofs.Laws.{sizes-told}
 use Rattle.labels.proofs.Children.{before-all}
