@@ -10,7 +10,7 @@ ghost use Rattle.model.specs.Containment.{isZone};
 ghost use Rattle.elements.specs.Arrays.{holds, inRanges};
 ghost use Rattle.faces.specs.Ranges.{Ranges, follows, Pushed};
 use super::sections::has_type;
-use elements::element_types::NGON;
+use element_types::NGON;
 
 // Does a range that begins with `first` follow the last of n ranges without a gap?
 fn follows(lasts: &[u64], n: usize, first: u64) -> bool

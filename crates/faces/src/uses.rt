@@ -18,7 +18,7 @@ ghost use Rattle.faces.specs.Uses.{endsAfterAt, UsedAt, Used, Cells, Ref
 use super::ledger::use_face;
 use super::ranges::range_of;
 use super::sections::has_type;
-use elements::element_types::NFACE;
+use element_types::NFACE;
 use model::Rejection;
 use model::Stage;
 
