@@ -1,6 +1,6 @@
 -- Laws of a search, and of ranges of faces.
 use Prim.Native.Nat.{ℕ, zero, suc, _+_, _≤_, _<_}
-use mathlib.Core.Path.{_≡_, sym, _∙_}
+use mathlib.Core.Path.{_≡_, sym, subst, _∙_}
 use mathlib.Core.Bool.{Bool, true, false, cond, _||_}
 use mathlib.Core.List.{List}
 use native.Mathlib.Omega.{arith}
@@ -8,7 +8,7 @@ use native.Mathlib.Nat.{zero-add}
 use lib.Dec.{ltb}
 use borrow.Author.Tests.{lt-ltb, le-ltb}
 use Rattle.model.specs.Lists.{seekFrom, someFrom}
-use Rattle.model.proofs.Walks.{some-by}
+use Rattle.model.proofs.Walks.{some-by, seek-holds}
 use Rattle.model.specs.Bytes.{magnitude}
 use Rattle.model.specs.Corner.{numberAt}
 use Rattle.elements.specs.Arrays.{holds, inRanges, refersTo}
@@ -29,6 +29,9 @@ module _ (firsts lasts : List ℕ) (n f : ℕ) where
   pub range-sought : {r : ℕ} → r ≡ seekFrom (holds firsts lasts f) n 0 → ltb r n ≡ inRanges firsts lasts n f
   unfolding inRanges
   range-sought e = rw e (rw zero-add at (seek-some (holds firsts lasts f) n 0))
+
+  pub sought-holds : {r : ℕ} → r ≡ seekFrom (holds firsts lasts f) n 0 → r < n → holds firsts lasts f r ≡ true
+  sought-holds e h = subst (λ (q : ℕ). holds firsts lasts f q ≡ true) (sym e) (seek-holds (holds firsts lasts f) n 0 (rw (← e, zero-add) h))
 
   pub range-asked : {j : ℕ} → j < n → holds firsts lasts f j ≡ true → ltb j n ≡ inRanges firsts lasts n f
   unfolding inRanges

@@ -12,9 +12,9 @@ ghost use Rattle.model.specs.Elements.{NGON, elementType};
 ghost use Rattle.elements.specs.Given.{faceRange, Gathered, Faces, refersFace};
 ghost use Rattle.elements.specs.Arrays.{Numbers};
 ghost use Rattle.model.specs.Lists.{everyFrom};
-use super::element_types::NGON;
 use super::ranges::all_faces;
 use super::ranges::push;
+use element_types::NGON;
 use sids::range_of;
 
 const I4_TYPE: u64 = 4;

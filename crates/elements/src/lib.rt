@@ -1,5 +1,4 @@
 // Rules 27 to 35: the type, the range, the start offsets and the references of a section.
-pub mod element_types; // element_types.rt: the element types
 pub mod arrays; // arrays.rt: rows of numbers of 4 or 8 bytes; start offsets and node references
 pub mod ranges; // ranges.rt: face references against the ranges of faces
 pub mod offsets; // offsets.rt: rules 30 to 32
@@ -9,7 +8,4 @@ pub mod references; // references.rt: rules 34 and 35
 pub mod lengths; // lengths.rt: rules 29 to 32
 pub mod stage; // stage.rt: rules 27 to 35 together
 
-pub use element_types::has_offsets;
-pub use element_types::nodes_per;
-pub use element_types::taken;
 pub use stage::element_stage;

@@ -1,5 +1,6 @@
 // Face references against ranges of faces: range j goes from firsts[j] to lasts[j].
 ghost use mathlib.Core.Path.{_≡_};
+ghost use mathlib.Core.Bool.{true};
 ghost use Prim.Native.Nat.{_≤_, _<_};
 ghost use lib.Dec.{ltb};
 ghost use lib.ListN.{length};
@@ -35,9 +36,9 @@ fn first_range(firsts: &[u64], lasts: &[u64], count: usize, f: u64) -> usize
 }
 
 // A range that holds f, the range `hint` asked first; count where none does.
-fn range_of(firsts: &[u64], lasts: &[u64], count: usize, hint: usize, f: u64) -> usize
+pub fn range_of(firsts: &[u64], lasts: &[u64], count: usize, hint: usize, f: u64) -> usize
     requires { ⌜ (count ≤ length (now firsts)) × (count ≤ length (now lasts)) ⌝ }
-    ensures { λ r. ⌜ ltb r count ≡ inRanges (now (firsts .entry)) (now (lasts .entry)) count f ⌝ }
+    ensures { λ r. ⌜ (ltb r count ≡ inRanges (now (firsts .entry)) (now (lasts .entry)) count f) × (r < count → holds (now (firsts .entry)) (now (lasts .entry)) f r ≡ true) ⌝ }
 {
     if hint < count {
         if holds(firsts, lasts, f, hint) {

@@ -12,8 +12,8 @@ ghost use Rattle.elements.specs.Given.{SectionReady};
 ghost use Rattle.elements.specs.Groups.{referenceRules};
 ghost use Prim.Native.Nat.{_≤_, _<_};
 use super::arrays::all_within;
-use super::element_types::NFACE;
 use super::faces::all_refer;
+use element_types::NFACE;
 use model::Rejection;
 use model::Stage;
 

@@ -11,15 +11,14 @@ use lib.Dec.{leb, ltb}
 use lib.ListN.{length, getD, set}
 use lib.Seq.{getD-set-same, getD-set-other}
 use borrow.Author.Tests.{ltb-true, eqb-true, leb-false, le-leb}
-use Rattle.model.specs.Lists.{someFrom, seekFrom, sumBefore}
+use Rattle.model.specs.Lists.{someFrom, sumBefore}
 use Rattle.model.specs.Image.{treeOf, nodeCount}
 use Rattle.model.specs.Given.{Accepted}
 use Rattle.model.specs.Elements.{firstElement, lastElement, elementCount, inRange, faceSection, hasFace, faceOf}
 use Rattle.model.specs.FaceUsage.{facesIn, faceCount, facePlace}
 use Rattle.model.proofs.Logic.{untrue, and-first, and-second, and-both, or-cases, or-left, or-right}
-use Rattle.model.proofs.Walks.{sumBefore-step, some-at, seek-holds}
+use Rattle.model.proofs.Walks.{sumBefore-step, some-at}
 use Rattle.elements.specs.Arrays.{holds, inRanges}
-use Rattle.elements.proofs.Seeks.{range-sought}
 use Rattle.elements.proofs.Pushes.{some-last, put-behind, put-longer}
 use Rattle.faces.specs.Ranges.{Ranges, placeBy, follows, Ends, Pushed}
 use Rattle.faces.proofs.Accepted.{faces-are, place-is, few-faces, no-face-section, sum-none, sum-bounded}
@@ -238,17 +237,17 @@ module _ (b : List ℕ) {z n : ℕ} {firsts lasts bases : List ℕ} (g : Ranges 
   unfolding inRanges
   place-below f e = let u = some-at (holds firsts lasts f) n 0 (ranged f e) in g .below (u .at) f (omega (arith, u .to)) (u .holds)
 
+  -- a range looked up for a face f holds it
+  pub range-found : {f m r : ℕ} → f ≡ m → faceOf (treeOf b) z m ≡ true → (ltb r n ≡ inRanges firsts lasts n f) × (r < n → holds firsts lasts f r ≡ true)
+      → (r < n) × (holds firsts lasts f r ≡ true)
+  range-found {f} {m} {r} p e o =
+      let i : inRanges firsts lasts n f ≡ true = rw p (ranged m e) in
+      let l : r < n = ltb-true r n (o .0 ∙ i) in
+      (l, o .1 l)
+
   pub all-faces : getD bases n 0 ≡ faceCount (treeOf b) z
   unfolding faceCount treeOf
   all-faces = g .total
-
--- a search among ranges of which one holds f
-pub range-found : (firsts lasts : List ℕ) (n f : ℕ) {r : ℕ} → r ≡ seekFrom (holds firsts lasts f) n 0 → inRanges firsts lasts n f ≡ true
-    → (r < n) × (holds firsts lasts f r ≡ true)
-unfolding inRanges
-range-found firsts lasts n f {r} e i =
-    let l : r < n = ltb-true r n (range-sought firsts lasts n f e ∙ i) in
-    (l, subst (λ (q : ℕ). holds firsts lasts f q ≡ true) (sym e) (seek-holds (holds firsts lasts f) n 0 (rw (← e, zero-add) l)))
 
 -- a range put behind the others, as it was done
 module _ (firsts lasts bases : List ℕ) (n first last : ℕ) where

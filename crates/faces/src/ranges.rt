@@ -1,16 +1,14 @@
 // The zone's faces by ranges: range j goes from firsts[j] to lasts[j], and its faces have the places from bases[j] on.
 ghost use mathlib.Core.Path.{_≡_};
-ghost use mathlib.Core.Bool.{Bool, true};
+ghost use mathlib.Core.Bool.{true};
 ghost use Prim.Native.Nat.{_+_, _≤_, _<_};
 ghost use lib.ListN.{length, getD};
-ghost use Rattle.model.specs.Lists.{seekFrom};
 ghost use Rattle.model.specs.Image.{treeOf, nodeCount};
 ghost use Rattle.model.specs.Given.{Accepted};
 ghost use Rattle.model.specs.Containment.{isZone};
-ghost use Rattle.elements.specs.Arrays.{holds, inRanges};
 ghost use Rattle.faces.specs.Ranges.{Ranges, follows, Pushed};
 use super::sections::has_type;
-use elements::element_types::NGON;
+use element_types::NGON;
 
 // Does a range that begins with `first` follow the last of n ranges without a gap?
 fn follows(lasts: &[u64], n: usize, first: u64) -> bool
@@ -93,46 +91,4 @@ pub fn gather(
         i += 1;
     }
     n
-}
-
-// Does range j hold f?
-fn holds(firsts: &[u64], lasts: &[u64], f: u64, j: usize) -> bool
-    requires { ⌜ (j < length (now firsts)) × (j < length (now lasts)) ⌝ }
-    ensures { λ r. ⌜ r ≡ holds (now (firsts .entry)) (now (lasts .entry)) f j ⌝ }
-{
-    let first = firsts[j];
-    let last = lasts[j];
-    if f < first {
-        return false;
-    }
-    f <= last
-}
-
-// The first of n ranges that holds f; n where none does.
-fn first_range(firsts: &[u64], lasts: &[u64], n: usize, f: u64) -> usize
-    requires { ⌜ (n ≤ length (now firsts)) × (n ≤ length (now lasts)) ⌝ }
-    ensures { λ r. ⌜ r ≡ seekFrom (holds (now (firsts .entry)) (now (lasts .entry)) f) n 0 ⌝ }
-{
-    let mut j: usize = 0;
-    while j < n {
-        if holds(firsts, lasts, f, j) {
-            return j;
-        }
-        j += 1;
-    }
-    n
-}
-
-// The range that holds f, one of n; the range `hint` is asked first.
-pub fn range_of(firsts: &[u64], lasts: &[u64], n: usize, hint: usize, f: u64) -> usize
-    requires { ⌜ (n ≤ length (now firsts)) × (n ≤ length (now lasts)) ⌝ }
-    requires { ⌜ inRanges (now firsts) (now lasts) n f ≡ true ⌝ }
-    ensures { λ r. ⌜ (r < n) × (holds (now (firsts .entry)) (now (lasts .entry)) f r ≡ true) ⌝ }
-{
-    if hint < n {
-        if holds(firsts, lasts, f, hint) {
-            return hint;
-        }
-    }
-    first_range(firsts, lasts, n, f)
 }

@@ -16,9 +16,9 @@ ghost use Rattle.elements.specs.Arrays.{Numbers};
 ghost use Rattle.faces.specs.Ranges.{Ranges};
 ghost use Rattle.faces.specs.Uses.{endsAfterAt, UsedAt, Used, Cells, References};
 use super::ledger::use_face;
-use super::ranges::range_of;
 use super::sections::has_type;
-use elements::element_types::NFACE;
+use element_types::NFACE;
+use elements::ranges::range_of;
 use model::Rejection;
 use model::Stage;
 

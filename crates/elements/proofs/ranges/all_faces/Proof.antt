@@ -21,12 +21,12 @@ loop-holds c = every-start _ _
 returns : tie.Need-returns Inv-loop μ-loop
 returns c =
     every-stop (c .before .before .before .before .loop .inv) (omega arith)
-    (refers-not _ _ _ _ _ _ _ (c .before .before .magnitude-at .ensures) (c .before .range-of .ensures) (c .if1 .taken))
+    (refers-not _ _ _ _ _ _ _ (c .before .before .magnitude-at .ensures) (c .before .range-of .ensures .0) (c .if1 .taken))
 
 loop-again : tie.Need-loop-again Inv-loop μ-loop
 loop-again c =
     every-more (c .before .before .before .before .loop .inv) (omega arith)
-    (refers _ _ _ _ _ _ _ (c .before .before .magnitude-at .ensures) (c .before .range-of .ensures) (c .if1 .left))
+    (refers _ _ _ _ _ _ _ (c .before .before .magnitude-at .ensures) (c .before .range-of .ensures .0) (c .if1 .left))
 
 returns-2 : tie.Need-returns-2 Inv-loop μ-loop
 returns-2 c = every-done (c .before .loop .inv) (omega arith)
