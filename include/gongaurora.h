@@ -85,7 +85,9 @@ enum gongaurora_rule {
     GONGAURORA_RULE_USAGE_ROOM = 44,      /* fewer bytes lent than the zone has faces */
     GONGAURORA_RULE_FACE_REPEATED = 45,   /* a face used twice with one sign; node and element tell where */
     GONGAURORA_RULE_ROOM = 46,            /* too little memory lent */
-    GONGAURORA_RULE_VALUE_TYPE = 47       /* a data type whose values are not handed out */
+    GONGAURORA_RULE_VALUE_TYPE = 47,      /* a data type whose values are not handed out */
+
+    GONGAURORA_RULE_LARGEST = 47
 };
 
 /* The rule as one sentence for an error message. Static text; never NULL. */
@@ -151,9 +153,9 @@ void gongaurora_export_sections(const uint8_t *image, size_t length, uint64_t zo
 /* returns the rule; 0: the number was written */
 uint64_t gongaurora_export_corner(const uint8_t *image, size_t length, const uint64_t *section, size_t nine, uint64_t element,
                                   uint64_t corner, int64_t *number, size_t one);
-/* returns the rule; 0: the corners were written to out, and how many they are */
+/* returns how many corners were written to out; of a refusal UINT64_MAX less the rule */
 uint64_t gongaurora_export_corners(const uint8_t *image, size_t length, const uint64_t *section, size_t nine, uint64_t element,
-                                   int64_t *out, size_t numbers, uint64_t *count, size_t one);
+                                   int64_t *out, size_t numbers);
 /* answer: rule, node, element, count */
 void gongaurora_export_face_usage(const uint8_t *image, size_t length, uint64_t zone, uint8_t *out, size_t bytes,
                                   uint64_t *answer, size_t room);
@@ -271,11 +273,12 @@ static inline gongaurora_corner gongaurora_corner_of(const uint8_t *image, size_
 static inline gongaurora_count gongaurora_corners_of(const uint8_t *image, size_t length, const gongaurora_section *section,
                                                      uint64_t element, int64_t *out, size_t room)
 {
+    uint64_t told = gongaurora_export_corners(image, length, (const uint64_t *)(const void *)section, 9, element, out, room);
+    int refused = told >= UINT64_MAX - GONGAURORA_RULE_LARGEST;
     gongaurora_count result;
+    result.rule = refused ? UINT64_MAX - told : 0;
     result.node = 0;
-    result.count = 0;
-    result.rule = gongaurora_export_corners(image, length, (const uint64_t *)(const void *)section, 9, element, out, room,
-                                            &result.count, 1);
+    result.count = refused ? 0 : told;
     return result;
 }
 

@@ -8,3 +8,4 @@ need() {
 need python3 python3
 need cargo cargo
 need cc gcc
+need objcopy binutils

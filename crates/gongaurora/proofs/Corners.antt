@@ -10,7 +10,7 @@ use Rattle.model.specs.Reads.{sectionAt}
 use Rattle.model.specs.ReadList.{ruleOf}
 use Rattle.model.specs.Corner.{cornerAnswer}
 use Rattle.model.specs.ElementCorners.{elementCornersAnswer, elementCornersMemory}
-use Rattle.gongaurora.specs.Told.{cornerTold, cornerMemory, cornersTold, countMemory, cornersMemory}
+use Rattle.gongaurora.specs.Told.{cornerTold, cornerMemory, cornersTold, cornersMemory, countOrRule}
 
 module _ (b section : List ℕ) (element corner : ℕ) (out : List ℤ) where
   -- 46, and the memory as it was
@@ -34,27 +34,14 @@ module _ (b section : List ℕ) (element corner : ℕ) (out : List ℤ) where
   read h l = rw (le-leb 9 (length section) h, le-leb 1 (length out) l) refl
 
 -- all corners of an element
-module _ (b section : List ℕ) (element : ℕ) (out : List ℤ) (count : List ℕ) where
-  -- 46, and both memories as they were
-  abbrev pub AllRefused : Type 0
-  AllRefused =
-      (_≡_ {A = ℕ} 46 (ruleOf (cornersTold b section element (length out) count)))
-      × (count ≡ countMemory (cornersTold b section element (length out) count) count)
-      × (out ≡ cornersMemory b section element out count)
+module _ (b section : List ℕ) (element : ℕ) (out : List ℤ) where
+  pub none-read : length section < 9
+      → (18446744073709551569 ≡ countOrRule (cornersTold b section element (length out))) × (out ≡ cornersMemory b section element out)
+  unfolding cornersTold cornersMemory check _then_ countOrRule
+  none-read h = let e = lt-leb 9 (length section) h in (rw e refl, rw e refl)
 
-  pub few-of-all : length section < 9 → AllRefused
-  unfolding cornersTold cornersMemory check _then_ ruleOf countMemory
-  few-of-all h = let e = lt-leb 9 (length section) h in (rw e refl, rw e refl, rw e refl)
-
-  pub full-of-all : 9 ≤ length section → length count < 1 → AllRefused
-  unfolding cornersTold cornersMemory check _then_ ruleOf countMemory
-  full-of-all h l =
-      let e = le-leb 9 (length section) h in
-      let f = lt-leb 1 (length count) l in
-      (rw (e, f) refl, rw (e, f) refl, rw (e, f) refl)
-
-  pub all-read : 9 ≤ length section → 1 ≤ length count
-      → (cornersTold b section element (length out) count ≡ elementCornersAnswer b (sectionAt section 0) element (length out))
-      × (cornersMemory b section element out count ≡ elementCornersMemory b (sectionAt section 0) element out)
+  pub all-read : 9 ≤ length section
+      → (cornersTold b section element (length out) ≡ elementCornersAnswer b (sectionAt section 0) element (length out))
+      × (cornersMemory b section element out ≡ elementCornersMemory b (sectionAt section 0) element out)
   unfolding cornersTold cornersMemory check _then_
-  all-read h l = (rw (le-leb 9 (length section) h, le-leb 1 (length count) l) refl, rw (le-leb 9 (length section) h, le-leb 1 (length count) l) refl)
+  all-read h = let e = le-leb 9 (length section) h in (rw e refl, rw e refl)

@@ -1,5 +1,5 @@
 -- What an export leaves in lent memory: nothing is written where the answer has no room for its numbers.
-use Prim.Native.Nat.{ℕ}
+use Prim.Native.Nat.{ℕ, _-_}
 use mathlib.Core.Bool.{cond, _&&_}
 use mathlib.Core.List.{List, [], _∷_}
 use lib.ListN.{length}
@@ -29,15 +29,15 @@ unfoldable pub cornerMemory : Answer ℤ → List ℤ → List ℤ
 cornerMemory (rejected r) out = out
 cornerMemory (answer n) out = over out (n ∷ [])
 
--- all corners of an element: 46 unless the section has nine numbers and there is room for the count
-unfoldable pub cornersTold : List ℕ → List ℕ → ℕ → ℕ → List ℕ → Answer ℕ
-cornersTold b section element room count =
-    check 0 (46 unless (leb 9 (length section) && leb 1 (length count)) ∷ []) then elementCornersAnswer b (sectionAt section 0) element room
+-- all corners of an element: 46 unless the section has nine numbers
+unfoldable pub cornersTold : List ℕ → List ℕ → ℕ → ℕ → Answer ℕ
+cornersTold b section element room =
+    check 0 (46 unless leb 9 (length section) ∷ []) then elementCornersAnswer b (sectionAt section 0) element room
 
-unfoldable pub countMemory : Answer ℕ → List ℕ → List ℕ
-countMemory (rejected r) count = count
-countMemory (answer n) count = over count (n ∷ [])
+unfoldable pub cornersMemory : List ℕ → List ℕ → ℕ → List ℤ → List ℤ
+cornersMemory b section element out = cond (leb 9 (length section)) (elementCornersMemory b (sectionAt section 0) element out) out
 
-unfoldable pub cornersMemory : List ℕ → List ℕ → ℕ → List ℤ → List ℕ → List ℤ
-cornersMemory b section element out count =
-    cond (leb 9 (length section) && leb 1 (length count)) (elementCornersMemory b (sectionAt section 0) element out) out
+-- a count, or a refusal, as one number: rules are counted down from the greatest of 64 bits, which no count comes near
+unfoldable pub countOrRule : Answer ℕ → ℕ
+countOrRule (rejected r) = 18446744073709551615 - r .rule
+countOrRule (answer n) = n

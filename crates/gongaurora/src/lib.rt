@@ -10,13 +10,13 @@ ghost use Rattle.model.specs.Path.{pathAnswer, pathMemory};
 ghost use Rattle.model.specs.ArrayValue.{valueAnswer};
 ghost use Rattle.model.specs.DataSize.{dataSizeAnswer};
 ghost use Rattle.gongaurora.specs.Numbers.{validationNumbers, countNumbers, usageNumbers, valueNumbers, sizeNumbers};
-ghost use Rattle.gongaurora.specs.Told.{told, roomed, cornerTold, cornerMemory, cornersTold, countMemory, cornersMemory};
+ghost use Rattle.gongaurora.specs.Told.{told, roomed, cornerTold, cornerMemory, cornersTold, cornersMemory, countOrRule};
 
 mod numbers; // numbers.rt: answers as numbers
 
 use numbers::count_numbers;
+use numbers::count_or_rule;
 use numbers::put_corner;
-use numbers::put_count;
 use numbers::put3;
 use numbers::put4;
 use numbers::put6;
@@ -59,28 +59,22 @@ pub extern "C" fn gongaurora_export_corner(
     put_corner(c, number)
 }
 
-// All corners of an element in front of `out`, of a section entry's nine numbers. Answers the rule, and 0 where their count was written in front of
-// `count`. Rule 46 where the entry has fewer than nine numbers, `count` has no room or `out` too little; a refusal leaves both as they were.
+// All corners of an element in front of `out`, of a section entry's nine numbers. Answers their count; of a refusal the greatest number of 64 bits
+// less the rule. Rule 46 where the entry has fewer than nine numbers or `out` is too short; a refusal leaves `out` as it was.
 #[no_mangle]
 pub extern "C" fn gongaurora_export_corners(
     image: &[u8],
     section: &[u64],
     element: u64,
     out: &mut [i64],
-    count: &mut [u64],
 ) -> u64
-    ensures { λ r. ⌜ r ≡ ruleOf (cornersTold (now (image .entry)) (now (section .entry)) element (length (now (out .entry))) (now (count .entry))) ⌝ }
-    ensures { λ _. ⌜ now (count .exit) ≡ countMemory (cornersTold (now (image .entry)) (now (section .entry)) element (length (now (out .entry))) (now (count .entry))) (now (count .entry)) ⌝ }
-    ensures { λ _. ⌜ now (out .exit) ≡ cornersMemory (now (image .entry)) (now (section .entry)) element (now (out .entry)) (now (count .entry)) ⌝ }
+    ensures { λ r. ⌜ r ≡ countOrRule (cornersTold (now (image .entry)) (now (section .entry)) element (length (now (out .entry)))) ⌝ }
+    ensures { λ _. ⌜ now (out .exit) ≡ cornersMemory (now (image .entry)) (now (section .entry)) element (now (out .entry)) ⌝ }
 {
     if section.len() < 9 {
-        return 46;
+        return numbers::LARGEST - 46;
     }
-    if count.len() < 1 {
-        return 46;
-    }
-    let c = corners::element_corners(image, corners::section_at(section, 0), element, out);
-    put_count(c, count)
+    count_or_rule(corners::element_corners(image, corners::section_at(section, 0), element, out))
 }
 
 // The section entries of a zone, nine numbers each, in front of `out`. The answer: rule, node, count of entries.

@@ -9,7 +9,7 @@ ghost use Rattle.model.specs.ReadList.{ruleOf};
 ghost use Rattle.model.specs.Answers.{validationTells, countTells, usageTells, cornerTells, valueTells, dataSizeTells, NanCases};
 ghost use Rattle.validation.specs.Sizes.{Absent};
 ghost use Rattle.gongaurora.specs.Numbers.{three, four, six, refusal, valued, validationNumbers, countNumbers, usageNumbers, valueNumbers, sizeNumbers};
-ghost use Rattle.gongaurora.specs.Told.{cornerMemory, countMemory};
+ghost use Rattle.gongaurora.specs.Told.{cornerMemory, countOrRule};
 use model::ArrayValue;
 use model::Corner;
 use model::Count;
@@ -185,17 +185,16 @@ pub fn put_corner(c: Corner, number: &mut [i64]) -> u64
     }
 }
 
-// Writes a count in front of lent memory and answers 0; a refusal answers its rule and leaves the memory as it was.
-pub fn put_count(c: Count, count: &mut [u64]) -> u64
-    requires { ⌜ 1 ≤ length (now count) ⌝ }
-    ensures { λ r. ⌜ (r ≡ ruleOf (countTells c)) × (now (count .exit) ≡ countMemory (countTells c) (now (count .entry))) ⌝ }
+// The greatest number of 64 bits.
+pub const LARGEST: u64 = 0xffff_ffff_ffff_ffff;
+
+// A count, or of a refusal the greatest number less the rule.
+pub fn count_or_rule(c: Count) -> u64
+    ensures { λ r. ⌜ r ≡ countOrRule (countTells c) ⌝ }
 {
     match c {
-        Count::Of(n) => {
-            count[0] = n;
-            0
-        }
-        Count::Rejected(r) => r.rule,
+        Count::Of(n) => n,
+        Count::Rejected(r) => LARGEST - r.rule,
     }
 }
 

@@ -154,30 +154,26 @@ impl Comparison<'_> {
         }
     }
 
-    /// All corners of an element by a section's first numbers, with `room` numbers and `one` count lent. With fewer than nine
-    /// numbers or no room for the count 46 is answered and nothing is written.
-    pub fn corners(&mut self, section: &[u64], element: u64, room: usize, one: usize) {
+    /// All corners of an element by a section's first numbers, with `room` numbers lent. With fewer than nine numbers 46 is
+    /// answered and nothing is written.
+    pub fn corners(&mut self, section: &[u64], element: u64, room: usize) {
         let (image, lent) = (self.image, self.lent);
-        let (mut out, mut count) = (Guarded::<i64>::new(room), Guarded::<u64>::new(one));
-        let (mut out_after, mut count_after) = (out.items().to_vec(), count.items().to_vec());
-        let mut rule = 46;
-        if let (Ok(section), Some(first)) = (<&[u64; 9]>::try_from(section), count_after.first_mut()) {
-            let (told, corners) = expected::corners(image, section, element, &mut out_after);
-            rule = told;
-            *first = corners.unwrap_or(*first);
-        }
-        let (out_at, count_at) = (out.pointer(), count.pointer());
+        let mut out = Guarded::<i64>::new(room);
+        let mut after = out.items().to_vec();
+        let answer = <&[u64; 9]>::try_from(section)
+            .map_or(Err(46), |section| expected::corners(image, section, element, &mut after));
+        let out_at = out.pointer();
         let told = self.with_section(7, section, |numbers, nine| {
-            // SAFETY: the image and the section can be read, both buffers can be written; they do not overlap.
-            unsafe { gongaurora_export_corners(lent, image.len(), numbers, nine, element, out_at, room, count_at, one) }
+            // SAFETY: the image and the section can be read, the buffer can be written; they do not overlap.
+            unsafe { gongaurora_export_corners(lent, image.len(), numbers, nine, element, out_at, room) }
         });
-        self.tally.call(7, Some(rule));
-        let intact = out.guards_intact() && count.guards_intact();
-        if told != rule || out.items() != out_after || count.items() != count_after || !intact {
+        self.tally.call(7, Some(answer.err().unwrap_or(0)));
+        let wanted = answer.unwrap_or_else(|rule| u64::MAX - rule);
+        if told != wanted || out.items() != after || !out.guards_intact() {
+            let intact = out.guards_intact();
             let what = format!(
-                "({section:?}, element {element}; room {room}, {one}): rule {told}, {:?}, {:?} not {rule}, {out_after:?}, {count_after:?}; guards intact {intact}",
+                "({section:?}, element {element}; room {room}): {told}, {:?} not {wanted}, {after:?}; guards intact {intact}",
                 out.items(),
-                count.items(),
             );
             self.tally.difference(7, &what);
         }

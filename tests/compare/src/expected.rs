@@ -80,10 +80,8 @@ pub fn corner(image: &[u8], section: &[u64; 9], element: u64, corner: u64) -> (u
     }
 }
 
-/// The rule and, where it is 0, how many corners went to the front of `out`.
-pub fn corners(image: &[u8], section: &[u64; 9], element: u64, out: &mut [i64]) -> (u64, Option<u64>) {
-    match element_corners(image, section, element, out) {
-        Ok(count) => (0, Some(count as u64)),
-        Err(rejection) => (u64::from(rejection.rule), None),
-    }
+/// How many corners went to the front of `out`, or the rule.
+pub fn corners(image: &[u8], section: &[u64; 9], element: u64, out: &mut [i64]) -> Result<u64, u64> {
+    let answer = element_corners(image, section, element, out);
+    answer.map(|count| count as u64).map_err(|rejection| u64::from(rejection.rule))
 }

@@ -34,8 +34,6 @@ extern "C" {
         element: u64,
         out: *mut i64,
         numbers: usize,
-        count: *mut u64,
-        one: usize,
     ) -> u64;
     pub fn gongaurora_export_face_usage(
         image: *const u8,

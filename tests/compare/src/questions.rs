@@ -194,16 +194,14 @@ impl Asker<'_, '_> {
             self.comparison.corner_by_few(&numbers[..few], entry.first, 1);
             self.comparison.corner(&numbers, entry.first, 1, 0);
             self.comparison.corner(&numbers, entry.first, 1, 3);
-            self.comparison.corners(&numbers[..few], entry.first, 8, 1);
-            self.comparison.corners(&numbers, entry.first, 8, 0);
-            self.comparison.corners(&numbers, entry.first, 8, 3);
+            self.comparison.corners(&numbers[..few], entry.first, 8);
         }
     }
 
     /// All corners of an element: room for about as many as elements mostly have, or for all of any element asked about.
     fn all_corners(&mut self, section: &[u64; 9], element: u64) {
         let room = if self.random.one_in(4) { 40 } else { self.random.index(10) };
-        self.comparison.corners(section, element, room, 1);
+        self.comparison.corners(section, element, room);
     }
 
     /// Corners of a section: its ends, all elements where they are few, else some.
