@@ -102,9 +102,12 @@ pub fn required_broken(image: &mut Image, random: &mut Random) {
         node.set_text(text);
     } else if node.is_named("ElementRange") {
         let wide = node.width() == 8;
-        let (first, last) = (node.numbers()[0], node.numbers()[1]);
+        let [first, last] = node.numbers()[..] else {
+            return;
+        };
         let beyond = if wide { MAX_NUMBER + 1 } else { i64::from(i32::MIN) };
-        let ranges = [[0, last], [-1, last], [last + 1, last], [first, beyond], [first, first - 1]];
+        let (above, below) = (last.saturating_add(1), first.saturating_sub(1));
+        let ranges = [[0, last], [-1, last], [above, last], [first, beyond], [first, below]];
         node.set_numbers(random.pick::<[i64; 2]>(&ranges));
     }
 }

@@ -12,9 +12,15 @@ use crate::text::padded;
 pub fn other_element_type(image: &mut Image, random: &mut Random) {
     if let Some(node) = section(image, random) {
         let types = [0, 1, 20, 20, 24, 25, 39, 56, 57, -1, -22, 278, 65_558, MAX_NUMBER, i64::from(i32::MIN)];
-        let mut numbers = image.nodes[node].numbers();
-        numbers[0] = *random.pick(&types);
-        image.nodes[node].set_numbers(&numbers);
+        change(image, node, 0, *random.pick(&types));
+    }
+}
+
+/// The two numbers of a range, where it has two.
+fn range_of(image: &Image, node: usize) -> Option<(i64, i64)> {
+    match image.nodes[node].numbers()[..] {
+        [first, last] => Some((first, last)),
+        _ => None,
     }
 }
 
@@ -33,9 +39,11 @@ pub fn meeting_ranges(image: &mut Image, random: &mut Random) {
     let (Some(from), Some(to)) = (image.child(moved, "ElementRange"), image.child(other, "ElementRange")) else {
         return;
     };
-    let (old, target) = (image.nodes[from].numbers(), image.nodes[to].numbers());
-    let count = old[1] - old[0];
-    let first = if random.one_in(2) { target[1] } else { target[0] - count };
+    let (Some((first, last)), Some((low, high))) = (range_of(image, from), range_of(image, to)) else {
+        return;
+    };
+    let count = last.saturating_sub(first).clamp(0, MAX_NUMBER - 1);
+    let first = if random.one_in(2) { high } else { low.saturating_sub(count) };
     let first = first.clamp(1, MAX_NUMBER - count);
     image.nodes[from].set_numbers(&[first, first + count]);
 }
@@ -45,15 +53,17 @@ pub fn other_range_length(image: &mut Image, random: &mut Random) {
     let Some(section) = section(image, random) else {
         return;
     };
-    if let Some(range) = image.child(section, "ElementRange") {
-        let mut numbers = image.nodes[range].numbers();
-        match random.below(4) {
-            0 => numbers[1] = (numbers[1] + 1).min(MAX_NUMBER),
-            1 => numbers[0] = (numbers[0] - 1).max(1),
-            2 => numbers[0] = (numbers[0] + 1).min(numbers[1]),
-            _ => numbers = vec![1, MAX_NUMBER],
-        }
-        image.nodes[range].set_numbers(&numbers);
+    let Some(range) = image.child(section, "ElementRange") else {
+        return;
+    };
+    if let Some((first, last)) = range_of(image, range) {
+        let other = match random.below(4) {
+            0 => [first, last.saturating_add(1).min(MAX_NUMBER)],
+            1 => [first.saturating_sub(1).max(1), last],
+            2 => [first.saturating_add(1).min(last), last],
+            _ => [1, MAX_NUMBER],
+        };
+        image.nodes[range].set_numbers(&other);
     }
 }
 
@@ -66,7 +76,7 @@ pub fn other_array_length(image: &mut Image, random: &mut Random) {
     if let Some(array) = image.child(section, name) {
         let mut numbers = image.nodes[array].numbers();
         if random.one_in(2) || numbers.len() < 2 {
-            numbers.push(numbers.last().map_or(1, |last| last + 1));
+            numbers.push(numbers.last().map_or(1, |last| last.saturating_add(1)));
         } else {
             numbers.pop();
         }
@@ -99,9 +109,10 @@ pub fn offset_not_rising(image: &mut Image, random: &mut Random) {
     if let Some(offsets) = section_child(image, random, &[22, 23], "ElementStartOffset") {
         let numbers = image.nodes[offsets].numbers();
         let place = 1 + random.index(numbers.len().max(2) - 1);
-        let before = numbers[place - 1];
-        let choices = [before, before - 1, -1, 0, i64::from(i32::MIN), MAX_NUMBER];
-        change(image, offsets, place, *random.pick(&choices));
+        if let Some(&before) = numbers.get(place - 1) {
+            let choices = [before, before.saturating_sub(1), -1, 0, i64::from(i32::MIN), MAX_NUMBER];
+            change(image, offsets, place, *random.pick(&choices));
+        }
     }
 }
 
@@ -109,9 +120,11 @@ pub fn offset_not_rising(image: &mut Image, random: &mut Random) {
 pub fn last_offset(image: &mut Image, random: &mut Random) {
     if let Some(offsets) = section_child(image, random, &[22, 23], "ElementStartOffset") {
         let numbers = image.nodes[offsets].numbers();
-        let last = numbers[numbers.len() - 1];
-        let choices = [last - 1, last + 1, MAX_NUMBER, last + 256, i64::MAX];
-        change(image, offsets, numbers.len() - 1, *random.pick(&choices));
+        if let Some(&last) = numbers.last() {
+            let (below, above, far) = (last.saturating_sub(1), last.saturating_add(1), last.saturating_add(256));
+            let choices = [below, above, MAX_NUMBER, far, i64::MAX];
+            change(image, offsets, numbers.len() - 1, *random.pick(&choices));
+        }
     }
 }
 
@@ -180,12 +193,12 @@ pub fn face_section_lost(image: &mut Image, random: &mut Random) {
         return;
     };
     let section = image.nodes[range].parent as usize;
-    let numbers = image.nodes[range].numbers();
+    let (first, last) = range_of(image, range).unwrap_or((1, 1));
     match random.below(6) {
         0 => image.remove(section),
         1 => change(image, section, 0, 7),
         2 => change(image, section, 1, -1),
-        3 => change(image, range, 1, (numbers[1] - 1).max(numbers[0])),
+        3 => change(image, range, 1, last.saturating_sub(1).max(first)),
         4 => change(image, range, 0, 0),
         _ => break_type(random, &mut image.nodes[section]),
     }

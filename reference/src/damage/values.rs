@@ -1,6 +1,6 @@
 //! Damage to data types, dimensions, values and array sizes (rules 24 to 26).
 
-use super::pick::{add_anywhere, is_validated, labelled, section, some_node, validated_node};
+use super::pick::{add_anywhere, change, is_validated, labelled, section, some_node, validated_node};
 use crate::build::{Image, Node};
 use crate::lawful::STORING_TYPES;
 use crate::random::Random;
@@ -131,7 +131,7 @@ pub fn other_values(image: &mut Image, random: &mut Random) {
         return;
     };
     let node = &mut image.nodes[number];
-    let mut numbers = node.numbers();
+    let numbers = node.numbers();
     match label {
         "CGNSBase_t" => {
             let values = [[0, 3], [4, 4], [-1, 2], [3, 2], [2, 1], [1, 4], [i64::from(i32::MIN), 1]];
@@ -143,22 +143,21 @@ pub fn other_values(image: &mut Image, random: &mut Random) {
             node.set_text(text);
         }
         "Elements_t" => {
-            numbers[1] = *random.pick(&[-1, i64::from(i32::MIN)]);
-            node.set_numbers(&numbers);
+            change(image, number, 1, *random.pick(&[-1, i64::from(i32::MIN)]));
         }
         "Rind_t" => {
             let place = random.index(numbers.len());
-            numbers[place] = *random.pick(&[-1, i64::from(i32::MIN)]);
-            node.set_numbers(&numbers);
+            change(image, number, place, *random.pick(&[-1, i64::from(i32::MIN)]));
         }
+        _ if numbers.len() < 3 => (),
         _ => {
             let place = random.index(numbers.len());
             let vertices = numbers[place % (numbers.len() / 3)];
             let beyond = if node.width() == 8 { MAX_NUMBER + 1 } else { -1 };
             let far = if node.width() == 8 { i64::MAX } else { -5 };
-            let values = [-1, 0, 1, vertices + 1, beyond, numbers[place] + 1, far, i64::MIN];
-            numbers[place] = *random.pick(&values);
-            node.set_numbers(&numbers);
+            let (more, other) = (vertices.saturating_add(1), numbers[place].saturating_add(1));
+            let values = [-1, 0, 1, more, beyond, other, far, i64::MIN];
+            change(image, number, place, *random.pick(&values));
         }
     }
 }
@@ -207,6 +206,9 @@ pub fn other_rind(image: &mut Image, random: &mut Random) {
     let node = &mut image.nodes[number];
     let mut numbers = node.numbers();
     let place = random.index(numbers.len());
+    if numbers.is_empty() {
+        return;
+    }
     if random.one_in(3) {
         numbers.rotate_right(1);
     } else {
