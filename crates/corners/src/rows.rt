@@ -3,7 +3,7 @@ ghost use mathlib.Core.Path.{_≡_};
 ghost use Prim.Native.Nat.{_+_, _*_, _≤_, _<_};
 ghost use lib.Dec.{T};
 ghost use lib.ListN.{length};
-ghost use Rattle.model.specs.Bytes.{half, signed};
+ghost use Rattle.model.specs.Bytes.{signed};
 ghost use Rattle.model.specs.Corner.{inside, numberAt};
 ghost use Rattle.words.specs.Width.{isWidth};
 

@@ -1,6 +1,6 @@
 // What a node is validated as: the place of its label among the known ones, 14 for the root.
 ghost use mathlib.Core.Path.{_≡_};
-ghost use Prim.Native.Nat.{_+_, _*_, _≤_, _<_};
+ghost use Prim.Native.Nat.{_+_, _≤_, _<_};
 ghost use mathlib.Core.List.{[]};
 ghost use lib.ListN.{length, take, drop, getD};
 ghost use Rattle.model.specs.Bytes.{le, spells};

@@ -2,7 +2,7 @@
 ghost use mathlib.Core.Path.{_≡_};
 ghost use mathlib.Core.List.{[], _∷_};
 ghost use Prim.Native.Nat.{_+_, _*_, _≤_, _<_, _%_, _/_};
-ghost use lib.ListN.{length, getD};
+ghost use lib.ListN.{getD};
 ghost use Rattle.model.specs.Image.{treeOf, nodeCount, node, dataType, widths};
 ghost use Rattle.model.specs.Records.{link};
 ghost use Rattle.model.specs.Bounds.{Laid};

@@ -1,7 +1,7 @@
 // Rules 7 and 8: parents and depth.
 ghost use mathlib.Core.Path.{_≡_};
 ghost use mathlib.Core.Bool.{true};
-ghost use Prim.Native.Nat.{_+_, _*_, _≤_, _<_};
+ghost use Prim.Native.Nat.{_<_};
 ghost use Rattle.model.specs.Image.{treeOf, nodeCount};
 ghost use Rattle.model.specs.Records.{parentLawful, deeperThan};
 ghost use Rattle.model.specs.Bounds.{Laid};

@@ -1,10 +1,9 @@
 // Names and labels of the node records: the tests of rules 9, 10 and 11.
 ghost use mathlib.Core.Path.{_≡_};
 ghost use mathlib.Core.Bool.{true, not, _&&_};
-ghost use Prim.Native.Nat.{_+_, _*_, _≤_, _<_};
+ghost use Prim.Native.Nat.{_+_, _≤_, _<_};
 ghost use lib.ListN.{length};
 ghost use Rattle.model.specs.Lists.{among};
-ghost use Rattle.model.specs.Bytes.{same};
 ghost use Rattle.model.specs.Image.{treeOf, nodeCount, name, label, parent};
 ghost use Rattle.model.specs.Records.{nameLawful, labelLawful, namesake, nameTaken, parentLawful};
 ghost use Rattle.model.specs.Bounds.{Laid};
