@@ -1,4 +1,4 @@
-//! Compiles walks.c and links libgongaurora.a from the folder that GONGAURORA_LIB names; dist/ by default.
+//! Compiles walks.c and checked.c, and links libgongaurora.a from the folder that GONGAURORA_LIB names; dist/ by default.
 
 use std::env;
 use std::path::{Path, PathBuf};
@@ -6,16 +6,20 @@ use std::process::Command;
 
 fn main() {
     println!("cargo:rerun-if-env-changed=GONGAURORA_LIB");
-    println!("cargo:rerun-if-changed=src/walks.c");
+    println!("cargo:rerun-if-changed=src");
     println!("cargo:rerun-if-changed=../include/gongaurora.h");
     let here = PathBuf::from(env::var("CARGO_MANIFEST_DIR").unwrap());
     let made = PathBuf::from(env::var("OUT_DIR").unwrap());
-    let object = made.join("walks.o");
-    run("cc", &["-std=c99", "-Wall", "-Wextra", "-Werror", "-O2", "-fPIC", "-I"], &here.join("../include"), |c| {
-        c.arg("-c").arg(here.join("src/walks.c")).arg("-o").arg(&object);
+    let objects = ["walks", "checked"].map(|name| {
+        let object = made.join(name).with_extension("o");
+        let flags = ["-std=c99", "-Wall", "-Wextra", "-Werror", "-O2", "-fPIC", "-falign-functions=64", "-I"];
+        run("cc", &flags, &here.join("../include"), |c| {
+            c.arg("-c").arg(here.join("src").join(name).with_extension("c")).arg("-o").arg(&object);
+        });
+        object
     });
     run("ar", &["rcs"], &made.join("libwalks.a"), |c| {
-        c.arg(&object);
+        c.args(&objects);
     });
     let folder = env::var("GONGAURORA_LIB").map_or(here.join("../dist"), PathBuf::from);
     let folder = folder.canonicalize().unwrap_or(folder);

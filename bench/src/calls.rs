@@ -43,6 +43,7 @@ extern "C" {
     fn bench_sections(image: *const u8, length: usize, zone: u64, out: *mut u64, room: usize) -> Count;
     fn bench_face_usage(image: *const u8, length: usize, zone: u64, out: *mut u8, room: usize) -> Usage;
     fn bench_walk_elements(image: *const u8, length: usize, sections: *const u64, count: usize) -> Walked;
+    fn bench_walk_checked(image: *const u8, length: usize, sections: *const u64, count: usize) -> Walked;
     fn bench_walk_corners(image: *const u8, length: usize, sections: *const u64, count: usize) -> Walked;
     fn bench_walk_plain(image: *const u8, length: usize, sections: *const u64, count: usize) -> Walked;
 }
@@ -84,6 +85,11 @@ fn walk(walk: Walk, image: &[u8], sections: &[u64]) -> Walked {
 /// The walk by the library, an element a call.
 pub fn walk_elements(image: &[u8], sections: &[u64]) -> Walked {
     walk(bench_walk_elements, image, sections)
+}
+
+/// The walk by hand-written C with the library's checks, an element a call.
+pub fn walk_checked(image: &[u8], sections: &[u64]) -> Walked {
+    walk(bench_walk_checked, image, sections)
 }
 
 /// The walk by the library, a corner a call.

@@ -1,5 +1,5 @@
 //! `bench [REPETITIONS]`: prints tables of times and ratios, all from one run: validation against the reference and against
-//! one pass over the bytes, the walk against unchecked C, face usage against the reference, peak memory.
+//! one pass over the bytes, the walk against C with no check and with the same checks, face usage against the reference, peak memory.
 
 mod calls;
 mod measure;
@@ -8,7 +8,7 @@ use std::path::Path;
 use std::process::Command;
 use std::{env, fs};
 
-use calls::{face_count, face_usage, sections, sum, validate, walk_corners, walk_elements, walk_plain};
+use calls::{face_count, face_usage, sections, sum, validate, walk_checked, walk_corners, walk_elements, walk_plain};
 use measure::{measured, peak_growth};
 use reference::mesh::mesh;
 
@@ -84,23 +84,28 @@ fn validation_table(subjects: &[Subject], repetitions: usize) {
 }
 
 fn walk_table(subjects: &[Subject], repetitions: usize) {
-    println!("| walk, cell to face to node | corners read | by elements | by corners | unchecked C | elements / unchecked | corners / unchecked |");
-    println!("|---|---|---|---|---|---|---|");
+    println!("| walk, cell to face to node | corners read | by elements | by corners | checked C | unchecked C | elements / unchecked | corners / unchecked | elements / checked |");
+    println!("|---|---|---|---|---|---|---|---|---|");
     for Subject { name, image, .. } in subjects.iter().filter(|subject| subject.walked) {
         let sections = sections(image, ZONE);
         let walked = walk_plain(image, &sections);
-        assert_eq!(walked, walk_elements(image, &sections), "{name}");
-        assert_eq!(walked, walk_corners(image, &sections), "{name}");
+        for walk in [walk_elements, walk_checked, walk_corners] {
+            assert_eq!(walked, walk(image, &sections), "{name}");
+        }
         let times = measured(
             repetitions,
-            [&mut || walk_plain(image, &sections).sum, &mut || walk_elements(image, &sections).sum, &mut || {
-                walk_corners(image, &sections).sum
-            }],
+            [
+                &mut || walk_plain(image, &sections).sum,
+                &mut || walk_elements(image, &sections).sum,
+                &mut || walk_corners(image, &sections).sum,
+                &mut || walk_checked(image, &sections).sum,
+            ],
         );
-        let (plain, elements, corners) = (times.time(0), times.time(1), times.time(2));
-        let (by_elements, by_corners) = (times.ratio(1, 0), times.ratio(2, 0));
+        let [plain, elements, corners, checked] = [0, 1, 2, 3].map(|piece| times.time(piece));
+        let [by_elements, by_corners, to_checked] =
+            [(1, 0), (2, 0), (1, 3)].map(|(one, other)| times.ratio(one, other));
         println!(
-            "| {name} | {} | {elements:.2} | {corners:.2} | {plain:.2} | {by_elements:.2} | {by_corners:.2} |",
+            "| {name} | {} | {elements:.2} | {corners:.2} | {checked:.2} | {plain:.2} | {by_elements:.2} | {by_corners:.2} | {to_checked:.2} |",
             walked.corners
         );
     }

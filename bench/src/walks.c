@@ -1,5 +1,6 @@
 /* What the library is measured by and against: its calls as a C program makes them, the same walk with no check at all, and
  * one pass over the image's bytes. */
+#include "checked.h"
 #include "gongaurora.h"
 
 #include <string.h>
@@ -46,33 +47,52 @@ static const gongaurora_section *section_of_face(const gongaurora_section *secti
     return sections;
 }
 
-/* Cell to face to node by the library, element by element; hexahedra straight to their nodes. */
-walked_t bench_walk_elements(const uint8_t *image, size_t length, const gongaurora_section *sections, size_t count)
-{
-    enum { ROOM = 32 };
-    int64_t of_cell[ROOM], of_face[ROOM];
-    walked_t walked = {0, 0};
-    for (size_t k = 0; k < count; k++) {
-        const gongaurora_section *cells = &sections[k];
-        if (cells->type != HEXA_8 && cells->type != NFACE_N) continue;
-        for (uint64_t cell = cells->first; cell <= cells->last; cell++) {
-            gongaurora_count size = gongaurora_corners_of(image, length, cells, cell, of_cell, ROOM);
-            walked.corners += size.count;
-            for (uint64_t c = 0; c < size.count; c++) {
-                if (cells->type == HEXA_8) {
-                    walked.sum += (uint64_t)of_cell[c];
-                    continue;
-                }
-                uint64_t number = of_cell[c] < 0 ? 0 - (uint64_t)of_cell[c] : (uint64_t)of_cell[c];
-                const gongaurora_section *faces = section_of_face(sections, count, number);
-                gongaurora_count nodes = gongaurora_corners_of(image, length, faces, number, of_face, ROOM);
-                walked.corners += nodes.count;
-                for (uint64_t n = 0; n < nodes.count; n++) walked.sum += (uint64_t)of_face[n];
-            }
-        }
+/* Cell to face to node, element by element; hexahedra straight to their nodes. `corners_of` reads all corners of an element and
+ * answers how many they are. */
+#define ELEMENT_WALK(name, corners_of)                                                                                       \
+    walked_t name(const uint8_t *image, size_t length, const gongaurora_section *sections, size_t count)                     \
+    {                                                                                                                        \
+        enum { ROOM = 32 };                                                                                                  \
+        int64_t of_cell[ROOM], of_face[ROOM];                                                                                \
+        walked_t walked = {0, 0};                                                                                            \
+        for (size_t k = 0; k < count; k++) {                                                                                 \
+            const gongaurora_section *cells = &sections[k];                                                                  \
+            if (cells->type != HEXA_8 && cells->type != NFACE_N) continue;                                                   \
+            for (uint64_t cell = cells->first; cell <= cells->last; cell++) {                                                \
+                uint64_t size = corners_of(image, length, cells, cell, of_cell, ROOM);                                       \
+                walked.corners += size;                                                                                      \
+                for (uint64_t c = 0; c < size; c++) {                                                                        \
+                    if (cells->type == HEXA_8) {                                                                             \
+                        walked.sum += (uint64_t)of_cell[c];                                                                  \
+                        continue;                                                                                            \
+                    }                                                                                                        \
+                    uint64_t number = of_cell[c] < 0 ? 0 - (uint64_t)of_cell[c] : (uint64_t)of_cell[c];                      \
+                    const gongaurora_section *faces = section_of_face(sections, count, number);                              \
+                    uint64_t nodes = corners_of(image, length, faces, number, of_face, ROOM);                                \
+                    walked.corners += nodes;                                                                                 \
+                    for (uint64_t n = 0; n < nodes; n++) walked.sum += (uint64_t)of_face[n];                                 \
+                }                                                                                                            \
+            }                                                                                                                \
+        }                                                                                                                    \
+        return walked;                                                                                                       \
     }
-    return walked;
+
+/* By the library, and by hand-written C with the same checks; 0 for a refusal. */
+static uint64_t of_library(const uint8_t *image, size_t length, const gongaurora_section *section, uint64_t element,
+                           int64_t *out, size_t room)
+{
+    return gongaurora_corners_of(image, length, section, element, out, room).count;
 }
+
+static uint64_t of_checked(const uint8_t *image, size_t length, const gongaurora_section *section, uint64_t element,
+                           int64_t *out, size_t room)
+{
+    uint64_t told = checked_corners(image, length, section, element, out, room);
+    return told >= UINT64_MAX - GONGAURORA_RULE_LARGEST ? 0 : told;
+}
+
+ELEMENT_WALK(bench_walk_elements, of_library)
+ELEMENT_WALK(bench_walk_checked, of_checked)
 
 /* The same corner by corner. */
 walked_t bench_walk_corners(const uint8_t *image, size_t length, const gongaurora_section *sections, size_t count)
