@@ -18,6 +18,12 @@ pub mod Corners
 pub mod References
 pub mod NoneNegative
 pub mod ZoneEntries
+pub mod LittleEndian
+pub mod Overlays
+pub mod Written
+pub mod ElementCorners
+pub mod Numbered
+pub mod Told
 pub mod Demand3
 pub mod Staging
 pub mod Parents

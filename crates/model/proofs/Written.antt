@@ -6,11 +6,11 @@ use native.Mathlib.Omega.{arith}
 use native.Mathlib.Nat.{add-zero, zero-add}
 use native.Mathlib.Numerals.{add-one}
 use lib.ListN.{length, getD, drop, set, List·getD-append}
 use Rattle.model.specs.Lists.{over}
 use Rattle.model.specs.ReadList.{valuesFrom}
 
 module _ {A : Type 0} (f : ℕ → A) where
-  values-length : (k i : ℕ) → length (valuesFrom f k i) ≡ k
+  pub values-length : (k i : ℕ) → length (valuesFrom f k i) ≡ k
   unfolding valuesFrom
   values-length zero i = refl
   values-length (suc k) i = ap suc (values-length k (suc i))
