@@ -112,7 +112,7 @@ module _ (b : List ℕ) (ok : imageCheck b ≡ passed) (z : ℕ) (rest : List �
     unfolding s cornerReference
     face-read y i j = rw (face-signed (in-zone k h) y _ (place-inside i j)) (face _ (face-inside (in-zone k h) y _ (place-inside i j)))
 
-  read-answers : isZone (treeOf b) z ≡ true → (k el c : ℕ) → k < sectionCount (treeOf b) z → (r : Corner)
+  pub read-answers : isZone (treeOf b) z ≡ true → (k el c : ℕ) → k < sectionCount (treeOf b) z → (r : Corner)
       → CornerTold (treeOf b) z k el c (cornerTells r) → ReadAnswers b z rest k el c r
   unfolding s
   read-answers zone k el c h r d =

@@ -25,6 +25,7 @@ pub mod ElementCorners
 pub mod Numbered
 pub mod Told
 pub mod Demand3
+pub mod Demand3Calls
 pub mod Staging
 pub mod Parents
 pub mod Known

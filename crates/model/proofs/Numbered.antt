@@ -27,7 +27,7 @@ use Rattle.model.specs.Exports.{Numbered, AllNumbered}
 use Rattle.model.proofs.Logic.{and-first, and-second}
 
 -- the rules of a list are numbered from 1 on
-fromOne : List Rule → Bool
+unfoldable pub fromOne : List Rule → Bool
 fromOne [] = true
 fromOne ((rule unless holds) ∷ rest) = leb 1 rule && fromOne rest
 
@@ -35,14 +35,14 @@ of-cond : {A : Type 0} (x y : Answer A) (t : Bool) → Numbered x → Numbered y
 of-cond x y true h l = h
 of-cond x y false h l = l
 
-of-check : (node : ℕ) (rules : List Rule) → fromOne rules ≡ true → Numbered (check node rules)
+pub of-check : (node : ℕ) (rules : List Rule) → fromOne rules ≡ true → Numbered (check node rules)
 unfolding check fromOne
 of-check node [] e = tt
 of-check node ((rule unless holds) ∷ rest) e =
     of-cond _ _ holds (of-check node rest (and-second (leb 1 rule) (fromOne rest) e)) (leb-true 1 rule (and-first (leb 1 rule) (fromOne rest) e))
 
 module _ {A : Type 0} where
-  of-then : (c : Check) (s : Answer A) → Numbered c → Numbered s → Numbered (c then s)
+  pub of-then : (c : Check) (s : Answer A) → Numbered c → Numbered s → Numbered (c then s)
   unfolding _then_
   of-then (rejected r) s h l = h
   of-then (answer x) s h l = l
