@@ -10,11 +10,14 @@ use lib.IntN.{ℤ}
 use lib.ListN.{length, length-set}
 use mir.Syntax.{w64}
 use mir.Facts.{toZ-ofZ}
+use Rattle.model.specs.declared.Rejection.{Rejection}
+use Rattle.model.specs.declared.Count.the-variants as Count
 use Rattle.model.specs.Lists.{over}
-use Rattle.model.specs.ReadList.{requestsIn, answerAt, numberOf, ruleOf, valuesFrom, roomForAnswers}
-use Rattle.corners.proofs.Written.{written-none, written-more}
-use Rattle.corners.proofs.reads.corner_reads.Statement.{statement}
-use Rattle.corners.proofs.reads.corner_reads.Tie as tie
+use Rattle.model.specs.Rules.{rejected, rejection, check, _then_, _gives_, leaves}
+use Rattle.model.specs.ReadList.{requestsIn, answerAt, numberOf, ruleOf, valuesFrom, readsCheck, ReadsAnswered}
+use Rattle.model.proofs.Written.{written-none, written-more}
+use Rattle.reads.proofs.corner_reads.Statement.{statement}
+use Rattle.reads.proofs.corner_reads.Tie as tie
 
 record Written (image entries reads : List ℕ) (numbers₀ : List ℤ) (rules₀ : List ℕ) (n : ℕ) (numbers : List ℤ) (rules : List ℕ) (i : ℕ) : Type 0 where
   count : n ≡ requestsIn reads
@@ -32,20 +35,20 @@ Inv-loop image entries reads numbers₀ rules₀ n i₀ numbers rules i = Writte
 abbrev μ-loop : tie.MeasureT-loop
 μ-loop image entries reads numbers₀ rules₀ n i₀ numbers rules i = n - i
 
+-- 46, and nothing is written
+short : {image entries reads : List ℕ} {numbers : List ℤ} {rules : List ℕ} {r : Rejection} → r ≡ rejection 46 0
+    → readsCheck reads (length numbers) (length rules) ≡ rejected (rejection 46 0)
+    → ReadsAnswered image entries reads numbers rules (Count.Rejected r) image entries numbers rules
+unfolding _gives_ _then_ leaves
+short e q = record { answers = rw (e, q); image-kept = refl; entries-kept = refl; numbers-are = rw q; rules-are = rw q }
+
 returns : tie.Need-returns Inv-loop μ-loop
-unfolding roomForAnswers
-returns c = record { room = simp (lt-leb _ _ (c .if1 .taken)); image-kept = refl; entries-kept = refl; numbers-are = refl; rules-are = refl }
+unfolding readsCheck check
+returns c = short (c .at .ensures) (simp (lt-leb _ _ (c .before .if1 .taken)))
 
 returns-2 : tie.Need-returns-2 Inv-loop μ-loop
-unfolding roomForAnswers
-returns-2 c =
-    record {
-      room = simp (le-leb _ _ (c .before .if1 .left), lt-leb _ _ (c .if2 .taken));
-      image-kept = refl;
-      entries-kept = refl;
-      numbers-are = refl;
-      rules-are = refl;
-    }
+unfolding readsCheck check
+returns-2 c = short (c .at2 .ensures) (simp (le-leb _ _ (c .before .before .if1 .left), lt-leb _ _ (c .before .if2 .taken)))
 
 loop-holds : tie.Need-loop-holds Inv-loop μ-loop
 loop-holds c =
@@ -79,22 +82,24 @@ loop-again c =
     }
 
 returns-3 : tie.Need-returns-3 Inv-loop μ-loop
-unfolding roomForAnswers
+unfolding readsCheck check leaves _gives_ _then_
 returns-3 c =
     let v = c .before .loop .inv in
     let e : c .before .loop .i ≡ requestsIn (now (c .before .before .before .before .before .before .before .before .args .reads)) = omega arith in
+    let p = le-leb _ _ (v .room) in
+    let q = le-leb _ _ (v .room-2) in
     record {
-      room = simp (le-leb _ _ (v .room), le-leb _ _ (v .room-2));
+      answers = rw (p, q);
       image-kept = refl;
       entries-kept = refl;
-      numbers-are = rw e at (v .numbers-are);
-      rules-are = rw e at (v .rules-are);
+      numbers-are = rw (p, q) (rw e at (v .numbers-are));
+      rules-are = rw (p, q) (rw e at (v .rules-are));
     }
 
 pub corner-reads-spec : {M : Type 1} → statement M
 corner-reads-spec =
     tie.close
-    (tie.spec Inv-loop μ-loop returns returns-2 loop-holds (λ c κs. omega arith) (search needs) (search needs) (λ c. omega arith)
+    (tie.spec Inv-loop μ-loop (search needs) returns (search needs) returns-2 loop-holds (λ c κs. omega arith) (search needs) (search needs) (λ c. omega arith)
     (search needs)
     (search needs)
     (λ c. omega arith)

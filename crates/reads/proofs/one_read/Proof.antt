@@ -2,8 +2,8 @@ use mathlib.Core.Path.{refl, sym, _∙_, ap}
 use borrow.Author.Needs.{needs}
 use Rattle.model.specs.Rules.{rejected}
 use Rattle.model.proofs.Runs.{entry-read, read-unlisted}
-use Rattle.corners.proofs.reads.one_read.Statement.{statement}
-use Rattle.corners.proofs.reads.one_read.Tie as tie
+use Rattle.reads.proofs.one_read.Statement.{statement}
+use Rattle.reads.proofs.one_read.Tie as tie
 
 returns : tie.Need-returns
 returns c = entry-read (c .before .before .if1 .taken) (rw (c .before .section-at .ensures) at (c .corner .ensures)) refl

@@ -1,7 +1,7 @@
 use borrow.Author.Needs.{needs}
 use Rattle.model.specs.ReadList.{answerAt, requestAt}
-use Rattle.corners.proofs.reads.answer_at.Statement.{statement}
-use Rattle.corners.proofs.reads.answer_at.Tie as tie
+use Rattle.reads.proofs.answer_at.Statement.{statement}
+use Rattle.reads.proofs.answer_at.Tie as tie
 
 returns : tie.Need-returns
 unfolding answerAt requestAt

@@ -2,8 +2,8 @@ use borrow.Author.Needs.{needs, sfits-of}
 use mir.Syntax.{w64}
 use mir.Facts.{toZ-ofZ}
 use Rattle.model.specs.ReadList.{numberOf}
-use Rattle.corners.proofs.reads.number_of.Statement.{statement}
-use Rattle.corners.proofs.reads.number_of.Tie as tie
+use Rattle.reads.proofs.number_of.Statement.{statement}
+use Rattle.reads.proofs.number_of.Tie as tie
 
 returns : tie.Need-returns
 unfolding numberOf

@@ -1,7 +1,7 @@
 use borrow.Author.Needs.{needs}
 use Rattle.model.specs.ReadList.{ruleOf}
-use Rattle.corners.proofs.reads.rule_of.Statement.{statement}
-use Rattle.corners.proofs.reads.rule_of.Tie as tie
+use Rattle.reads.proofs.rule_of.Statement.{statement}
+use Rattle.reads.proofs.rule_of.Tie as tie
 
 returns : tie.Need-returns
 unfolding ruleOf

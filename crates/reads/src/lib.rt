@@ -1,16 +1,17 @@
-// Reads with the entries of a flat list, nine numbers each.
+// Corner reads with the entries of a flat list, nine numbers each: one of them, and a list of them.
 ghost use mathlib.Core.Path.{_≡_};
 ghost use Prim.Native.Nat.{_<_};
 ghost use Rattle.model.specs.Answers.{cornerTells};
 ghost use Rattle.model.specs.Reads.{entriesIn, sectionAt, EntryRead};
 ghost use Rattle.model.specs.ReadList.{requestsIn, answerAt, numberOf, ruleOf, ReadsAnswered};
-use super::reader::corner;
+use corners::corner;
 use model::Corner;
+use model::Count;
 use model::Rejection;
 use model::Section;
 
 // The k-th section entry.
-pub fn section_at(entries: &[u64], k: usize) -> Section
+fn section_at(entries: &[u64], k: usize) -> Section
     requires { ⌜ k < entriesIn (now entries) ⌝ }
     ensures { λ r. ⌜ r ≡ sectionAt (now (entries .entry)) k ⌝ }
 {
@@ -74,24 +75,24 @@ fn answer_at(image: &[u8], entries: &[u64], reads: &[u64], i: usize) -> Corner
     one_read(image, entries, reads[j], reads[j + 1], reads[j + 2])
 }
 
-// Every read of a list. The i-th answer is a number and a rule, 0 for none, in the i-th place of the two lists; what lies beyond stays.
-// False, and nothing is written, where one of them is too short. Image and entries stay as they are.
+// Every read of a list, and how many they are. The i-th answer is a number and a rule, 0 for none, in the i-th place of the two lists; what lies beyond
+// stays. Rule 46, and nothing is written, where one of them is too short. Image and entries stay as they are.
 pub fn corner_reads(
     image: &[u8],
     entries: &[u64],
     reads: &[u64],
     numbers: &mut [i64],
     rules: &mut [u64],
-) -> bool
+) -> Count
     ensures { λ r. ⌜ ReadsAnswered (now (image .entry)) (now (entries .entry)) (now (reads .entry)) (now (numbers .entry)) (now (rules .entry))
         r (now (image .exit)) (now (entries .exit)) (now (numbers .exit)) (now (rules .exit)) ⌝ }
 {
     let n = reads.len() / 3;
     if numbers.len() < n {
-        return false;
+        return Count::Rejected(Rejection::at(46, 0));
     }
     if rules.len() < n {
-        return false;
+        return Count::Rejected(Rejection::at(46, 0));
     }
     let mut i = 0;
     while i < n {
@@ -100,5 +101,5 @@ pub fn corner_reads(
         rules[i] = rule_of(a);
         i += 1;
     }
-    true
+    Count::Of(n as u64)
 }

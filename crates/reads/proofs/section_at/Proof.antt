@@ -1,8 +1,8 @@
 use mathlib.Core.Path.{refl}
 use borrow.Author.Needs.{needs}
 use Rattle.model.specs.Reads.{sectionAt}
-use Rattle.corners.proofs.reads.section_at.Statement.{statement}
-use Rattle.corners.proofs.reads.section_at.Tie as tie
+use Rattle.reads.proofs.section_at.Statement.{statement}
+use Rattle.reads.proofs.section_at.Tie as tie
 
 returns : tie.Need-returns
 unfolding sectionAt
