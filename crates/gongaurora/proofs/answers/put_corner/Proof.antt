@@ -1,0 +1,29 @@
+use native.Mathlib.Omega.{arith}
+use mathlib.Core.Path.{refl, ap, _∙_}
+use borrow.Author.Needs.{needs, sfits-of}
+use denote.Ref.{now}
+use mir.Syntax.{w64}
+use mir.Facts.{toZ-ofZ}
+use Rattle.model.specs.Lists.{over}
+use Rattle.model.specs.Bytes.{leBytes}
+use Rattle.model.specs.ReadList.{ruleOf}
+use Rattle.model.specs.Exports.{numberBytes}
+use Rattle.model.proofs.Overlays.{overAt-zero}
+use Rattle.gongaurora.proofs.answers.put_corner.Statement.{statement}
+use Rattle.gongaurora.proofs.answers.put_corner.Tie as tie
+
+returns : tie.Need-returns
+unfolding ruleOf numberBytes
+returns c =
+    let d = c .before .before .before in
+    let bits = d .whole-bits .ensures in
+    let known = d .before .before .known-told .given in
+    let is = d .before .before .before .c .given .1 in
+    rw is (refl, c .before .before .put-word .ensures ∙ overAt-zero _ _ ∙ rw bits (rw (toZ-ofZ (sfits-of {w = w64} (known .0 .1)))))
+
+returns-2 : tie.Need-returns-2
+unfolding ruleOf numberBytes
+returns-2 c = rw (c .before .c2 .given .1) (refl, refl)
+
+pub put-corner-spec : {M : Type 1} → statement M
+put-corner-spec = tie.close (tie.spec (search needs) (search needs) (search needs) (search needs) (search needs) returns returns-2)
