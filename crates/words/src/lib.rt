@@ -142,3 +142,15 @@ pub fn put_word(out: &mut [u8], at: usize, width: usize, x: u64)
         k += 1;
     }
 }
+
+// Writes the bytes of s from `at` on; the rest stays.
+pub fn put_bytes(out: &mut [u8], at: usize, s: &[u8])
+    requires { ⌜ at + length (now s) ≤ length (now out) ⌝ }
+    ensures { λ _. ⌜ now (out .exit) ≡ overAt at (now (out .entry)) (now (s .entry)) ⌝ }
+{
+    let mut k: usize = 0;
+    while k < s.len() {
+        out[at + k] = s[k];
+        k += 1;
+    }
+}
