@@ -1,10 +1,10 @@
 -- A number or a list of bytes written byte by byte: what is left to write gives the whole.
 use Prim.Native.Nat.{ℕ, suc, _+_, _-_, _/_, _%_, _≤_, _<_}
 use mathlib.Core.Path.{_≡_, refl, sym, ap, subst, _∙_}
-use mathlib.Core.List.{List, [], _∷_, _++_, append-assoc}
+use mathlib.Core.List.{List, [], _∷_, _++_, append-assoc, append-nil}
 use native.Mathlib.Omega.{arith}
 use native.Mathlib.Numerals.{add-one}
-use lib.ListN.{length, getD, take, drop, set, length-set}
+use lib.ListN.{length, getD, take, drop, set, length-set, drop-of-length-le}
 use lib.Seq.{take-suc-set, drop-set-lt, drop-drop, drop-cons}
 use Rattle.model.specs.Lists.{over, overAt}
 use Rattle.model.specs.Bytes.{leBytes}
@@ -62,3 +62,8 @@ bytes-more {out₀} {s} {at} {out} {k} l h g =
     let e : suc k ≡ k + 1 = omega arith in
     let m : Left out₀ s at out k (getD s k 0 ∷ drop (suc k) s) = rw (drop-cons s k 0 h) at l in
     more (subst (λ (j : ℕ). Left out₀ s at out k (getD s k 0 ∷ drop j s)) e m) g
+
+-- a list that fills the room
+pub filled : (out new : List ℕ) → length out ≤ length new → overAt 0 out new ≡ new
+unfolding overAt over
+filled out new h = rw (drop-of-length-le out {i = length new} h) (append-nil new)
