@@ -1,6 +1,6 @@
 // The header, the node records, data types, dimension words and stored numbers, read from the image's bytes.
 ghost use mathlib.Core.Path.{_≡_};
-ghost use Prim.Native.Nat.{_+_, _*_, _≤_, _<_};
+ghost use Prim.Native.Nat.{_≤_, _<_};
 ghost use lib.ListN.{length};
 ghost use Rattle.model.specs.Image.{treeOf, nodeCount, recordAt, parent};
 ghost use Rattle.model.specs.Bounds.{Laid};

@@ -1,7 +1,7 @@
 // Rules 7 to 18, node by node, the lowest rule first.
 ghost use mathlib.Core.Path.{_≡_};
 ghost use mathlib.Core.Bool.{true, _&&_};
-ghost use Prim.Native.Nat.{_+_, _<_};
+ghost use Prim.Native.Nat.{_<_};
 ghost use lib.Dec.{eqb};
 ghost use Rattle.model.specs.Rules.{check, _then_};
 ghost use Rattle.model.specs.Image.{treeOf, nodeCount};

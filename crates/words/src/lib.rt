@@ -1,11 +1,11 @@
 // Little-endian words and two's-complement numbers at a place of a byte slice.
 ghost use mathlib.Core.Path.{_≡_};
-ghost use Prim.Native.Nat.{_+_, _*_, _^_, _≤_, _<_};
+ghost use Prim.Native.Nat.{_+_, _^_, _≤_, _<_};
 ghost use lib.Dec.{T};
 ghost use lib.IntN.{natAbs};
 ghost use lib.ListN.{length, getD, take, drop};
 ghost use Rattle.model.specs.Lists.{overAt};
-ghost use Rattle.model.specs.Bytes.{le, leBytes, half, signed, same};
+ghost use Rattle.model.specs.Bytes.{le, leBytes, signed, same};
 ghost use Rattle.words.specs.Width.{isWidth, twos};
 
 // One byte, widened: its bound comes with it.
