@@ -1,11 +1,11 @@
--- A number written byte by byte: what is left to write gives the whole.
-use Prim.Native.Nat.{ℕ, zero, suc, _+_, _-_, _/_, _%_, _≤_, _<_}
-use mathlib.Core.Path.{_≡_, refl, sym, ap, _∙_}
-use mathlib.Core.List.{List, [], _∷_, _++_, append-assoc}
+-- A number or a list of bytes written byte by byte: what is left to write gives the whole.
+use Prim.Native.Nat.{ℕ, suc, _+_, _-_, _/_, _%_, _≤_, _<_}
+use mathlib.Core.Path.{_≡_, refl, sym, ap, subst, _∙_}
+use mathlib.Core.List.{List, [], _∷_, _++_, append-assoc, append-nil}
 use native.Mathlib.Omega.{arith}
 use native.Mathlib.Numerals.{add-one}
-use lib.ListN.{length, take, drop, set, length-set}
-use lib.Seq.{take-suc-set, drop-set-lt, drop-drop}
+use lib.ListN.{length, getD, take, drop, set, length-set, drop-of-length-le}
+use lib.Seq.{take-suc-set, drop-set-lt, drop-drop, drop-cons}
 use Rattle.model.specs.Lists.{over, overAt}
 use Rattle.model.specs.Bytes.{leBytes}
 use Rattle.model.proofs.Overlays.{overAt-nil}
@@ -54,3 +54,16 @@ word-more {out₀} {all} {at} {out} {k} width r l h g =
 
 pub word-start : (out : List ℕ) (at width x : ℕ) → Left out (leBytes width x) at out 0 (leBytes (width - 0) x)
 word-start out at width x = let e : width - 0 ≡ width = omega arith in rw e (start out (leBytes width x) at)
+
+-- the bytes of a list
+pub bytes-more : {out₀ s : List ℕ} {at : ℕ} {out : List ℕ} {k : ℕ} → Left out₀ s at out k (drop k s) → k < length s → at + length s ≤ length out₀
+    → Left out₀ s at (set out (at + k) (getD s k 0)) (k + 1) (drop (k + 1) s)
+bytes-more {out₀} {s} {at} {out} {k} l h g =
+    let e : suc k ≡ k + 1 = omega arith in
+    let m : Left out₀ s at out k (getD s k 0 ∷ drop (suc k) s) = rw (drop-cons s k 0 h) at l in
+    more (subst (λ (j : ℕ). Left out₀ s at out k (getD s k 0 ∷ drop j s)) e m) g
+
+-- a list that fills the room
+pub filled : (out new : List ℕ) → length out ≤ length new → overAt 0 out new ≡ new
+unfolding overAt over
+filled out new h = rw (drop-of-length-le out {i = length new} h) (append-nil new)
