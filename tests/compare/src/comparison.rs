@@ -147,7 +147,7 @@ impl Comparison<'_> {
         let (at, bytes) = (self.place_section(section), section.len());
         self.hold::<u8>(
             Call::ReadCorner,
-            format_args!("section {section:?}, element {element}, corner {corner}"),
+            format_args!("{:?} of {bytes} bytes, element {element}, corner {corner}", nine(section)),
             (0, room),
             |_, number| unsafe {
                 gongaurora_export_read_corner(lent, image.len(), at, bytes, element, corner, number, room)
@@ -174,7 +174,7 @@ impl Comparison<'_> {
         let (at, bytes) = (self.place_section(section), section.len());
         self.hold(
             Call::ReadElement,
-            format_args!("section {section:?}, element {element}"),
+            format_args!("{:?} of {bytes} bytes, element {element}", nine(section)),
             (numbers, room),
             |out, answer| unsafe {
                 gongaurora_export_read_element(lent, image.len(), at, bytes, element, out, numbers, answer, room)
