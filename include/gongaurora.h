@@ -24,9 +24,8 @@
  *              gongaurora_sections and gongaurora_data_size under 120 kB; gongaurora_path and gongaurora_array_value under
  *              40 kB; gongaurora_read_corner and gongaurora_read_element under 1 kB.
  *   Threads    There is no state: any calls may run at the same time, as long as no other thread writes what they read.
- *   Time       Measured, not proved. A validation of a usual mesh takes about as long as one pass over the image's bytes;
- *              of an image made to be slow, with 1,000 face sections, as long as 1,000 passes. Each call says whether it
- *              validates.
+ *   Cost       Measured, not proved. One validation of a usual mesh costs about one pass over the image's bytes; of an image
+ *              made to be slow, with 1,000 face sections, it cost over 1,000 passes. Each call says whether it validates.
  *   Linking    The archive needs one symbol from outside, memset.
  *   Proof      What is proved is proved of the archive's exports. The calls of this header are C around them: tested, not
  *              proved.
@@ -39,6 +38,7 @@
 #include <stddef.h>
 #include <stdint.h>
 
+/* The version of this header and of the archive beside it. */
 #define GONGAURORA_VERSION_MAJOR 0
 #define GONGAURORA_VERSION_MINOR 2
 #define GONGAURORA_VERSION_PATCH 0
@@ -198,8 +198,9 @@ typedef struct gongaurora_validation {
     uint64_t sections;  /* validated sections of all zones */
 } gongaurora_validation;
 
-/* Validates the whole image, once.
- * Refusals: 1 to 35, the first in the order told above. */
+/* Validates the whole image.
+ * Refusals: 1 to 35, the first in the order told above.
+ * Cost: one validation. */
 static inline gongaurora_validation gongaurora_validate(const uint8_t *image, size_t length)
 {
     gongaurora_validation result;
@@ -231,8 +232,9 @@ typedef struct gongaurora_count {
 } gongaurora_count;
 
 /* Writes the sections of a zone, asked for by its node number, in node order to the front of `out`, and answers how many
- * they are. `sections` of gongaurora_validate is room enough for any zone. Validates the image again.
- * Refusals: validation's; 40: no validated zone; 46: more sections than `room`. */
+ * they are. `sections` of gongaurora_validate is room enough for any zone.
+ * Refusals: validation's; 40: no validated zone; 46: more sections than `room`.
+ * Cost: one validation: the image is validated again. */
 static inline gongaurora_count gongaurora_sections(const uint8_t *image, size_t length, uint64_t zone, gongaurora_section *out,
                                                    size_t room)
 {
@@ -249,10 +251,11 @@ typedef struct gongaurora_corner {
 } gongaurora_corner;
 
 /* Reads one corner of an element: the number stored there. In a section of type 23 it is a face number, negative where the
- * cell sees the face from its other side; in others a node number. Does not validate; takes constant time. To read an element
- * whole, gongaurora_read_element is several times faster: it checks the section once.
+ * cell sees the face from its other side; in others a node number.
  * Refusals: 41: the element is not in the section's range; 43: the section is of a type that is not supported, or asks for
  * bytes that cannot be read; 42: the corner is not in 1 to the element's size.
+ * Cost: constant, with no validation. To read an element whole, gongaurora_read_element is several times faster: it checks the
+ * section once.
  *
  * Proved of the export, which is called with the section's bytes: with an accepted image and the sections that
  * gongaurora_sections gave for one of its zones, image and sections unchanged since, 43 never comes. 41 comes exactly for
@@ -271,10 +274,10 @@ static inline gongaurora_corner gongaurora_read_corner(const uint8_t *image, siz
     return result;
 }
 
-/* Reads all corners of an element: writes them, from corner 1 on, to the front of `out`, and answers how many they are. Does
- * not validate; takes time in proportion to the corners that it writes.
+/* Reads all corners of an element: writes them, from corner 1 on, to the front of `out`, and answers how many they are.
  * Refusals: 41: the element is not in the section's range; 43: the section is of a type that is not supported, or asks for
  * bytes that cannot be read; 46: the element has more corners than `room`.
+ * Cost: that of the corners written, with no validation.
  *
  * Proved of the export, with image and sections as told at gongaurora_read_corner: 43 never comes. 41 comes exactly for
  * elements outside the section's range, 46 exactly for an element inside it whose size is more than `room`. Otherwise the
@@ -306,10 +309,10 @@ typedef struct gongaurora_usage {
 } gongaurora_usage;
 
 /* Tells how the cells (type 23) of a zone use its faces (type 22): writes one byte a face (GONGAURORA_USE_..) to the front of
- * `out`, faces ordered by section node, then number; answers F. Bytes past the first F never change. Validates the image
- * again, then reads the zone's cells.
+ * `out`, faces ordered by section node, then number; answers F. Bytes past the first F never change.
  * Refusals: validation's; 40: no validated zone; 44: `room` is less than F; 45: a face used twice with one sign: then the
- * first F bytes are 0. */
+ * first F bytes are 0.
+ * Cost: one validation: the image is validated again; then the zone's cells are read once more. */
 static inline gongaurora_usage gongaurora_face_usage(const uint8_t *image, size_t length, uint64_t zone, uint8_t *out,
                                                      size_t room)
 {
@@ -325,9 +328,9 @@ static inline gongaurora_usage gongaurora_face_usage(const uint8_t *image, size_
 #define GONGAURORA_PATH_ROOM 1056
 
 /* Writes the path of a node to the front of `out` and answers its length: the names from below the root, each after a slash;
- * the root's path is one slash. No zero byte is appended. Works on a refused image too, as long as its rule is over 18. Does
- * not validate, but checks rules 1 to 18 again, which read the records and no data.
- * Refusals: 1 to 18; 40: no such node; 46: the path is longer than `room`. */
+ * the root's path is one slash. No zero byte is appended. Works on a refused image too, as long as its rule is over 18.
+ * Refusals: 1 to 18; 40: no such node; 46: the path is longer than `room`.
+ * Cost: rules 1 to 18 alone are checked again, which read the records and no data. */
 static inline gongaurora_count gongaurora_path(const uint8_t *image, size_t length, uint64_t node, uint8_t *out, size_t room)
 {
     gongaurora_count result;
@@ -345,8 +348,9 @@ typedef struct gongaurora_sizes {
     uint64_t size[3];    /* 0 in a direction that the zone lacks */
 } gongaurora_sizes;
 
-/* The DataSize of a DataArray_t under GridCoordinates_t or FlowSolution_t, rind included. Validates the image again.
- * Refusals: validation's; 40: no such node, or no such array. */
+/* The DataSize of a DataArray_t under GridCoordinates_t or FlowSolution_t, rind included.
+ * Refusals: validation's; 40: no such node, or no such array.
+ * Cost: one validation: the image is validated again. */
 static inline gongaurora_sizes gongaurora_data_size(const uint8_t *image, size_t length, uint64_t node)
 {
     gongaurora_sizes result;
@@ -368,10 +372,9 @@ typedef struct gongaurora_value {
     uint64_t bits; /* as stored, of a NaN too */
 } gongaurora_value;
 
-/* The k-th stored value of any node. Works on a refused image too, as long as its rule is over 18. Does not validate, but
- * checks rules 1 to 18 again, which read the records and no data.
- * Refusals: 1 to 18; 40: no such node; 47: its data type is not I4, I8, R4 or R8; 42: k is not in 1 to the number of
- * values. */
+/* The k-th stored value of any node. Works on a refused image too, as long as its rule is over 18.
+ * Refusals: 1 to 18; 40: no such node; 47: its data type is not I4, I8, R4 or R8; 42: k is not in 1 to the number of values.
+ * Cost: for each value, rules 1 to 18 alone are checked again, which read the records and no data. */
 static inline gongaurora_value gongaurora_array_value(const uint8_t *image, size_t length, uint64_t node, uint64_t k)
 {
     gongaurora_value result;
