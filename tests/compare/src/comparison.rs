@@ -50,7 +50,7 @@ impl Comparison<'_> {
         make: impl FnOnce(*mut T, *mut u8) -> u64,
         expect: impl FnOnce(&mut [T], &mut [u8]) -> u64,
     ) {
-        let shift = self.tally.calls() as usize % 8;
+        let shift = self.tally.calls() as usize % 7;
         let mut out = Guarded::<T>::new(out_room, shift);
         let mut answer = Guarded::<u8>::new(room, shift);
         let (mut out_after, mut answer_after) = (out.items().to_vec(), answer.items().to_vec());
