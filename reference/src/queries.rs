@@ -16,9 +16,7 @@ pub fn queries(seed: u64, image: &[u8]) -> Vec<String> {
         asker.about_node(node);
     }
     asker.absurd_corners();
-    for &node in &nodes {
-        asker.lists(node);
-    }
+    asker.lists(&nodes);
     asker.absurd_elements();
     asker.lines
 }
@@ -193,22 +191,40 @@ impl Asker<'_> {
         entry
     }
 
-    /// What is asked about a node, a zone or not, with lists: its entries as structs, reads by its entries, elements of its sections.
-    fn lists(&mut self, node: u64) {
-        let entries = section_entries(self.image, node).unwrap_or_default();
-        let count = entries.len();
-        let mut rooms = vec![count.saturating_sub(1), count, count + self.random.index(4)];
-        rooms.dedup();
-        for room in rooms {
-            let answer = entries_into_line(self.image, node, room);
-            self.note(format!("list-into {node} {room}"), answer);
+    /// What is asked with lists: of every zone, and of two nodes that are none.
+    fn lists(&mut self, nodes: &[u64]) {
+        let (zones, mut others): (Vec<u64>, Vec<u64>) =
+            nodes.iter().partition(|&&node| section_entries(self.image, node).is_ok());
+        for zone in zones {
+            self.lists_of_zone(zone);
         }
-        for room in [3, self.random.index(3), 3 + self.random.index(6)] {
-            self.reads(node, room, &entries);
+        self.random.shuffle(&mut others);
+        for &node in others.iter().take(2) {
+            let (room, lists) = (self.random.index(4), 1 + self.random.index(6));
+            self.list(node, room);
+            self.reads(node, lists, &[]);
+        }
+    }
+
+    /// A zone's entries as structs, with memory of several lengths; reads by its entries; elements of its sections.
+    fn lists_of_zone(&mut self, zone: u64) {
+        let entries = section_entries(self.image, zone).unwrap_or_default();
+        let count = entries.len();
+        for room in [count.saturating_sub(1), count, count + 1 + self.random.index(3)] {
+            self.list(zone, room);
+        }
+        for room in [3, self.random.index(3), 3 + self.random.index(6), 4] {
+            self.reads(zone, room, &entries);
         }
         for entry in &entries {
             self.elements(entry);
         }
+    }
+
+    /// One query of a node's entries as structs.
+    fn list(&mut self, zone: u64, room: usize) {
+        let answer = entries_into_line(self.image, zone, room);
+        self.note(format!("list-into {zone} {room}"), answer);
     }
 
     /// Three reads by a zone's entries into lists of `room` places.
@@ -232,7 +248,7 @@ impl Asker<'_> {
             1 => entry.last,
             _ => entry.first + self.random.below(entry.last - entry.first + 1),
         };
-        [which as u64, element, self.random.below(6)]
+        [which as u64, element, self.random.below(5)]
     }
 
     /// All corners of elements of a section: the first and the last with memory of several lengths, out of range, and by an entry with one
