@@ -1,6 +1,7 @@
 // Answers calls on images, both from standard input: a line a call, in the independent program's words.
 // The input is 64-bit words: of each image its length and the number of calls, then its bytes, then twelve words a call.
 
+mod lists;
 mod print;
 
 use model::Section;
@@ -208,6 +209,9 @@ fn one_call(image: &[u8]) -> bool {
     }
     if kind == 8 {
         usage_into(image, node, number);
+    }
+    if kind == 9 {
+        lists::list_into(image, node, number);
     }
     if kind == 10 {
         reads_into(image, node, number, &call);

@@ -6,6 +6,7 @@ use model::Count;
 use model::DataSize;
 use model::FaceUsage;
 use model::Rejection;
+use model::Section;
 use model::Table;
 use model::Validation;
 
@@ -118,6 +119,19 @@ fn each_number(out: &[u64]) {
         pair(b" ", out[k]);
         k += 1;
     }
+}
+
+// The nine numbers of an entry.
+pub fn section(s: Section) {
+    pair(b" ", s.node);
+    pair(b" ", s.element_type);
+    pair(b" ", s.first);
+    pair(b" ", s.last);
+    pair(b" ", s.offsets_at);
+    pair(b" ", s.offsets_width);
+    pair(b" ", s.connectivity_at);
+    pair(b" ", s.connectivity_width);
+    pair(b" ", s.connectivity_length);
 }
 
 // The signed numbers of lent memory, after `room`.

@@ -9,4 +9,5 @@ slice-aggregate-element-corners : tie.Need-slice-aggregate-element-corners
 slice-aggregate-element-corners c = sym (length-take-le _ _ (omega arith))
 
 pub element-on-spec : {M : Type 1} → statement M
-element-on-spec = tie.close (tie.spec (search needs) (search needs) slice-aggregate-element-corners (search needs) (search needs) (search needs) (search needs) (search needs))
+element-on-spec = tie.close (tie.spec (search needs) (search needs) slice-aggregate-element-corners (search needs)
+    (search needs) (search needs) (search needs) (search needs))
