@@ -131,13 +131,10 @@ fn reads_on(
     if rules.len() < n {
         return;
     }
-    print::reads_answer(corners::corner_reads(
-        image,
-        entries,
-        reads,
-        &mut out[..n],
-        &mut rules[..n],
-    ));
+    print::count(
+        reads::corner_reads(image, entries, reads, &mut out[..n], &mut rules[..n]),
+        b"reads ",
+    );
 }
 
 // The reads of a list with entries, and with room for so many answers, each number 170 before; the memory afterwards.

@@ -149,15 +149,6 @@ fn each_signed(out: &[i64]) {
     }
 }
 
-// How many reads a list answered; 46 where a lent list was too short.
-pub fn reads_answer(answered: bool) {
-    if answered {
-        pair(b"reads ", 3);
-    } else {
-        refusal(Rejection::at(46, 0));
-    }
-}
-
 pub fn validation(v: Validation) {
     match v {
         Validation::Accepted {

@@ -14,4 +14,4 @@ slice-aggregate-corner-reads-2 c = sym (length-take-le _ _ (omega arith))
 pub reads-on-spec : {M : Type 1} → statement M
 reads-on-spec = tie.close (tie.spec (search needs) (search needs) (search needs) slice-aggregate-corner-reads
     (search needs) slice-aggregate-corner-reads-2 (search needs) (search needs) (search needs) (search needs)
-    (search needs))
+    (search needs) (search needs))
