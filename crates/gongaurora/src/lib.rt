@@ -10,9 +10,6 @@ ghost use Rattle.model.specs.Path.{pathAnswer, pathMemory};
 ghost use Rattle.model.specs.ArrayValue.{valueAnswer};
 ghost use Rattle.model.specs.DataSize.{dataSizeAnswer};
 ghost use Rattle.model.specs.Exports.{validationWords, countWords, usageWords, valueWords, sizeWords, exportRule, exportBytes, exportMemory, sectionIn, CornerExport, ElementExport};
-
-mod answers; // answers.rt: answers as a rule and words, and words into lent bytes
-
 use answers::count_told;
 use answers::put_answer;
 use answers::put_corner;

@@ -2,8 +2,8 @@ use mathlib.Core.Path.{refl}
 use borrow.Author.Needs.{needs}
 use Rattle.model.specs.ReadList.{ruleOf}
 use Rattle.model.specs.Exports.{usageWords}
-use Rattle.gongaurora.proofs.answers.usage_told.Statement.{statement}
-use Rattle.gongaurora.proofs.answers.usage_told.Tie as tie
+use Rattle.answers.proofs.usage_told.Statement.{statement}
+use Rattle.answers.proofs.usage_told.Tie as tie
 
 returns : tie.Need-returns
 unfolding ruleOf usageWords

@@ -1,4 +1,4 @@
-// Answers as a rule and words, and words into lent bytes.
+// Answers for C: a rule and words, and words into lent bytes.
 ghost use mathlib.Core.Path.{_≡_};
 ghost use mathlib.Core.List.{[], _∷_};
 ghost use Prim.Native.Nat.{_*_, _≤_};
@@ -20,8 +20,8 @@ use model::Validation;
 
 // A rule, 0 for none, and up to five words: the node, and the values.
 pub struct Told {
-    rule: u64,
-    words: [u64; 5],
+    pub rule: u64,
+    pub words: [u64; 5],
 }
 
 // Writes words in front of lent bytes; the rest stays.

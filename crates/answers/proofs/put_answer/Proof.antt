@@ -1,9 +1,9 @@
 use native.Mathlib.Omega.{arith}
 use mathlib.Core.Path.{refl, sym}
 use borrow.Author.Needs.{needs}
-use Rattle.gongaurora.proofs.Laws.{take-fits}
-use Rattle.gongaurora.proofs.answers.put_answer.Statement.{statement}
-use Rattle.gongaurora.proofs.answers.put_answer.Tie as tie
+use Rattle.answers.proofs.Written.{take-fits}
+use Rattle.answers.proofs.put_answer.Statement.{statement}
+use Rattle.answers.proofs.put_answer.Tie as tie
 
 share : tie.Need-array-share-prefix-words
 share c = take-fits _ _ (c .before .before .before .pre .0)

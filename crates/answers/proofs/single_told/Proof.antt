@@ -1,7 +1,7 @@
 use mathlib.Core.Path.{refl}
 use borrow.Author.Needs.{needs}
-use Rattle.gongaurora.proofs.answers.single_told.Statement.{statement}
-use Rattle.gongaurora.proofs.answers.single_told.Tie as tie
+use Rattle.answers.proofs.single_told.Statement.{statement}
+use Rattle.answers.proofs.single_told.Tie as tie
 
 returns : tie.Need-returns
 returns c = rw (c .tell .ensures .0, c .tell .ensures .1) (refl, refl)

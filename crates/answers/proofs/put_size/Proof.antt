@@ -4,8 +4,8 @@ use borrow.Author.Needs.{needs}
 use Rattle.model.specs.ReadList.{ruleOf}
 use Rattle.model.specs.Exports.{sizeWord}
 use Rattle.model.proofs.Overlays.{overAt-zero}
-use Rattle.gongaurora.proofs.answers.put_size.Statement.{statement}
-use Rattle.gongaurora.proofs.answers.put_size.Tie as tie
+use Rattle.answers.proofs.put_size.Statement.{statement}
+use Rattle.answers.proofs.put_size.Tie as tie
 
 returns : tie.Need-returns
 unfolding ruleOf sizeWord

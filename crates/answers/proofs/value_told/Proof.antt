@@ -4,9 +4,9 @@ use mir.Syntax.{w64}
 use mir.Facts.{toZ-ofZ}
 use Rattle.model.specs.ReadList.{ruleOf}
 use Rattle.model.specs.Exports.{valueWords}
-use Rattle.gongaurora.proofs.Bits.{single-no-nan, double-no-nan}
-use Rattle.gongaurora.proofs.answers.value_told.Statement.{statement}
-use Rattle.gongaurora.proofs.answers.value_told.Tie as tie
+use Rattle.answers.proofs.Bits.{single-no-nan, double-no-nan}
+use Rattle.answers.proofs.value_told.Statement.{statement}
+use Rattle.answers.proofs.value_told.Tie as tie
 
 float-to-bits-single-told : tie.Need-float-to-bits-single-told
 float-to-bits-single-told c = single-no-nan _ (c .before .before .before .pre) (c .before .v2 .given .1)

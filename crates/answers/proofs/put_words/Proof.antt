@@ -8,9 +8,9 @@ use lib.ListN.{length, take}
 use lib.Seq.{take-all}
 use Rattle.model.specs.Lists.{over}
 use Rattle.model.specs.Bytes.{allBytes}
-use Rattle.gongaurora.proofs.Laws.{none-put, word-put}
-use Rattle.gongaurora.proofs.answers.put_words.Statement.{statement}
-use Rattle.gongaurora.proofs.answers.put_words.Tie as tie
+use Rattle.answers.proofs.Written.{none-put, word-put}
+use Rattle.answers.proofs.put_words.Statement.{statement}
+use Rattle.answers.proofs.put_words.Tie as tie
 
 abbrev Inv-loop : tie.InvT-loop
 Inv-loop out₀ words k₀ out k = (k ≤ length words) × (out ≡ over out₀ (allBytes 8 (take k words))) × (length out ≡ length out₀)

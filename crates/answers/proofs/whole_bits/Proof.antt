@@ -5,9 +5,9 @@ use lib.IntN.{natAbs}
 use mir.Syntax.{w64}
 use mir.Facts.{toZ-ofZ}
 use Rattle.words.proofs.Signed.{down}
-use Rattle.gongaurora.proofs.Bits.{bits-below, bits-above}
-use Rattle.gongaurora.proofs.answers.whole_bits.Statement.{statement}
-use Rattle.gongaurora.proofs.answers.whole_bits.Tie as tie
+use Rattle.answers.proofs.Bits.{bits-below, bits-above}
+use Rattle.answers.proofs.whole_bits.Statement.{statement}
+use Rattle.answers.proofs.whole_bits.Tie as tie
 
 sub-result : tie.Need-sub-result
 sub-result c = let d = down w64 _ (c .before .before .fits .x) (c .if1 .taken) in rw (c .before .magnitude64 .ensures ∙ ap natAbs (toZ-ofZ (c .before .before .fits .x))) (omega arith)

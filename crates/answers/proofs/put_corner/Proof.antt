@@ -9,8 +9,8 @@ use Rattle.model.specs.Bytes.{leBytes}
 use Rattle.model.specs.ReadList.{ruleOf}
 use Rattle.model.specs.Exports.{numberBytes}
 use Rattle.model.proofs.Overlays.{overAt-zero}
-use Rattle.gongaurora.proofs.answers.put_corner.Statement.{statement}
-use Rattle.gongaurora.proofs.answers.put_corner.Tie as tie
+use Rattle.answers.proofs.put_corner.Statement.{statement}
+use Rattle.answers.proofs.put_corner.Tie as tie
 
 returns : tie.Need-returns
 unfolding ruleOf numberBytes
