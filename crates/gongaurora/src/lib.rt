@@ -74,26 +74,26 @@ pub extern "C" fn gongaurora_export_read_corner(
     )
 }
 
-// All corners of an element in front of `out`, of the 72 bytes of a section entry; their count, 0 of a refusal, in front of `count`.
-// Rule 46 where the section has fewer bytes or `count` has no room, and then nothing is written; then the reader's, which leave `out` as it was.
+// All corners of an element in front of `out`, of the nine numbers of a section entry; their count, 0 of a refusal, in front of `count`.
+// Rule 46 where the section has fewer numbers or `count` has no room, and then nothing is written; then the reader's, which leave `out` as it was.
 #[no_mangle]
 pub extern "C" fn gongaurora_export_read_element(
     image: &[u8],
-    section: &[u8],
+    section: &[u64],
     element: u64,
     out: &mut [i64],
     count: &mut [u8],
 ) -> u64
     ensures { λ r. ⌜ ElementExport (now (image .entry)) (now (section .entry)) element (now (out .entry)) (now (count .entry)) r (now (image .exit)) (now (section .exit)) (now (out .exit)) (now (count .exit)) ⌝ }
 {
-    if section.len() < 72 {
+    if section.len() < 9 {
         return 46;
     }
     if count.len() < 8 {
         return 46;
     }
     put_size(
-        corners::element_corners(image, section_in(section), element, out),
+        corners::element_corners(image, Section::at(section, 0), element, out),
         count,
     )
 }

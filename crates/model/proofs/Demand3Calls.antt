@@ -30,7 +30,7 @@ use Rattle.model.specs.ReadList.{ruleOf, cornerFrom}
 use Rattle.model.specs.ElementCorners.{elementCornersAnswer, elementCornersMemory}
 use Rattle.model.specs.Exports.{wordsFit, exportRule, exportBytes, exportMemory, countWords, sectionIn, readFits, cornerExported, numberBytes, elementExported, sizeWord, ElementExport}
 use Rattle.model.specs.Demand3.{sectionCount, sectionNode, given, InSection, sizeIn, IsCornerOf, storedAt, Listed, ReadHolds, Claim3}
-use Rattle.model.specs.Demand3Calls.{StructsGiven, ElementAnswers, CornerCall, Copied, IsCornerCall, readMade, CallRun, no-call, next-call, ElementCall, SectionsGiven}
+use Rattle.model.specs.Demand3Calls.{StructsGiven, ElementAnswers, CornerCall, Copied, CopiedNumbers, IsCornerCall, readMade, CallRun, no-call, next-call, ElementCall, SectionsGiven}
 use Rattle.model.proofs.Logic.{inside-or-not}
 use Rattle.model.proofs.Passed.{refused, check-pass, then-first, then-second, gives-check, gives-value}
 use Rattle.model.proofs.LittleEndian.{length-leBytes, le-written, signed-bits, bits-small}
@@ -126,9 +126,13 @@ section-copied : {entries section : List ℕ} {k : ℕ} → Copied entries k sec
 unfolding sectionIn
 section-copied {entries} {section} {k} c = rw (c .words-are) (section-front (drop (9 * k) entries) ∙ sym (section-from entries k))
 
-pub read-fits : {entries section : List ℕ} {k : ℕ} (out : List ℕ) → Copied entries k section → 8 ≤ length out → readFits section out ≡ passed
+numbers-copied : {entries section : List ℕ} {k : ℕ} → CopiedNumbers entries k section → sectionAt section 0 ≡ sectionAt entries k
+numbers-copied {entries} {section} {k} c =
+    sym (section-front section) ∙ ap (λ (l : List ℕ). sectionAt l 0) (c .numbers-are) ∙ section-front (drop (9 * k) entries) ∙ sym (section-from entries k)
+
+read-fits : (n : ℕ) (section out : List ℕ) → n ≤ length section → 8 ≤ length out → readFits n section out ≡ passed
 unfolding readFits check
-read-fits {section = section} out c h = rw (le-leb 72 (length section) (c .whole), le-leb 8 (length out) h)
+read-fits n section out c h = rw (le-leb n (length section) c, le-leb 8 (length out) h)
 
 -- an answer is taken back from its rule and from its number's bytes
 taken-back : {In Fits Lacks : Type 0} {v : ℤ} (a : Answer ℤ) (number : List ℕ) → Told In Fits Lacks 42 v a → ((n : ℤ) → a ≡ answer n → natAbs n < 2 ^ 63)
@@ -159,7 +163,7 @@ module _ (b : List ℕ) (c : Counts) (acc : validation b ≡ answer c) (z : ℕ)
       let w = i .exported in
       let a = readAnswer b (given b z rest .entries) (q .which) (q .element) (q .corner) in
       let e : cornerExported (m .found .image) (m .section) (q .element) (q .corner) (m .number) ≡ a =
-      rw (read-fits (m .number) (i .copied) (i .room), section-copied (i .copied), f) (sym (read-listed b (given b z rest .entries) (q .which) (q .element) (q .corner) (entry-listed b z rest (q .which) h))) in
+      rw (read-fits 72 (m .section) (m .number) (i .copied .whole) (i .room), section-copied (i .copied), f) (sym (read-listed b (given b z rest .entries) (q .which) (q .element) (q .corner) (entry-listed b z rest (q .which) h))) in
       record {
         answers = rw (w .rule-is, w .number-is, e, f)
             (taken-back a (m .number) (read-told b ok z rest (q .which) (q .element) (q .corner) h a refl)
@@ -192,22 +196,22 @@ module _ (b : List ℕ) (c : Counts) (acc : validation b ≡ answer c) (z : ℕ)
 
   -- a call of the export of all corners
   pub element-call : (k element : ℕ) (section : List ℕ) (out : List ℤ) (size : List ℕ) (r : ℕ) (b′ section′ : List ℕ) (out′ : List ℤ) (size′ : List ℕ) → k < sectionCount (treeOf b) z
-      → Copied (given b z rest .entries) k section → 8 ≤ length size → ElementExport b section element out size r b′ section′ out′ size′
+      → CopiedNumbers (given b z rest .entries) k section → 8 ≤ length size → ElementExport b section element out size r b′ section′ out′ size′
       → ElementCall b z rest k element out r out′ size′
   unfolding elementExported ruleOf sizeWord leaves over _then_
   element-call k element section out size r b′ section′ out′ size′ h copied room w =
       let ok = accepted b acc in
       let a = elementCornersAnswer b (sectionAt (given b z rest .entries) k) element (length out) in
-      let fits = read-fits size copied room in
-      let e : elementExported b section element (length out) size ≡ a = rw (fits, section-copied copied) in
-      let d = element-answers b ok z rest k h element a out out′ refl (w .out-is ∙ rw (fits, section-copied copied)) in
+      let fits = read-fits 9 section size (copied .whole) room in
+      let e : elementExported b section element (length out) size ≡ a = rw (fits, numbers-copied copied) in
+      let d = element-answers b ok z rest k h element a out out′ refl (w .out-is ∙ rw (fits, numbers-copied copied)) in
       record {
         tells = a;
         answers = d;
         refused-by = λ why q. w .rule-is ∙ ap ruleOf (e ∙ q);
         size-is = λ n q.
             let few : n < 256 ^ 8 = omega (arith, size-few k element (length out) h n q) in
-            (w .rule-is ∙ ap ruleOf (e ∙ q), rw (w .size-is, fits, section-copied copied, q) (le-written 8 n _ few));
+            (w .rule-is ∙ ap ruleOf (e ∙ q), rw (w .size-is, fits, numbers-copied copied, q) (le-written 8 n _ few));
       }
 
 sections-few : (b : List ℕ) (z room n : ℕ) → sectionsAnswer b z room ≡ answer n → nodeCount b ≤ 4096

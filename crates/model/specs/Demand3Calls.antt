@@ -85,7 +85,12 @@ pub data CallRun : ReadState → List CornerCall → ReadState → Type 0 where
   no-call : {s : ReadState} → CallRun s [] s
   next-call : {m : CornerCall} {ms : List CornerCall} {end : ReadState} → IsCornerCall m → CallRun (m .left) ms end → CallRun (m .found) (m ∷ ms) end
 
--- The export of all corners, with the bytes of the k-th entry: its rule and the number in the lent bytes tell an answer of which all this holds.
+-- the same as numbers
+pub record CopiedNumbers (entries : List ℕ) (k : ℕ) (section : List ℕ) : Type 0 where
+  pub whole : entryLength ≤ length section
+  pub numbers-are : take entryLength section ≡ take entryLength (drop (entryLength * k) entries)
+
+-- The export of all corners, with the numbers of the k-th entry: its rule and the number in the lent bytes tell an answer of which all this holds.
 pub record ElementCall (b : List ℕ) (z : ℕ) (rest : List ℕ) (k element : ℕ) (out : List ℤ) (r : ℕ) (out′ : List ℤ) (size′ : List ℕ) : Type 0 where
   pub tells : Answer ℕ
   pub answers : ElementAnswers b z rest k element tells out out′

@@ -87,13 +87,13 @@ sectionSize = 8 * entryLength
 unfoldable pub sectionIn : List ℕ → Section
 sectionIn s = sectionAt (numbers 8 entryLength s) 0
 
--- 46 unless the section has its bytes and lent bytes have room for a word
-unfoldable pub readFits : List ℕ → List ℕ → Check
-readFits section out = check 0 (46 unless leb sectionSize (length section) ∷ 46 unless leb 8 (length out) ∷ [])
+-- 46 unless the section is as long as that and lent bytes have room for a word
+unfoldable pub readFits : ℕ → List ℕ → List ℕ → Check
+readFits n section out = check 0 (46 unless leb n (length section) ∷ 46 unless leb 8 (length out) ∷ [])
 
 -- one corner: the corner reader's answer
 unfoldable pub cornerExported : List ℕ → List ℕ → ℕ → ℕ → List ℕ → Answer ℤ
-cornerExported b section element corner out = readFits section out then cornerAnswer b (sectionIn section) element corner
+cornerExported b section element corner out = readFits sectionSize section out then cornerAnswer b (sectionIn section) element corner
 
 -- its number in front of the lent bytes, two's complement at 64 bits; a refusal leaves them as they were
 unfoldable pub numberBytes : Answer ℤ → List ℕ → List ℕ
@@ -107,9 +107,9 @@ pub record CornerExport (image section : List ℕ) (element corner : ℕ) (numbe
   pub image-kept : image′ ≡ image
   pub section-kept : section′ ≡ section
 
--- all corners of an element: how many, 0 beside a rule
+-- all corners of an element, of the nine numbers of a section entry: how many, 0 beside a rule
 unfoldable pub elementExported : List ℕ → List ℕ → ℕ → ℕ → List ℕ → Answer ℕ
-elementExported b section element room out = readFits section out then elementCornersAnswer b (sectionIn section) element room
+elementExported b section element room out = readFits entryLength section out then elementCornersAnswer b (sectionAt section 0) element room
 
 unfoldable pub sizeWord : Answer ℕ → ℕ
 sizeWord (rejected r) = 0
@@ -118,7 +118,7 @@ sizeWord (answer n) = n
 pub record ElementExport (image section : List ℕ) (element : ℕ) (out : List ℤ) (size : List ℕ) (r : ℕ)
     (image′ section′ : List ℕ) (out′ : List ℤ) (size′ : List ℕ) : Type 0 where
   pub rule-is : r ≡ ruleOf (elementExported image section element (length out) size)
-  pub out-is : out′ ≡ leaves (readFits section size) out (elementCornersMemory image (sectionIn section) element out)
-  pub size-is : size′ ≡ leaves (readFits section size) size (over size (leBytes 8 (sizeWord (elementExported image section element (length out) size))))
+  pub out-is : out′ ≡ leaves (readFits entryLength section size) out (elementCornersMemory image (sectionAt section 0) element out)
+  pub size-is : size′ ≡ leaves (readFits entryLength section size) size (over size (leBytes 8 (sizeWord (elementExported image section element (length out) size))))
   pub image-kept : image′ ≡ image
   pub section-kept : section′ ≡ section

@@ -2,32 +2,13 @@
 ghost use mathlib.Core.Path.{_≡_};
 ghost use Prim.Native.Nat.{_<_};
 ghost use Rattle.model.specs.Answers.{cornerTells};
-ghost use Rattle.model.specs.Reads.{entriesIn, sectionAt, EntryRead};
+ghost use Rattle.model.specs.Reads.{EntryRead};
 ghost use Rattle.model.specs.ReadList.{requestsIn, answerAt, numberOf, ruleOf, ReadsAnswered};
 use corners::corner;
 use model::Corner;
 use model::Count;
 use model::Rejection;
 use model::Section;
-
-// The k-th section entry.
-fn section_at(entries: &[u64], k: usize) -> Section
-    requires { ⌜ k < entriesIn (now entries) ⌝ }
-    ensures { λ r. ⌜ r ≡ sectionAt (now (entries .entry)) k ⌝ }
-{
-    let i = 9 * k;
-    Section {
-        node: entries[i],
-        element_type: entries[i + 1],
-        first: entries[i + 2],
-        last: entries[i + 3],
-        offsets_at: entries[i + 4],
-        offsets_width: entries[i + 5],
-        connectivity_at: entries[i + 6],
-        connectivity_width: entries[i + 7],
-        connectivity_length: entries[i + 8],
-    }
-}
 
 // One read with an entry of the list; 40 where there is no such entry. Image and entries stay as they are.
 pub fn one_read(
@@ -41,7 +22,7 @@ pub fn one_read(
 {
     let k = which as usize;
     if k < entries.len() / 9 {
-        return corner(image, section_at(entries, k), element, corner_number);
+        return corner(image, Section::at(entries, k), element, corner_number);
     }
     Corner::Rejected(Rejection::at(40, 0))
 }
