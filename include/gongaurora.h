@@ -159,7 +159,7 @@ static inline const char *gongaurora_rule_text(uint64_t rule)
 
 /* Use the calls further below; they are thin over these. Each returns the rule. `answer` receives the words named, 8 bytes
  * each and little-endian, in a refusal too; where it has fewer bytes than that, the rule is 46 and nothing at all is written.
- * `section` is the 72 bytes of a gongaurora_section; fewer are 46. */
+ * `section` is a gongaurora_section, as its 72 bytes or as its nine numbers; fewer are 46. */
 
 /* answer, 40 bytes: node, validated, skipped, zones, sections */
 uint64_t gongaurora_export_validate(const uint8_t *image, size_t length, uint8_t *answer, size_t room);
@@ -170,7 +170,7 @@ uint64_t gongaurora_export_sections(const uint8_t *image, size_t length, uint64_
 uint64_t gongaurora_export_read_corner(const uint8_t *image, size_t length, const uint8_t *section, size_t bytes,
                                        uint64_t element, uint64_t corner, uint8_t *number, size_t room);
 /* out: the corners; answer, 8 bytes: count */
-uint64_t gongaurora_export_read_element(const uint8_t *image, size_t length, const uint8_t *section, size_t bytes,
+uint64_t gongaurora_export_read_element(const uint8_t *image, size_t length, const uint64_t *section, size_t nine,
                                         uint64_t element, int64_t *out, size_t numbers, uint8_t *answer, size_t room);
 /* out: a byte a face; answer, 24 bytes: node, element, count */
 uint64_t gongaurora_export_face_usage(const uint8_t *image, size_t length, uint64_t zone, uint8_t *out, size_t bytes,
@@ -287,7 +287,7 @@ static inline gongaurora_count gongaurora_read_element(const uint8_t *image, siz
 {
     gongaurora_count result;
     result.node = 0;
-    result.rule = gongaurora_export_read_element(image, length, (const uint8_t *)section, sizeof *section, element, out, room,
+    result.rule = gongaurora_export_read_element(image, length, (const uint64_t *)(const void *)section, 9, element, out, room,
                                                  (uint8_t *)&result.count, sizeof result.count);
     return result;
 }

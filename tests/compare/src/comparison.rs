@@ -168,23 +168,24 @@ impl Comparison<'_> {
         self.hold_section(Call::ReadCorner, section, at);
     }
 
-    /// All corners of an element by a section's bytes, with `numbers` numbers lent for them.
-    pub fn read_element(&mut self, section: &[u8], element: u64, numbers: usize, room: usize) {
+    /// All corners of an element by a section's numbers, with `numbers` numbers lent for them.
+    pub fn read_element(&mut self, section: &[u64], element: u64, numbers: usize, room: usize) {
         let (image, lent) = (self.image, self.lent);
-        let (at, bytes) = (self.place_section(section), section.len());
+        let bytes: Vec<u8> = section.iter().flat_map(|number| number.to_le_bytes()).collect();
+        let (at, count) = (self.sections.place_before_end(&bytes, 0), section.len());
         self.hold(
             Call::ReadElement,
-            format_args!("{:?} of {bytes} bytes, element {element}", nine(section)),
+            format_args!("{section:?}, element {element}"),
             (numbers, room),
             |out, answer| unsafe {
-                gongaurora_export_read_element(lent, image.len(), at, bytes, element, out, numbers, answer, room)
+                gongaurora_export_read_element(lent, image.len(), at.cast(), count, element, out, numbers, answer, room)
             },
-            |out, answer| match nine(section) {
+            |out, answer| match nine(&bytes) {
                 Some(section) => tell(answer, || expected::element(image, &section, element, out)),
                 None => 46,
             },
         );
-        self.hold_section(Call::ReadElement, section, at);
+        self.hold_section(Call::ReadElement, &bytes, at);
     }
 
     /// Puts a section's bytes at the end of their pages, or so near it that they begin at an odd address.

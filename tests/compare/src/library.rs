@@ -29,8 +29,8 @@ extern "C" {
     pub fn gongaurora_export_read_element(
         image: *const u8,
         length: usize,
-        section: *const u8,
-        bytes: usize,
+        section: *const u64,
+        nine: usize,
         element: u64,
         out: *mut i64,
         numbers: usize,

@@ -211,16 +211,27 @@ impl Asker<'_, '_> {
                 self.element(&other, element);
             }
             self.short(&bytes_of(&numbers), entry.first);
+            self.short_numbers(&numbers, entry.first);
         }
     }
 
-    /// Reads with fewer or more bytes lent than the section, the number or the count has.
+    /// Reads with fewer or more bytes lent than the section or the number has.
     fn short(&mut self, section: &[u8], element: u64) {
         let few = self.random.index(SECTION);
         let longer = [section, &[0x55; 9]].concat();
         for section in [&section[..few], &section[..SECTION - 1], section, &longer[..SECTION + 1], &longer] {
             for room in self.answers(1) {
                 self.comparison.read_corner(section, element, 1, room);
+            }
+        }
+    }
+
+    /// Reads of an element with fewer or more numbers lent than the section has, and with fewer bytes than the count has.
+    fn short_numbers(&mut self, section: &[u64; 9], element: u64) {
+        let few = self.random.index(9);
+        let longer = [&section[..], &[0x55; 2]].concat();
+        for section in [&section[..few], &section[..8], section, &longer[..10], &longer] {
+            for room in self.answers(1) {
                 self.comparison.read_element(section, element, 8, room);
             }
         }
@@ -234,7 +245,7 @@ impl Asker<'_, '_> {
     /// All corners of an element: room for about as many as elements mostly have, or for all of any element asked about.
     fn element(&mut self, section: &[u64; 9], element: u64) {
         let numbers = if self.random.one_in(4) { 40 } else { self.random.index(10) };
-        self.comparison.read_element(&bytes_of(section), element, numbers, 8);
+        self.comparison.read_element(section, element, numbers, 8);
     }
 
     /// Corners of a section: its ends, all elements where they are few, else some.
