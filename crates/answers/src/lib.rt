@@ -58,11 +58,10 @@ fn tell(rule: u64, node: u64, first: u64, second: u64, third: u64, fourth: u64) 
 fn whole_bits(x: i64) -> u64
     ensures { λ r. ⌜ r ≡ ofZ w64 x ⌝ }
 {
-    let m = words::magnitude64(x);
     if x < 0 {
-        return 0xffff_ffff_ffff_ffff - (m - 1);
+        return 0xffff_ffff_ffff_ffff - (-1 - x) as u64;
     }
-    m
+    x as u64
 }
 
 // Validation: node and the four counts.

@@ -1,22 +1,32 @@
-use mathlib.Core.Path.{ap, _∙_}
+-- Below 0 the bits are those that -1 - x lacks.
 use native.Mathlib.Omega.{arith}
-use borrow.Author.Needs.{needs}
+use mathlib.Core.Path.{ap, _∙_}
 use lib.IntN.{natAbs}
 use mir.Syntax.{w64}
 use mir.Facts.{toZ-ofZ}
-use Rattle.words.proofs.Signed.{down}
+use Rattle.words.proofs.Signed.{down, up, less, less-back}
 use Rattle.answers.proofs.Bits.{bits-below, bits-above}
 use Rattle.answers.proofs.whole_bits.Statement.{statement}
 use Rattle.answers.proofs.whole_bits.Tie as tie
 
-sub-result : tie.Need-sub-result
-sub-result c = let d = down w64 _ (c .before .before .fits .x) (c .if1 .taken) in rw (c .before .magnitude64 .ensures ∙ ap natAbs (toZ-ofZ (c .before .before .fits .x))) (omega arith)
+cast-result : tie.Need-cast-result
+cast-result c =
+    rw (less-back w64 _ (c .before .fits .x) (c .if1 .taken)) (tt, omega (arith, down w64 _ (c .before .fits .x) (c .if1 .taken)))
+
+sub-result-2 : tie.Need-sub-result-2
+sub-result-2 c =
+    rw (less-back w64 _ (c .before .fits .x) (c .if1 .taken)) (omega (arith, down w64 _ (c .before .fits .x) (c .if1 .taken)))
+
+cast-result-2 : tie.Need-cast-result-2
+cast-result-2 c =
+    let u = up w64 _ (c .before .fits .x) (c .if1 .left) in rw (toZ-ofZ (c .before .fits .x)) (u .0, omega arith)
 
 returns : tie.Need-returns
-returns c = rw (c .before .magnitude64 .ensures ∙ ap natAbs (toZ-ofZ (c .before .before .fits .x))) (bits-below _ (c .before .before .fits .x) (c .if1 .taken))
+returns c = rw (less-back w64 _ (c .before .fits .x) (c .if1 .taken)) (bits-below _ (c .before .fits .x) (c .if1 .taken))
 
 returns-2 : tie.Need-returns-2
-returns-2 c = c .before .magnitude64 .ensures ∙ ap natAbs (toZ-ofZ (c .before .before .fits .x)) ∙ bits-above _ (c .before .before .fits .x) (c .if1 .left)
+returns-2 c = ap natAbs (toZ-ofZ (c .before .fits .x)) ∙ bits-above _ (c .before .fits .x) (c .if1 .left)
 
 pub whole-bits-spec : {M : Type 1} → statement M
-whole-bits-spec = tie.close (tie.spec (search needs) sub-result (search needs) returns returns-2)
+whole-bits-spec =
+    tie.close (tie.spec (λ c. less w64 _ (c .before .fits .x) (c .if1 .taken)) cast-result sub-result-2 returns cast-result-2 returns-2)
