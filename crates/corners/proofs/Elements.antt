@@ -1,18 +1,18 @@
 -- All corners of an element, by what was found on the way: 41, 43, 46 and the numbers.
 use Prim.Native.Nat.{ℕ, suc, _+_, _-_, _≤_, _<_}
-use mathlib.Core.Path.{_≡_, refl, sym, ap, _∙_}
+use mathlib.Core.Path.{_≡_, refl, ap, _∙_}
 use mathlib.Core.Bool.{Bool, true, false, and-false}
 use mathlib.Core.List.{List, [], _∷_}
 use native.Mathlib.Omega.{arith}
 use lib.Dec.{leb}
-use lib.ListN.{length, getD}
-use lib.IntN.{ℤ, pos}
+use lib.ListN.{length}
+use lib.IntN.{ℤ}
 use borrow.Author.Tests.{le-leb, lt-leb}
 use Rattle.model.specs.declared.Section.{Section}
 use Rattle.model.specs.Lists.{over}
 use Rattle.model.specs.Bytes.{signed}
-use Rattle.model.specs.Rules.{rejected, rejection, answer, Check, passed, _unless_, check, _then_, _gives_, leaves}
-use Rattle.model.specs.Corner.{inEntry, numberAt, entryStart, entrySize, readable, isCorner, cornerCheck, cornerNumber, cornerAnswer}
+use Rattle.model.specs.Rules.{rejected, rejection, answer, Check, _unless_, check, _then_, _gives_, leaves}
+use Rattle.model.specs.Corner.{inEntry, numberAt, entryStart, entrySize, readable, cornerNumber}
 use Rattle.model.specs.ReadList.{valuesFrom}
 use Rattle.model.specs.ElementCorners.{elementCornersCheck, elementCornersAnswer, elementCornersMemory}
 use Rattle.corners.specs.declared.spans.Span.{Span}

@@ -1,32 +1,30 @@
 -- Demand 3, proved. A read with the k-th entry is the corner reader's at the zone's k-th section, whose answer the image's rules decide; and a run of
 -- reads changes nothing, so each of its reads is one from the given state.
 use Prim.Native.Nat.{ℕ, _+_, _-_, _/_, _<_}
-use mathlib.Core.Path.{_≡_, sym, ap, _∙_}
+use mathlib.Core.Path.{_≡_, sym, _∙_}
 use mathlib.Core.Bool.{true}
-use mathlib.Core.List.{List, [], _∷_}
+use mathlib.Core.List.{List}
 use mathlib.Core.Logic.{⊎-elim}
 use native.Mathlib.Omega.{arith}
 use lib.ListN.{length}
-use lib.Dec.{leb}
 use lib.IntN.{ℤ, natAbs}
-use Rattle.model.specs.declared.Rejection.{Rejection}
 use Rattle.model.specs.declared.Corner.{Corner}
 use Rattle.model.specs.Lists.{over}
-use Rattle.model.specs.Rules.{Answer, rejected, answer, rejection, passed, leaves, _unless_, check, _gives_}
+use Rattle.model.specs.Rules.{Answer, answer, passed, leaves}
 use Rattle.model.specs.Image.{Tree, treeOf}
 use Rattle.model.specs.Containment.{isZone}
 use Rattle.model.specs.Elements.{NFACE, elementType, firstElement, lastElement, elementStart, elementSize, cornerReference, connectivityLength}
-use Rattle.model.specs.Validation.{Counts, validation, imageCheck}
+use Rattle.model.specs.Validation.{imageCheck}
 use Rattle.model.specs.Sections.{sectionNodes, entry, entries, sectionsCheck, sectionsAnswer, sectionNumbersMemory}
 use Rattle.model.specs.Corner.{cornerAnswer}
 use Rattle.model.specs.Answers.{cornerTells}
-use Rattle.model.specs.Reads.{sectionAt, readAnswer, ReadMade, IsRead}
+use Rattle.model.specs.Reads.{readAnswer, ReadMade, IsRead}
 use Rattle.model.specs.Demand3.{sectionCount, sectionNode, given, InSection, sizeIn, SizeExact, IsCornerOf, storedAt, NodeNumber, FaceNumber, ReadAnswers, ReadHolds, Listed, Claim3, Demand3, EntriesGiven}
 use Rattle.model.proofs.Logic.{inside-or-not}
 use Rattle.model.proofs.Told.{Told, outside, lacking, stored, told-41, told-rule, told-no-other, told-value, told-stored}
 use Rattle.model.proofs.Passed.{check-pass, then-first, then-second, gives-check, gives-value}
 use Rattle.model.proofs.Runs.{read-leaves, run-exists, run-kept, ReadKept, all-of}
-use Rattle.model.proofs.ZoneEntries.{nodes-counted, section-at, section-listed, listed-once, entry-is, read-is, one-for-each}
+use Rattle.model.proofs.ZoneEntries.{nodes-counted, section-at, section-listed, listed-once, read-is, one-for-each}
 use Rattle.model.proofs.Accepted.{accepted}
 use Rattle.model.proofs.InZone.{InZone, span}
 use Rattle.model.proofs.Corners.{corner-inside, element-inside, answer-41, answer-42, answer-stored}

@@ -1,39 +1,37 @@
 -- Demand 3 of the calls that ship. A struct that the section call left is the k-th entry; the bytes that a caller copied hold it; and what the exports answer
 -- is what the readers answer with it.
-use Prim.Native.Nat.{ℕ, _+_, _*_, _-_, _/_, _^_, _≤_, _<_}
-use mathlib.Core.Path.{_≡_, refl, sym, ap, subst, _∙_}
+use Prim.Native.Nat.{ℕ, _*_, _/_, _^_, _≤_, _<_}
+use mathlib.Core.Path.{_≡_, refl, sym, ap, _∙_}
 use mathlib.Core.Bool.{Bool, true, false}
-use mathlib.Core.List.{List, [], _∷_, _++_}
+use mathlib.Core.List.{List, [], _∷_}
 use mathlib.Core.Logic.{⊎-elim}
 use native.Mathlib.Omega.{arith}
 use native.Mathlib.Decide.{ℕ-discrete}
 use lib.ListN.{length, getD, take, drop}
 use lib.Seq.{getD-take}
 use lib.Dec.{leb}
-use lib.IntN.{ℤ, pos, natAbs}
-use borrow.Author.Tests.{le-leb, lt-leb, leb-true, leb-false}
-use Rattle.model.specs.declared.Rejection.{Rejection}
+use lib.IntN.{ℤ, natAbs}
+use borrow.Author.Tests.{le-leb, leb-true, leb-false}
 use Rattle.model.specs.declared.Section.{Section}
 use Rattle.model.specs.declared.Corner.the-variants as Corner
 use Rattle.model.specs.Lists.{over}
 use Rattle.model.specs.Bytes.{le, numbers, signed}
-use Rattle.model.specs.Rules.{Answer, rejected, answer, rejection, Check, passed, _unless_, check, _then_, _gives_, leaves}
+use Rattle.model.specs.Rules.{Answer, answer, passed, _unless_, check, _then_, _gives_, leaves}
 use Rattle.model.specs.Image.{treeOf, nodeCount}
 use Rattle.model.specs.Containment.{isZone, sectionOf}
 use Rattle.model.specs.Elements.{NFACE, elementType, firstElement, lastElement, elementSize, connectivityLength}
 use Rattle.model.specs.Validation.{Counts, validation, imageCheck}
-use Rattle.model.specs.Sections.{entryLength, sectionNodes, entry, sectionEntries, allNumbers, sectionsCheck, sectionsAnswer, sectionsMemory, sectionNumbersMemory}
-use Rattle.model.specs.Corner.{cornerAnswer}
+use Rattle.model.specs.Sections.{sectionNodes, entry, sectionEntries, allNumbers, sectionsCheck, sectionsAnswer, sectionsMemory, sectionNumbersMemory}
 use Rattle.model.specs.Answers.{cornerTells}
-use Rattle.model.specs.Reads.{sectionAt, readAnswer, ReadState, Request, ReadMade, IsRead, done, next, AllOf, all-none, all-more}
+use Rattle.model.specs.Reads.{sectionAt, readAnswer, ReadState, IsRead, done, next, AllOf, all-none, all-more}
 use Rattle.model.specs.ReadList.{ruleOf, cornerFrom}
 use Rattle.model.specs.ElementCorners.{elementCornersAnswer, elementCornersMemory}
 use Rattle.model.specs.Exports.{wordsFit, exportRule, exportBytes, exportMemory, countWords, sectionIn, readFits, cornerExported, numberBytes, elementExported, sizeWord, ElementExport}
-use Rattle.model.specs.Demand3.{sectionCount, sectionNode, given, InSection, sizeIn, IsCornerOf, storedAt, Listed, ReadHolds, Claim3}
+use Rattle.model.specs.Demand3.{sectionCount, sectionNode, given, InSection, sizeIn, Listed, ReadHolds}
 use Rattle.model.specs.Demand3Calls.{StructsGiven, ElementAnswers, CornerCall, Copied, CopiedNumbers, IsCornerCall, readMade, CallRun, no-call, next-call, ElementCall, SectionsGiven}
 use Rattle.model.proofs.Logic.{inside-or-not}
-use Rattle.model.proofs.Passed.{refused, check-pass, then-first, then-second, gives-check, gives-value}
-use Rattle.model.proofs.LittleEndian.{length-leBytes, le-written, signed-bits, bits-small}
+use Rattle.model.proofs.Passed.{check-pass, then-first, then-second, gives-check, gives-value}
+use Rattle.model.proofs.LittleEndian.{le-written, signed-bits, bits-small}
 use Rattle.model.proofs.Flat.{struct-at, section-from}
 use Rattle.model.proofs.Runs.{entry-read, read-listed, read-leaves}
 use Rattle.model.proofs.ZoneEntries.{nodes-counted, entry-listed, entry-is}

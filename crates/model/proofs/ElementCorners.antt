@@ -9,7 +9,7 @@ use lib.IntN.{ℤ, pos}
 use borrow.Author.Tests.{le-leb}
 use Rattle.model.specs.declared.Rejection.{Rejection}
 use Rattle.model.specs.declared.Section.{Section}
-use Rattle.model.specs.Rules.{Answer, rejected, answer, Check, passed, check, _then_, _gives_, leaves}
+use Rattle.model.specs.Rules.{rejected, answer, Check, passed, check, _then_, _gives_, leaves}
 use Rattle.model.specs.Corner.{inEntry, entrySize, readable, isCorner, cornerCheck, cornerNumber, cornerAnswer}
 use Rattle.model.specs.ReadList.{valuesFrom}
 use Rattle.model.specs.ElementCorners.{elementCornersCheck, elementCornersAnswer, elementCornersMemory}

@@ -1,5 +1,5 @@
 -- No refusal has the number 0: each stands in a list of rules, none of which has it.
-use Prim.Native.Nat.{ℕ, zero, suc, _≤_}
+use Prim.Native.Nat.{ℕ, zero, suc}
 use mathlib.Core.Path.{_≡_, refl}
 use mathlib.Core.Bool.{Bool, true, false, cond, _&&_}
 use mathlib.Core.List.{List, [], _∷_, _++_}
@@ -7,7 +7,7 @@ use native.Mathlib.Omega.{arith}
 use lib.Dec.{leb, eqb}
 use lib.ListN.{getD}
 use borrow.Author.Tests.{leb-true}
-use Rattle.model.specs.Rules.{Answer, rejected, answer, rejection, repetition, Check, passed, Rule, _unless_, check, checkFrom, _then_, _gives_, _into_}
+use Rattle.model.specs.Rules.{Answer, rejected, answer, Check, passed, Rule, _unless_, check, checkFrom, _then_, _gives_, _into_}
 use Rattle.model.specs.Image.{Tree, treeOf}
 use Rattle.model.specs.Header.{headerRules, headerCheck}
 use Rattle.model.specs.Records.{recordRules, recordCheckAt, recordCheck, trailingCheck, tableCheck}
@@ -20,7 +20,7 @@ use Rattle.model.specs.DataSize.{dataSizeAnswer}
 use Rattle.model.specs.Sections.{sectionsCheck, sectionsAnswer}
 use Rattle.model.specs.Corner.{cornerCheck, cornerAnswer}
 use Rattle.model.specs.ArrayValue.{valueCheck, valueAnswer}
-use Rattle.model.specs.FaceUsage.{useEntry, useEntries, useNodes, usage, usageCheck, usageAnswer, usesIn, unused, useSign, usePlace, elementHolding}
+use Rattle.model.specs.FaceUsage.{useEntry, useEntries, useNodes, usage, usageCheck, usageAnswer, usesIn, unused, useSign, usePlace}
 use Rattle.model.specs.ReadList.{ruleOf}
 use Rattle.model.specs.ElementCorners.{elementCornersCheck, elementCornersAnswer}
 use Rattle.model.specs.Exports.{Numbered, AllNumbered}

@@ -2,7 +2,6 @@
 use Prim.Native.Nat.{ℕ}
 use mathlib.Core.Path.{_≡_, sym, ap, _∙_}
 use mathlib.Core.Logic.{_↔_}
-use native.Mathlib.Omega.{arith}
 use Rattle.model.specs.declared.Rejection.{Rejection}
 use Rattle.model.specs.Rules.{Answer, rejected, answer, rejection}
 use Rattle.model.proofs.Passed.{refused}

@@ -8,7 +8,6 @@ use lib.IntN.{ℤ, pos}
 use Rattle.model.specs.declared.Rejection.{Rejection}
 use Rattle.model.specs.declared.Section.{Section}
 use Rattle.model.specs.declared.Corner.{Corner}
-use Rattle.model.specs.declared.Count.{Count}
 use Rattle.model.specs.Bytes.{le, numbers, signed}
 use Rattle.model.specs.Rules.{Answer, rejected, answer, rejection}
 use Rattle.model.specs.Image.{treeOf}
@@ -16,7 +15,7 @@ use Rattle.model.specs.Sections.{entryLength, sectionsMemory}
 use Rattle.model.specs.Corner.{cornerAnswer}
 use Rattle.model.specs.Reads.{CornerRead, sectionAt, ReadState, Request, ReadMade, IsRead}
 use Rattle.model.specs.ReadList.{cornerFrom}
-use Rattle.model.specs.Exports.{sectionSize, CornerExport, ElementExport}
+use Rattle.model.specs.Exports.{sectionSize, CornerExport}
 use Rattle.model.specs.Demand3.{sectionCount, given, InSection, sizeIn, IsCornerOf, storedAt, Claim3}
 
 -- The structs that the call for them leaves, where it answers a count: the k-th is the entry that the claim speaks of, and the corner reader on it

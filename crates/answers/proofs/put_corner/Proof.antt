@@ -1,11 +1,7 @@
-use native.Mathlib.Omega.{arith}
-use mathlib.Core.Path.{refl, ap, _∙_}
+use mathlib.Core.Path.{refl, _∙_}
 use borrow.Author.Needs.{needs, sfits-of}
-use denote.Ref.{now}
 use mir.Syntax.{w64}
 use mir.Facts.{toZ-ofZ}
-use Rattle.model.specs.Lists.{over}
-use Rattle.model.specs.Bytes.{leBytes}
 use Rattle.model.specs.ReadList.{ruleOf}
 use Rattle.model.specs.Exports.{numberBytes}
 use Rattle.model.proofs.Overlays.{overAt-zero}
