@@ -20,14 +20,27 @@ use answers::validation_told;
 use answers::value_told;
 use model::Section;
 
+// How many bytes each answer has.
+const VALIDATION_BYTES: usize = 40;
+
+const SECTIONS_BYTES: usize = 16;
+
+const USAGE_BYTES: usize = 24;
+
+const PATH_BYTES: usize = 16;
+
+const VALUE_BYTES: usize = 24;
+
+const SIZE_BYTES: usize = 40;
+
 // Whether the image meets every rule. The answer, five words: node, nodes validated, nodes skipped, zones, sections.
 #[no_mangle]
 pub extern "C" fn gongaurora_export_validate(image: &[u8], answer: &mut [u8]) -> u64
     ensures { λ r. ⌜ r ≡ exportRule 5 (now (answer .entry)) (validation (now (image .entry))) ⌝ }
     ensures { λ _. ⌜ now (answer .exit) ≡ exportBytes (now (answer .entry)) (validationWords (validation (now (image .entry)))) ⌝ }
 {
-    if answer.len() < 40 {
-        return 46;
+    if answer.len() < VALIDATION_BYTES {
+        return 46; // no verdict is made
     }
     put_answer(answer, validation_told(validation::validate(image)), 5)
 }
@@ -110,7 +123,7 @@ pub extern "C" fn gongaurora_export_sections(
     ensures { λ _. ⌜ now (answer .exit) ≡ exportBytes (now (answer .entry)) (countWords (sectionsAnswer (now (image .entry)) zone (length (now (out .entry)) / 9))) ⌝ }
     ensures { λ _. ⌜ now (out .exit) ≡ exportMemory 2 (now (answer .entry)) (now (out .entry)) (sectionNumbersMemory (now (image .entry)) zone (now (out .entry))) ⌝ }
 {
-    if answer.len() < 16 {
+    if answer.len() < SECTIONS_BYTES {
         return 46;
     }
     put_answer(
@@ -132,7 +145,7 @@ pub extern "C" fn gongaurora_export_face_usage(
     ensures { λ _. ⌜ now (answer .exit) ≡ exportBytes (now (answer .entry)) (usageWords (usageAnswer (now (image .entry)) zone (length (now (out .entry))))) ⌝ }
     ensures { λ _. ⌜ now (out .exit) ≡ exportMemory 3 (now (answer .entry)) (now (out .entry)) (usageMemory (now (image .entry)) zone (now (out .entry))) ⌝ }
 {
-    if answer.len() < 24 {
+    if answer.len() < USAGE_BYTES {
         return 46;
     }
     put_answer(answer, usage_told(faces::face_usage(image, zone, out)), 3)
@@ -150,7 +163,7 @@ pub extern "C" fn gongaurora_export_path(
     ensures { λ _. ⌜ now (answer .exit) ≡ exportBytes (now (answer .entry)) (countWords (pathAnswer (now (image .entry)) node (length (now (out .entry))))) ⌝ }
     ensures { λ _. ⌜ now (out .exit) ≡ exportMemory 2 (now (answer .entry)) (now (out .entry)) (pathMemory (now (image .entry)) node (now (out .entry))) ⌝ }
 {
-    if answer.len() < 16 {
+    if answer.len() < PATH_BYTES {
         return 46;
     }
     put_answer(answer, count_told(paths::path(image, node, out)), 2)
@@ -167,7 +180,7 @@ pub extern "C" fn gongaurora_export_array_value(
     ensures { λ r. ⌜ r ≡ exportRule 3 (now (answer .entry)) (valueAnswer (now (image .entry)) node k) ⌝ }
     ensures { λ _. ⌜ now (answer .exit) ≡ exportBytes (now (answer .entry)) (valueWords (valueAnswer (now (image .entry)) node k)) ⌝ }
 {
-    if answer.len() < 24 {
+    if answer.len() < VALUE_BYTES {
         return 46;
     }
     put_answer(answer, value_told(values::array_value(image, node, k)), 3)
@@ -179,7 +192,7 @@ pub extern "C" fn gongaurora_export_data_size(image: &[u8], node: u64, answer: &
     ensures { λ r. ⌜ r ≡ exportRule 5 (now (answer .entry)) (dataSizeAnswer (now (image .entry)) node) ⌝ }
     ensures { λ _. ⌜ now (answer .exit) ≡ exportBytes (now (answer .entry)) (sizeWords (dataSizeAnswer (now (image .entry)) node)) ⌝ }
 {
-    if answer.len() < 40 {
+    if answer.len() < SIZE_BYTES {
         return 46;
     }
     put_answer(answer, size_told(validation::data_size(image, node)), 5)
