@@ -10,7 +10,7 @@
 #include <stdlib.h>
 #include <string.h>
 
-enum { TYPES = 24, NGON_N = 22, NFACE_N = 23, LARGEST_IMAGE = 16777216 };
+enum { TYPES = 24, NGON_N = 22, NFACE_N = 23 };
 
 typedef struct {
     const uint8_t *bytes;
@@ -27,14 +27,14 @@ typedef struct {
 
 /* ---- Files and records ---- */
 
-/* The bytes of a file, one more than the largest image at most; NULL where it cannot be read. */
+/* The bytes of a file; of a longer one, one byte more than an image may have, which is rule 1. NULL where it cannot be read. */
 static uint8_t *load(const char *name, size_t *length)
 {
     FILE *file = fopen(name, "rb");
-    uint8_t *bytes = (uint8_t *)malloc(LARGEST_IMAGE + 1);
+    uint8_t *bytes = (uint8_t *)malloc(GONGAURORA_MAX_IMAGE + 1);
     int failed = file == NULL || bytes == NULL;
     if (!failed) {
-        *length = fread(bytes, 1, LARGEST_IMAGE + 1, file);
+        *length = fread(bytes, 1, GONGAURORA_MAX_IMAGE + 1, file);
         failed = ferror(file);
     }
     if (file != NULL) fclose(file);
@@ -85,7 +85,7 @@ typedef struct {
 static uint64_t walk_nodes(image_t image, const zone_t *zone, const gongaurora_section *section, uint64_t element,
                            findings_t *found)
 {
-    gongaurora_count size = gongaurora_corners_of(image.bytes, image.length, section, element, zone->nodes, zone->room);
+    gongaurora_count size = gongaurora_read_element(image.bytes, image.length, section, element, zone->nodes, zone->room);
     for (uint64_t k = 0; k < size.count; k++) {
         int64_t node = zone->nodes[k];
         if (found->least_node == 0 || node < found->least_node) found->least_node = node;
@@ -98,7 +98,7 @@ static uint64_t walk_nodes(image_t image, const zone_t *zone, const gongaurora_s
 /* Reads the faces of a cell, and of each face its nodes. */
 static void walk_cell(image_t image, const zone_t *zone, const gongaurora_section *cells, uint64_t cell, findings_t *found)
 {
-    gongaurora_count size = gongaurora_corners_of(image.bytes, image.length, cells, cell, zone->faces, zone->room);
+    gongaurora_count size = gongaurora_read_element(image.bytes, image.length, cells, cell, zone->faces, zone->room);
     for (uint64_t k = 0; k < size.count; k++) {
         int64_t face = zone->faces[k];
         uint64_t number = face < 0 ? 0 - (uint64_t)face : (uint64_t)face;
@@ -156,7 +156,7 @@ static void print_usage(image_t image, uint64_t zone, const gongaurora_section *
     if (usage == NULL) return;
     gongaurora_usage answer = gongaurora_face_usage(image.bytes, image.length, zone, usage, faces);
     if (answer.rule != 0) {
-        printf("  faces: %s (", gongaurora_rule_text((unsigned)answer.rule));
+        printf("  faces: %s (", gongaurora_rule_text(answer.rule));
         print_path(image, answer.node);
         printf(", element %" PRIu64 ")\n", answer.element);
     } else {
@@ -172,8 +172,8 @@ static double as_double(gongaurora_value value)
     uint32_t lower = (uint32_t)value.bits;
     float single;
     double number;
-    if (value.kind == GONGAURORA_WHOLE) return (double)(int64_t)value.bits;
-    if (value.kind == GONGAURORA_SINGLE) {
+    if (value.kind == GONGAURORA_KIND_WHOLE) return (double)(int64_t)value.bits;
+    if (value.kind == GONGAURORA_KIND_SINGLE) {
         memcpy(&single, &lower, sizeof single);
         return single;
     }
@@ -219,7 +219,7 @@ static void print_problem(image_t image, gongaurora_validation verdict)
 {
     printf("rule %" PRIu64 " at ", verdict.rule);
     print_path(image, verdict.node);
-    printf(": %s\n", gongaurora_rule_text((unsigned)verdict.rule));
+    printf(": %s\n", gongaurora_rule_text(verdict.rule));
 }
 
 /* Walks an accepted image. Its labels tell where zones and arrays may be; a zone or array below user-defined data is none,

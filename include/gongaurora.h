@@ -1,23 +1,34 @@
-/* Gongaurora: a proved validator and reader for CGNS node-table images. C99 and C++.
+/* Gongaurora: a proved validator and reader for CGNS node-table images. C99 and C++, on x86-64.
  *
  * Validate an image once; from then on every corner of every element can be read without a further check:
  *
  *     gongaurora_validation verdict = gongaurora_validate(image, length);
- *     if (verdict.rule != 0) { puts(gongaurora_rule_text((unsigned)verdict.rule)); return; }
+ *     if (verdict.rule != 0) { puts(gongaurora_rule_text(verdict.rule)); return; }
  *     gongaurora_count found = gongaurora_sections(image, length, zone, sections, verdict.sections);
- *     gongaurora_corner node = gongaurora_corner_of(image, length, &sections[0], element, corner);
- *     gongaurora_count size = gongaurora_corners_of(image, length, &sections[0], element, corners, room);
+ *     gongaurora_count size = gongaurora_read_element(image, length, &sections[0], element, corners, room);
+ *     gongaurora_corner first = gongaurora_read_corner(image, length, &sections[0], element, 1);
  *
  * Every call answers on every input: nothing has to be checked before it. What holds for all calls:
  *
- *   Answers   `rule` is 0 where the call succeeded, else the rule that refused it (GONGAURORA_RULE_..). `node` is the node
- *             that the rule was broken at, 0 where the rule names none. The other fields of a refusal are 0.
- *   Memory    Lent memory is written by a call that succeeded, and there only as far as its answer says; a refused call
- *             leaves it as it was. The one exception is rule 45 of gongaurora_face_usage. No call writes the image or a
- *             section it is given, or keeps a pointer.
- *   Aliasing  The memory that a call writes must not overlap the image or the section that it reads.
- *   Pointers  A pointer to `length` bytes, or to `room` items, that can be read or written; with 0 of them any, also NULL.
- *   Threads   There is no state: any calls may run at the same time, as long as no other thread writes what they read.
+ *   Answers    `rule` is 0 where the call succeeded, else the rule that refused it (GONGAURORA_RULE_..). `node` is the node
+ *              that the rule was broken at, 0 where the rule names none. The other fields of a refusal are 0, but for
+ *              `element` of rule 45.
+ *   Memory     Lent memory is written by a call that succeeded, and there only as far as its answer says; a refused call
+ *              leaves it as it was. The one exception is rule 45 of gongaurora_face_usage. No call writes the image or a
+ *              section it is given, keeps a pointer, or allocates.
+ *   Aliasing   The memory that a call writes must not overlap the image or the section that it reads.
+ *   Pointers   A pointer to `length` bytes, or to `room` items, that can be read or written; with 0 of them any, also NULL.
+ *   Alignment  None is needed: the image and a buffer of bytes may start at any address. Sections and lists of 64-bit numbers
+ *              have the alignment of their C type.
+ *   Stack      Measured, and the same for every image: gongaurora_face_usage takes under 220 kB; gongaurora_validate,
+ *              gongaurora_sections and gongaurora_data_size under 120 kB; gongaurora_path and gongaurora_array_value under
+ *              40 kB; gongaurora_read_corner and gongaurora_read_element under 1 kB.
+ *   Threads    There is no state: any calls may run at the same time, as long as no other thread writes what they read.
+ *   Cost       Measured, not proved. One validation of a usual mesh costs about one pass over the image's bytes; of an image
+ *              made to be slow, with 1,000 face sections, it cost over 1,000 passes. Each call says whether it validates.
+ *   Linking    The archive needs one symbol from outside, memset.
+ *   Proof      What is proved is proved of the archive's exports. The calls of this header are C around them: tested, not
+ *              proved.
  *
  * Numbers in an image are little-endian. Nodes are numbered from 0 (the root); elements, corners and values from 1.
  */
@@ -26,6 +37,12 @@
 
 #include <stddef.h>
 #include <stdint.h>
+
+/* The version of this header and of the archive beside it. */
+#define GONGAURORA_VERSION_MAJOR 0
+#define GONGAURORA_VERSION_MINOR 2
+#define GONGAURORA_VERSION_PATCH 0
+#define GONGAURORA_VERSION "0.2.0"
 
 #ifdef __cplusplus
 extern "C" {
@@ -68,7 +85,7 @@ enum gongaurora_rule {
     GONGAURORA_RULE_LABEL_TYPE = 24,      /* data type or dimensions not the label's */
     GONGAURORA_RULE_VALUE = 25,           /* a stored value that is not permitted */
     GONGAURORA_RULE_DATA_SIZE = 26,       /* array dimensions not DataSize */
-    GONGAURORA_RULE_ELEMENT_TYPE = 27,    /* an element type that is not taken */
+    GONGAURORA_RULE_ELEMENT_TYPE = 27,    /* an element type that is not supported */
     GONGAURORA_RULE_RANGE_OVERLAP = 28,   /* the range meets that of an earlier section */
     GONGAURORA_RULE_ELEMENT_LENGTHS = 29, /* start offsets or connectivity do not fit the range */
     GONGAURORA_RULE_FIRST_OFFSET = 30,    /* the first start offset is not 0 */
@@ -85,13 +102,11 @@ enum gongaurora_rule {
     GONGAURORA_RULE_USAGE_ROOM = 44,      /* fewer bytes lent than the zone has faces */
     GONGAURORA_RULE_FACE_REPEATED = 45,   /* a face used twice with one sign; node and element tell where */
     GONGAURORA_RULE_ROOM = 46,            /* too little memory lent */
-    GONGAURORA_RULE_VALUE_TYPE = 47,      /* a data type whose values are not handed out */
-
-    GONGAURORA_RULE_LARGEST = 47
+    GONGAURORA_RULE_VALUE_TYPE = 47       /* a data type whose values are not handed out */
 };
 
 /* The rule as one sentence for an error message. Static text; never NULL. */
-static inline const char *gongaurora_rule_text(unsigned rule)
+static inline const char *gongaurora_rule_text(uint64_t rule)
 {
     switch (rule) {
     case 0: return "Nothing is wrong.";
@@ -142,35 +157,36 @@ static inline const char *gongaurora_rule_text(unsigned rule)
 
 /* ---- What the archive exports ----------------------------------------------------------------------------------- */
 
-/* Use the calls further below; they are thin over these. `answer` receives as many numbers as are named; with less room than
- * that nothing is written at all. */
+/* Use the calls further below; they are thin over these. Each returns the rule. `answer` receives the words named, 8 bytes
+ * each and little-endian, in a refusal too; where it has fewer bytes than that, the rule is 46 and nothing at all is written.
+ * `section` is a gongaurora_section, as its 72 bytes or as its nine numbers; fewer are 46. */
 
-/* answer: rule, node, validated, skipped, zones, sections */
-void gongaurora_export_validate(const uint8_t *image, size_t length, uint64_t *answer, size_t room);
-/* out: nine numbers a section; answer: rule, node, count */
-void gongaurora_export_sections(const uint8_t *image, size_t length, uint64_t zone, uint64_t *out, size_t numbers,
-                                uint64_t *answer, size_t room);
-/* returns the rule; 0: the number was written */
-uint64_t gongaurora_export_corner(const uint8_t *image, size_t length, const uint64_t *section, size_t nine, uint64_t element,
-                                  uint64_t corner, int64_t *number, size_t one);
-/* returns how many corners were written to out; of a refusal UINT64_MAX less the rule */
-uint64_t gongaurora_export_corners(const uint8_t *image, size_t length, const uint64_t *section, size_t nine, uint64_t element,
-                                   int64_t *out, size_t numbers);
-/* answer: rule, node, element, count */
-void gongaurora_export_face_usage(const uint8_t *image, size_t length, uint64_t zone, uint8_t *out, size_t bytes,
-                                  uint64_t *answer, size_t room);
-/* answer: rule, node, count */
-void gongaurora_export_path(const uint8_t *image, size_t length, uint64_t node, uint8_t *out, size_t bytes, uint64_t *answer,
-                            size_t room);
-/* answer: rule, node, directions, i, j, k */
-void gongaurora_export_data_size(const uint8_t *image, size_t length, uint64_t node, uint64_t *answer, size_t room);
-/* answer: rule, node, kind, bits */
-void gongaurora_export_array_value(const uint8_t *image, size_t length, uint64_t node, uint64_t k, uint64_t *answer,
-                                   size_t room);
+/* answer, 40 bytes: node, validated, skipped, zones, sections */
+uint64_t gongaurora_export_validate(const uint8_t *image, size_t length, uint8_t *answer, size_t room);
+/* out: nine numbers a section; answer, 16 bytes: node, count */
+uint64_t gongaurora_export_sections(const uint8_t *image, size_t length, uint64_t zone, uint64_t *out, size_t numbers,
+                                    uint8_t *answer, size_t room);
+/* number: 8 bytes, two's complement, written where the rule is 0; fewer are 46 */
+uint64_t gongaurora_export_read_corner(const uint8_t *image, size_t length, const uint8_t *section, size_t bytes,
+                                       uint64_t element, uint64_t corner, uint8_t *number, size_t room);
+/* out: the corners; answer, 8 bytes: count */
+uint64_t gongaurora_export_read_element(const uint8_t *image, size_t length, const uint64_t *section, size_t nine,
+                                        uint64_t element, int64_t *out, size_t numbers, uint8_t *answer, size_t room);
+/* out: a byte a face; answer, 24 bytes: node, element, count */
+uint64_t gongaurora_export_face_usage(const uint8_t *image, size_t length, uint64_t zone, uint8_t *out, size_t bytes,
+                                      uint8_t *answer, size_t room);
+/* out: the path; answer, 16 bytes: node, count */
+uint64_t gongaurora_export_path(const uint8_t *image, size_t length, uint64_t node, uint8_t *out, size_t bytes,
+                                uint8_t *answer, size_t room);
+/* answer, 40 bytes: node, directions, i, j, k */
+uint64_t gongaurora_export_data_size(const uint8_t *image, size_t length, uint64_t node, uint8_t *answer, size_t room);
+/* answer, 24 bytes: node, kind, bits */
+uint64_t gongaurora_export_array_value(const uint8_t *image, size_t length, uint64_t node, uint64_t k, uint8_t *answer,
+                                       size_t room);
 
 /* ---- Validation ------------------------------------------------------------------------------------------------- */
 
-/* The longest image that is taken, in bytes: one byte more is rule 1. */
+/* The longest image that is supported, in bytes: one byte more is rule 1. */
 #define GONGAURORA_MAX_IMAGE 16777216
 
 typedef struct gongaurora_validation {
@@ -182,18 +198,14 @@ typedef struct gongaurora_validation {
     uint64_t sections;  /* validated sections of all zones */
 } gongaurora_validation;
 
-/* Judges the whole image. Refusals: 1 to 35, the first in the order told above. */
+/* Validates the whole image.
+ * Refusals: 1 to 35, the first in the order told above.
+ * Cost: one validation. */
 static inline gongaurora_validation gongaurora_validate(const uint8_t *image, size_t length)
 {
-    uint64_t answer[6] = {0};
     gongaurora_validation result;
-    gongaurora_export_validate(image, length, answer, 6);
-    result.rule = answer[0];
-    result.node = answer[1];
-    result.validated = answer[2];
-    result.skipped = answer[3];
-    result.zones = answer[4];
-    result.sections = answer[5];
+    result.rule = gongaurora_export_validate(image, length, (uint8_t *)&result + sizeof result.rule,
+                                             sizeof result - sizeof result.rule);
     return result;
 }
 
@@ -213,8 +225,6 @@ typedef struct gongaurora_section {
     uint64_t connectivity_length;
 } gongaurora_section;
 
-typedef char gongaurora_section_is_nine_numbers[sizeof(gongaurora_section) == 9 * sizeof(uint64_t) ? 1 : -1];
-
 typedef struct gongaurora_count {
     uint64_t rule;
     uint64_t node;
@@ -223,72 +233,72 @@ typedef struct gongaurora_count {
 
 /* Writes the sections of a zone, asked for by its node number, in node order to the front of `out`, and answers how many
  * they are. `sections` of gongaurora_validate is room enough for any zone.
- * Refusals: validation's; 40: no validated zone; 46: more sections than `room`. */
+ * Refusals: validation's; 40: no validated zone; 46: more sections than `room`.
+ * Cost: one validation: the image is validated again. */
 static inline gongaurora_count gongaurora_sections(const uint8_t *image, size_t length, uint64_t zone, gongaurora_section *out,
                                                    size_t room)
 {
-    uint64_t answer[3] = {0};
     gongaurora_count result;
-    gongaurora_export_sections(image, length, zone, (uint64_t *)(void *)out, room * 9, answer, 3);
-    result.rule = answer[0];
-    result.node = answer[1];
-    result.count = answer[2];
+    result.rule = gongaurora_export_sections(image, length, zone, (uint64_t *)(void *)out, room * 9,
+                                             (uint8_t *)&result + sizeof result.rule, sizeof result - sizeof result.rule);
     return result;
 }
 
 typedef struct gongaurora_corner {
     uint64_t rule;
+    uint64_t node;  /* always 0 */
     int64_t number; /* 0 where refused */
 } gongaurora_corner;
 
-/* The number stored at a corner of an element. In a section of type 23 it is a face number, negative where the cell sees the
- * face from its other side; in others a node number. Does not validate.
- * Refusals: 41: the element is not in the section's range; 43: the section asks for bytes that cannot be read; 42: the
- * corner is not in 1 to the element's size (so an element's corners are read from 1 until 42 comes).
+/* Reads one corner of an element: the number stored there. In a section of type 23 it is a face number, negative where the
+ * cell sees the face from its other side; in others a node number.
+ * Refusals: 41: the element is not in the section's range; 43: the section is of a type that is not supported, or asks for
+ * bytes that cannot be read; 42: the corner is not in 1 to the element's size.
+ * Cost: constant, with no validation. To read an element whole, gongaurora_read_element is several times faster: it checks the
+ * section once.
  *
- * With an accepted image and the sections that gongaurora_sections gave for one of its zones, image and sections unchanged
- * since, this is proved: 43 never comes. 41 comes exactly for elements outside the section's range, 42 exactly for corners
- * outside 1 to the element's size; every other read answers the stored number. A node number so read lies in 1 to VertexSize.
- * The magnitude of a face number lies in the range of exactly one of the sections, one of type 22, and all corners of that
- * face can be read.
- *
- * To read an element whole, gongaurora_corners_of is several times faster: it checks once. */
-static inline gongaurora_corner gongaurora_corner_of(const uint8_t *image, size_t length, const gongaurora_section *section,
-                                                     uint64_t element, uint64_t corner)
+ * Proved of the export, which is called with the section's bytes: with an accepted image and the sections that
+ * gongaurora_sections gave for one of its zones, image and sections unchanged since, 43 never comes. 41 comes exactly for
+ * elements outside the section's range, 42 exactly for corners of an element inside it that are outside 1 to the element's
+ * size. Every other read answers the stored number. A node number so read lies in 1 to VertexSize. The magnitude of a face
+ * number lies in the range of exactly one of the sections, one of type 22; that face has at least one corner, and all its
+ * corners can be read. */
+static inline gongaurora_corner gongaurora_read_corner(const uint8_t *image, size_t length, const gongaurora_section *section,
+                                                       uint64_t element, uint64_t corner)
 {
     gongaurora_corner result;
+    result.node = 0;
     result.number = 0;
-    result.rule = gongaurora_export_corner(image, length, (const uint64_t *)(const void *)section, 9, element, corner,
-                                           &result.number, 1);
+    result.rule = gongaurora_export_read_corner(image, length, (const uint8_t *)section, sizeof *section, element, corner,
+                                                (uint8_t *)&result.number, sizeof result.number);
     return result;
 }
 
-/* Writes all corners of an element, from corner 1 on, to the front of `out`, and answers how many they are: for each the
- * number that gongaurora_corner_of answers. Does not validate.
- * Refusals: 41: the element is not in the section's range; 43: the section asks for bytes that cannot be read; 46: the
- * element has more corners than `room`.
+/* Reads all corners of an element: writes them, from corner 1 on, to the front of `out`, and answers how many they are.
+ * Refusals: 41: the element is not in the section's range; 43: the section is of a type that is not supported, or asks for
+ * bytes that cannot be read; 46: the element has more corners than `room`.
+ * Cost: that of the corners written, with no validation.
  *
- * With an accepted image and its sections, as told at gongaurora_corner_of, it is proved that an element of the section's range
- * is refused with 46 alone, where `room` is less than its size. */
-static inline gongaurora_count gongaurora_corners_of(const uint8_t *image, size_t length, const gongaurora_section *section,
-                                                     uint64_t element, int64_t *out, size_t room)
+ * Proved of the export, with image and sections as told at gongaurora_read_corner: 43 never comes. 41 comes exactly for
+ * elements outside the section's range, 46 exactly for an element inside it whose size is more than `room`. Otherwise the
+ * numbers written are exactly those that gongaurora_read_corner answers. */
+static inline gongaurora_count gongaurora_read_element(const uint8_t *image, size_t length, const gongaurora_section *section,
+                                                       uint64_t element, int64_t *out, size_t room)
 {
-    uint64_t told = gongaurora_export_corners(image, length, (const uint64_t *)(const void *)section, 9, element, out, room);
-    int refused = told >= UINT64_MAX - GONGAURORA_RULE_LARGEST;
     gongaurora_count result;
-    result.rule = refused ? UINT64_MAX - told : 0;
     result.node = 0;
-    result.count = refused ? 0 : told;
+    result.rule = gongaurora_export_read_element(image, length, (const uint64_t *)(const void *)section, 9, element, out, room,
+                                                 (uint8_t *)&result.count, sizeof result.count);
     return result;
 }
 
 /* ---- Face usage ------------------------------------------------------------------------------------------------- */
 
 enum gongaurora_use {
-    GONGAURORA_UNUSED = 0,
-    GONGAURORA_FORWARD = 1,  /* by a positive face number only */
-    GONGAURORA_REVERSED = 2, /* by a negative face number only */
-    GONGAURORA_BOTH = 3
+    GONGAURORA_USE_NONE = 0,
+    GONGAURORA_USE_FORWARD = 1,  /* by a positive face number only */
+    GONGAURORA_USE_REVERSED = 2, /* by a negative face number only */
+    GONGAURORA_USE_BOTH = 3
 };
 
 typedef struct gongaurora_usage {
@@ -298,20 +308,17 @@ typedef struct gongaurora_usage {
     uint64_t count;   /* the zone's number of faces, F */
 } gongaurora_usage;
 
-/* How the cells (type 23) of a zone use its faces (type 22): one byte a face to the front of `out`, faces ordered by section
- * node, then number; answers F. Bytes past the first F never change.
+/* Tells how the cells (type 23) of a zone use its faces (type 22): writes one byte a face (GONGAURORA_USE_..) to the front of
+ * `out`, faces ordered by section node, then number; answers F. Bytes past the first F never change.
  * Refusals: validation's; 40: no validated zone; 44: `room` is less than F; 45: a face used twice with one sign: then the
- * first F bytes are 0. */
+ * first F bytes are 0.
+ * Cost: one validation: the image is validated again; then the zone's cells are read once more. */
 static inline gongaurora_usage gongaurora_face_usage(const uint8_t *image, size_t length, uint64_t zone, uint8_t *out,
                                                      size_t room)
 {
-    uint64_t answer[4] = {0};
     gongaurora_usage result;
-    gongaurora_export_face_usage(image, length, zone, out, room, answer, 4);
-    result.rule = answer[0];
-    result.node = answer[1];
-    result.element = answer[2];
-    result.count = answer[3];
+    result.rule = gongaurora_export_face_usage(image, length, zone, out, room, (uint8_t *)&result + sizeof result.rule,
+                                               sizeof result - sizeof result.rule);
     return result;
 }
 
@@ -322,15 +329,13 @@ static inline gongaurora_usage gongaurora_face_usage(const uint8_t *image, size_
 
 /* Writes the path of a node to the front of `out` and answers its length: the names from below the root, each after a slash;
  * the root's path is one slash. No zero byte is appended. Works on a refused image too, as long as its rule is over 18.
- * Refusals: 1 to 18; 40: no such node; 46: the path is longer than `room`. */
+ * Refusals: 1 to 18; 40: no such node; 46: the path is longer than `room`.
+ * Cost: rules 1 to 18 alone are checked again, which read the records and no data. */
 static inline gongaurora_count gongaurora_path(const uint8_t *image, size_t length, uint64_t node, uint8_t *out, size_t room)
 {
-    uint64_t answer[3] = {0};
     gongaurora_count result;
-    gongaurora_export_path(image, length, node, out, room, answer, 3);
-    result.rule = answer[0];
-    result.node = answer[1];
-    result.count = answer[2];
+    result.rule = gongaurora_export_path(image, length, node, out, room, (uint8_t *)&result + sizeof result.rule,
+                                         sizeof result - sizeof result.rule);
     return result;
 }
 
@@ -344,48 +349,45 @@ typedef struct gongaurora_sizes {
 } gongaurora_sizes;
 
 /* The DataSize of a DataArray_t under GridCoordinates_t or FlowSolution_t, rind included.
- * Refusals: validation's; 40: no such node, or no such array. */
+ * Refusals: validation's; 40: no such node, or no such array.
+ * Cost: one validation: the image is validated again. */
 static inline gongaurora_sizes gongaurora_data_size(const uint8_t *image, size_t length, uint64_t node)
 {
-    uint64_t answer[6] = {0};
     gongaurora_sizes result;
-    gongaurora_export_data_size(image, length, node, answer, 6);
-    result.rule = answer[0];
-    result.node = answer[1];
-    result.directions = answer[2];
-    result.size[0] = answer[3];
-    result.size[1] = answer[4];
-    result.size[2] = answer[5];
+    result.rule = gongaurora_export_data_size(image, length, node, (uint8_t *)&result + sizeof result.rule,
+                                              sizeof result - sizeof result.rule);
     return result;
 }
 
 enum gongaurora_kind {
-    GONGAURORA_WHOLE = 1,  /* I4, I8: the number in two's complement, 64 bits */
-    GONGAURORA_SINGLE = 2, /* R4: the bits of a float, in the lower 32 */
-    GONGAURORA_DOUBLE = 3  /* R8: the bits of a double */
+    GONGAURORA_KIND_WHOLE = 1,  /* I4, I8: the number in two's complement, 64 bits */
+    GONGAURORA_KIND_SINGLE = 2, /* R4: the bits of a float, in the lower 32 */
+    GONGAURORA_KIND_DOUBLE = 3  /* R8: the bits of a double */
 };
 
 typedef struct gongaurora_value {
     uint64_t rule;
     uint64_t node;
-    uint64_t kind; /* GONGAURORA_WHOLE, GONGAURORA_SINGLE or GONGAURORA_DOUBLE */
+    uint64_t kind; /* GONGAURORA_KIND_.. */
     uint64_t bits; /* as stored, of a NaN too */
 } gongaurora_value;
 
 /* The k-th stored value of any node. Works on a refused image too, as long as its rule is over 18.
  * Refusals: 1 to 18; 40: no such node; 47: its data type is not I4, I8, R4 or R8; 42: k is not in 1 to the number of values.
- * Each call judges rules 1 to 18 again. */
+ * Cost: for each value, rules 1 to 18 alone are checked again, which read the records and no data. */
 static inline gongaurora_value gongaurora_array_value(const uint8_t *image, size_t length, uint64_t node, uint64_t k)
 {
-    uint64_t answer[4] = {0};
     gongaurora_value result;
-    gongaurora_export_array_value(image, length, node, k, answer, 4);
-    result.rule = answer[0];
-    result.node = answer[1];
-    result.kind = answer[2];
-    result.bits = answer[3];
+    result.rule = gongaurora_export_array_value(image, length, node, k, (uint8_t *)&result + sizeof result.rule,
+                                                sizeof result - sizeof result.rule);
     return result;
 }
+
+/* The structs are words with nothing between them, as the exports write and read them. */
+typedef char gongaurora_structs_are_words[sizeof(gongaurora_validation) == 48 && sizeof(gongaurora_section) == 72 &&
+                                          sizeof(gongaurora_count) == 24 && sizeof(gongaurora_corner) == 24 &&
+                                          sizeof(gongaurora_usage) == 32 && sizeof(gongaurora_sizes) == 48 &&
+                                          sizeof(gongaurora_value) == 32 ? 1 : -1];
 
 #ifdef __cplusplus
 }

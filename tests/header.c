@@ -5,7 +5,8 @@
 #include <stdio.h>
 #include <string.h>
 
-static uint8_t image[20000];
+static uint8_t bytes[20001];
+static uint8_t *const image = bytes + 1; /* an odd address */
 static size_t length;
 static int failures;
 
@@ -26,7 +27,7 @@ static void load(const char *folder, const char *name)
     length = 0;
     CHECK(file != NULL);
     if (file == NULL) return;
-    length = fread(image, 1, sizeof image, file);
+    length = fread(image, 1, sizeof bytes - 1, file);
     fclose(file);
 }
 
@@ -71,29 +72,29 @@ static void check_sections(const char *folder)
     CHECK(faces->node == 9 && faces->type == 22 && faces->first == 1 && faces->last == 4);
     CHECK(faces->offsets_at == 1736 && faces->offsets_width == 4);
     CHECK(faces->connectivity_at == 1756 && faces->connectivity_width == 4 && faces->connectivity_length == 12);
-    read = gongaurora_corner_of(image, length, faces, 4, 3);
-    CHECK(read.rule == 0 && read.number == 4);
-    read = gongaurora_corner_of(image, length, cells, 5, 2);
+    read = gongaurora_read_corner(image, length, faces, 4, 3);
+    CHECK(read.rule == 0 && read.node == 0 && read.number == 4);
+    read = gongaurora_read_corner(image, length, cells, 5, 2);
     CHECK(read.rule == 0 && read.number == 2);
-    read = gongaurora_corner_of(image, length, faces, 4, 4);
-    CHECK(read.rule == GONGAURORA_RULE_INDEX && read.number == 0);
-    read = gongaurora_corner_of(image, length, faces, 5, 1);
+    read = gongaurora_read_corner(image, length, faces, 4, 4);
+    CHECK(read.rule == GONGAURORA_RULE_INDEX && read.node == 0 && read.number == 0);
+    read = gongaurora_read_corner(image, length, faces, 5, 1);
     CHECK(read.rule == GONGAURORA_RULE_ELEMENT_NUMBER && read.number == 0);
-    read = gongaurora_corner_of(image, 1700, faces, 4, 3);
+    read = gongaurora_read_corner(image, 1700, faces, 4, 3);
     CHECK(read.rule == GONGAURORA_RULE_UNREADABLE && read.number == 0);
-    found = gongaurora_corners_of(image, length, faces, 5, corners, 4);
+    found = gongaurora_read_element(image, length, faces, 5, corners, 4);
     CHECK(found.rule == GONGAURORA_RULE_ELEMENT_NUMBER && found.node == 0 && found.count == 0 && corners[0] == 9);
-    found = gongaurora_corners_of(image, 1700, faces, 4, corners, 4);
+    found = gongaurora_read_element(image, 1700, faces, 4, corners, 4);
     CHECK(found.rule == GONGAURORA_RULE_UNREADABLE && found.count == 0 && corners[0] == 9);
-    found = gongaurora_corners_of(image, length, faces, 4, corners, 2);
+    found = gongaurora_read_element(image, length, faces, 4, corners, 2);
     CHECK(found.rule == GONGAURORA_RULE_ROOM && found.count == 0 && corners[0] == 9);
-    found = gongaurora_corners_of(image, length, faces, 4, corners, 4);
+    found = gongaurora_read_element(image, length, faces, 4, corners, 4);
     CHECK(found.rule == 0 && found.node == 0 && found.count == 3);
     CHECK(corners[2] == 4 && corners[3] == 9);
     load(folder, "polyhedra.img");
     found = gongaurora_sections(image, length, 3, sections, 3);
     CHECK(found.rule == 0 && found.count == 3);
-    read = gongaurora_corner_of(image, length, cells, cells->first, 1);
+    read = gongaurora_read_corner(image, length, cells, cells->first, 1);
     CHECK(read.rule == 0 && read.number == -13);
 }
 
@@ -108,11 +109,11 @@ static void check_face_usage(const char *folder)
     CHECK(answer.rule == GONGAURORA_RULE_USAGE_ROOM);
     answer = gongaurora_face_usage(image, length, 3, use, 5);
     CHECK(answer.rule == 0 && answer.node == 0 && answer.element == 0 && answer.count == 4);
-    CHECK(use[0] == GONGAURORA_FORWARD && use[1] == 1 && use[2] == 1 && use[3] == 1 && use[4] == 9);
+    CHECK(use[0] == GONGAURORA_USE_FORWARD && use[1] == 1 && use[2] == 1 && use[3] == 1 && use[4] == 9);
     image[1828 + 12] = 3; /* the cell's faces are 1 2 3 3 now */
     answer = gongaurora_face_usage(image, length, 3, use, 5);
     CHECK(answer.rule == GONGAURORA_RULE_FACE_REPEATED && answer.node == 13 && answer.element == 5 && answer.count == 0);
-    CHECK(use[0] == GONGAURORA_UNUSED && use[3] == 0 && use[4] == 9);
+    CHECK(use[0] == GONGAURORA_USE_NONE && use[3] == 0 && use[4] == 9);
 }
 
 static void check_path(const char *folder)
@@ -143,11 +144,11 @@ static void check_arrays(const char *folder)
     sizes = gongaurora_data_size(image, length, 5);
     CHECK(sizes.rule == GONGAURORA_RULE_NO_SUCH_NODE && sizes.directions == 0 && sizes.size[0] == 0);
     value = gongaurora_array_value(image, length, 2, 1);
-    CHECK(value.rule == 0 && value.node == 0 && value.kind == GONGAURORA_WHOLE && value.bits == 3);
+    CHECK(value.rule == 0 && value.node == 0 && value.kind == GONGAURORA_KIND_WHOLE && value.bits == 3);
     value = gongaurora_array_value(image, length, 12, 1);
-    CHECK(value.rule == 0 && value.kind == GONGAURORA_SINGLE && value.bits == 0x3f800000);
+    CHECK(value.rule == 0 && value.kind == GONGAURORA_KIND_SINGLE && value.bits == 0x3f800000);
     value = gongaurora_array_value(image, length, 9, 1);
-    CHECK(value.rule == 0 && value.kind == GONGAURORA_DOUBLE && value.bits == (uint64_t)0xbfd00000 << 32);
+    CHECK(value.rule == 0 && value.kind == GONGAURORA_KIND_DOUBLE && value.bits == (uint64_t)0xbfd00000 << 32);
     value = gongaurora_array_value(image, length, 9, 176);
     CHECK(value.rule == GONGAURORA_RULE_INDEX && value.kind == 0 && value.bits == 0);
     value = gongaurora_array_value(image, length, 4, 1);
@@ -157,12 +158,20 @@ static void check_arrays(const char *folder)
 static void check_rule_texts(void)
 {
     const char *none = gongaurora_rule_text(48);
-    unsigned rule;
+    uint64_t rule;
     for (rule = 0; rule <= 47; rule++) {
         int known = rule != 19 && rule != 33 && !(36 <= rule && rule <= 39);
         CHECK((strcmp(gongaurora_rule_text(rule), none) != 0) == known);
     }
+    CHECK(strcmp(gongaurora_rule_text((uint64_t)1 << 32), none) == 0);
     CHECK(GONGAURORA_RULE_NONE == 0 && GONGAURORA_RULE_TRAILING == 18 && GONGAURORA_RULE_CONTAINMENT == 20);
+}
+
+static void check_version(void)
+{
+    char text[40];
+    sprintf(text, "%d.%d.%d", GONGAURORA_VERSION_MAJOR, GONGAURORA_VERSION_MINOR, GONGAURORA_VERSION_PATCH);
+    CHECK(strcmp(text, GONGAURORA_VERSION) == 0);
 }
 
 int main(int argc, char **argv)
@@ -174,5 +183,6 @@ int main(int argc, char **argv)
     check_path(argv[1]);
     check_arrays(argv[1]);
     check_rule_texts();
+    check_version();
     return failures > 0;
 }

@@ -1,11 +1,16 @@
-# Sourced by scripts: what they need on a fresh machine, by Debian's package names.
+# Sourced by scripts: tells which of the commands they need are missing, with Debian's package of each, and ends them with status 1.
 PATH="$PATH:$HOME/.cargo/bin"
+missing=
 need() {
-    command -v "$1" >/dev/null && return
-    [ -n "${updated:-}" ] || { apt-get update -qq; updated=yes; }
-    DEBIAN_FRONTEND=noninteractive apt-get install -y -qq "$2" >/dev/null
+    command -v "$1" >/dev/null || missing+="  $1 ($2)"$'\n'
 }
-need python3 python3
-need cargo cargo
-need cc gcc
-need objcopy binutils
+need rt "the Rattle toolchain"
+need python3 "package python3"
+need cargo "package cargo"
+need cc "package gcc"
+need c++ "package g++"
+need objcopy "package binutils"
+if [ -n "$missing" ]; then
+    printf 'missing commands:\n%s' "$missing" >&2
+    exit 1
+fi

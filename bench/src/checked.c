@@ -30,32 +30,34 @@ static int64_t number_at(const uint8_t *image, uint64_t at, uint64_t width, uint
     return wide;
 }
 
-uint64_t checked_corners(const uint8_t *image, size_t length, const gongaurora_section *section, uint64_t element, int64_t *out,
-                         size_t room)
+uint64_t checked_read_element(const uint8_t *image, size_t length, const gongaurora_section *section, uint64_t element,
+                              int64_t *out, size_t room, uint64_t *count)
 {
     uint64_t at = section->connectivity_at, width = section->connectivity_width, numbers = section->connectivity_length;
     uint64_t start, end, k = element - section->first;
-    if (element < section->first || element > section->last) return UINT64_MAX - 41;
-    if (!inside(length, at, width, numbers)) return UINT64_MAX - 43;
+    *count = 0;
+    if (element < section->first || element > section->last) return 41;
+    if (!inside(length, at, width, numbers)) return 43;
     if (section->type == NGON_N || section->type == NFACE_N) {
         int64_t low, high;
-        if (k >> 62 != 0 || !inside(length, section->offsets_at, section->offsets_width, k + 2)) return UINT64_MAX - 43;
+        if (k >> 62 != 0 || !inside(length, section->offsets_at, section->offsets_width, k + 2)) return 43;
         low = number_at(image, section->offsets_at, section->offsets_width, k);
         high = number_at(image, section->offsets_at, section->offsets_width, k + 1);
-        if (low < 0 || high <= low || (uint64_t)high > numbers) return UINT64_MAX - 43;
+        if (low < 0 || high <= low || (uint64_t)high > numbers) return 43;
         start = (uint64_t)low;
         end = (uint64_t)high;
     } else {
         uint64_t nodes = section->type < TYPES ? nodes_per[section->type] : 0;
-        if (nodes == 0 || numbers / 32 < k / 32 * nodes) return UINT64_MAX - 43;
+        if (nodes == 0 || numbers / 32 < k / 32 * nodes) return 43;
         start = k * nodes;
         end = start + nodes;
-        if (end > numbers) return UINT64_MAX - 43;
+        if (end > numbers) return 43;
     }
-    if (end - start > room) return UINT64_MAX - 46;
+    if (end - start > room) return 46;
     if (width == 4)
         for (uint64_t c = start; c < end; c++) out[c - start] = number_at(image, at, 4, c);
     else
         for (uint64_t c = start; c < end; c++) out[c - start] = number_at(image, at, 8, c);
-    return end - start;
+    *count = end - start;
+    return 0;
 }

@@ -4,7 +4,8 @@
 
 #include "gongaurora.h"
 
-uint64_t checked_corners(const uint8_t *image, size_t length, const gongaurora_section *section, uint64_t element, int64_t *out,
-                         size_t room);
+/* Answers as the library's export does: the rule, and the count, 0 in a refusal. */
+uint64_t checked_read_element(const uint8_t *image, size_t length, const gongaurora_section *section, uint64_t element,
+                              int64_t *out, size_t room, uint64_t *count);
 
 #endif

@@ -9,7 +9,7 @@ use std::process::Command;
 use std::{env, fs};
 
 use calls::{face_count, face_usage, sections, sum, validate, walk_checked, walk_corners, walk_elements, walk_plain};
-use measure::{measured, peak_growth};
+use measure::{medians, peak_growth, processor};
 use reference::mesh::mesh;
 
 /// The number of the zone's node in a mesh of one zone.
@@ -51,7 +51,8 @@ fn main() {
 
 fn tables(repetitions: usize) {
     let subjects = subjects();
-    println!("Processor time in milliseconds, medians of {repetitions} turns; ratios are within a turn; C is compiled with -O2.\n");
+    println!("Processor: {}. C is compiled with -O2.", processor());
+    println!("Times are processor time in milliseconds, medians of {repetitions} turns; a ratio is the quotient of two medians in its row.\n");
     validation_table(&subjects, repetitions);
     walk_table(&subjects, repetitions);
     usage_table(&subjects, repetitions);
@@ -67,32 +68,30 @@ fn validation_table(subjects: &[Subject], repetitions: usize) {
     println!("|---|---|---|---|---|---|---|");
     for Subject { name, image, .. } in subjects {
         assert_eq!(validate(image).rule, 0, "{name}");
-        let times = measured(
+        let [library, reference, words] = medians(
             repetitions,
             [&mut || validate(image).rule, &mut || u64::from(reference::validate(image).is_ok()), &mut || {
                 u64::from(sum(image))
             }],
         );
-        let (library, reference, words) = (times.time(0), times.time(1), times.time(2));
-        let (to_reference, to_sum) = (times.ratio(0, 1), times.ratio(0, 2));
-        let size = megabytes(image);
+        let (size, to_reference, to_sum) = (megabytes(image), library / reference, library / words);
         println!(
-            "| {name} | {size:.1} | {library:.2} | {reference:.2} | {words:.2} | {to_reference:.2} | {to_sum:.2} |"
+            "| {name} | {size:.1} | {library:.3} | {reference:.3} | {words:.3} | {to_reference:.2} | {to_sum:.2} |"
         );
     }
     println!();
 }
 
 fn walk_table(subjects: &[Subject], repetitions: usize) {
-    println!("| walk, cell to face to node | corners read | by elements | by corners | checked C | unchecked C | elements / unchecked | corners / unchecked | elements / checked |");
-    println!("|---|---|---|---|---|---|---|---|---|");
+    println!("| walk, cell to face to node | corners read | by elements | by corners | checked C | unchecked C | elements / unchecked | corners / unchecked | elements / checked | by corners, ns a corner |");
+    println!("|---|---|---|---|---|---|---|---|---|---|");
     for Subject { name, image, .. } in subjects.iter().filter(|subject| subject.walked) {
         let sections = sections(image, ZONE);
         let walked = walk_plain(image, &sections);
         for walk in [walk_elements, walk_checked, walk_corners] {
             assert_eq!(walked, walk(image, &sections), "{name}");
         }
-        let times = measured(
+        let [plain, elements, corners, checked] = medians(
             repetitions,
             [
                 &mut || walk_plain(image, &sections).sum,
@@ -101,12 +100,10 @@ fn walk_table(subjects: &[Subject], repetitions: usize) {
                 &mut || walk_checked(image, &sections).sum,
             ],
         );
-        let [plain, elements, corners, checked] = [0, 1, 2, 3].map(|piece| times.time(piece));
-        let [by_elements, by_corners, to_checked] =
-            [(1, 0), (2, 0), (1, 3)].map(|(one, other)| times.ratio(one, other));
+        let (by_elements, by_corners, to_checked) = (elements / plain, corners / plain, elements / checked);
+        let (read, a_corner) = (walked.corners, corners * 1e6 / walked.corners as f64);
         println!(
-            "| {name} | {} | {elements:.2} | {corners:.2} | {checked:.2} | {plain:.2} | {by_elements:.2} | {by_corners:.2} | {to_checked:.2} |",
-            walked.corners
+            "| {name} | {read} | {elements:.3} | {corners:.3} | {checked:.3} | {plain:.3} | {by_elements:.2} | {by_corners:.2} | {to_checked:.2} | {a_corner:.1} |"
         );
     }
     println!();
@@ -121,21 +118,21 @@ fn usage_table(subjects: &[Subject], repetitions: usize) {
         assert_eq!(face_usage(image, ZONE, &mut first).rule, 0, "{name}");
         assert_eq!(reference::face_usage(image, ZONE, &mut second), Ok(faces), "{name}");
         assert!(first == second, "{name}");
-        let times = measured(
+        let [library, reference] = medians(
             repetitions,
             [&mut || face_usage(image, ZONE, &mut first).count, &mut || {
                 reference::face_usage(image, ZONE, &mut second).map_or(0, |count| count as u64)
             }],
         );
-        let (library, reference, ratio) = (times.time(0), times.time(1), times.ratio(0, 1));
-        println!("| {name} | {faces} | {library:.2} | {reference:.2} | {ratio:.2} |");
+        let ratio = library / reference;
+        println!("| {name} | {faces} | {library:.3} | {reference:.3} | {ratio:.2} |");
     }
     println!();
 }
 
-/// Peak memory above the image and the lent buffers, each call in a process of its own.
+/// Peak memory above the image, the lent buffers and the stack, each call in a process of its own.
 fn memory_table(subjects: &[Subject]) {
-    println!("| peak memory above image and buffers, kB | library | reference |");
+    println!("| peak memory above image, buffers and stack, kB | library | reference |");
     println!("|---|---|---|");
     let file = env::temp_dir().join(format!("bench-{}.img", std::process::id()));
     for Subject { name, image, faces, .. } in subjects {
@@ -155,7 +152,7 @@ fn child(what: &str, call: &str, file: &Path) -> String {
     String::from_utf8_lossy(&output.stdout).trim().to_string()
 }
 
-/// Peak growth in kilobytes while a call runs on an image, after a run on a small one that brings the code into memory.
+/// Peak growth in kilobytes while a call runs on an image, after a run on a small one that brings code and stack into memory.
 fn memory_of(what: &str, call: &str, file: &str) -> u64 {
     let image = fs::read(file).expect("the image");
     let small = mesh("poly", 2, 4).expect("a lawful mesh");

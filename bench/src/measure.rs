@@ -22,13 +22,9 @@ fn now() -> f64 {
     time.seconds as f64 * 1e3 + time.nanoseconds as f64 / 1e6
 }
 
-/// The times in milliseconds of several pieces of work, turn by turn.
-pub struct Times<const N: usize> {
-    turns: Vec<[f64; N]>,
-}
-
-/// Runs several pieces of work in turn, `repetitions` times after one turn that does not count.
-pub fn measured<const N: usize>(repetitions: usize, mut work: [&mut dyn FnMut() -> u64; N]) -> Times<N> {
+/// Runs several pieces of work in turn, `repetitions` times after one turn that does not count, and answers the median time of
+/// each in milliseconds, rounded to the three decimals that are printed.
+pub fn medians<const N: usize>(repetitions: usize, mut work: [&mut dyn FnMut() -> u64; N]) -> [f64; N] {
     let mut turns = Vec::with_capacity(repetitions + 1);
     for _ in 0..=repetitions {
         turns.push(work.each_mut().map(|piece| {
@@ -37,27 +33,18 @@ pub fn measured<const N: usize>(repetitions: usize, mut work: [&mut dyn FnMut() 
             now() - start
         }));
     }
-    turns.remove(0);
-    Times { turns }
+    std::array::from_fn(|piece| {
+        let mut times: Vec<f64> = turns[1..].iter().map(|turn| turn[piece]).collect();
+        times.sort_by(f64::total_cmp);
+        (times[times.len() / 2] * 1e3).round() / 1e3
+    })
 }
 
-impl<const N: usize> Times<N> {
-    /// The median of what `of` makes of each turn.
-    fn median(&self, of: impl Fn(&[f64; N]) -> f64) -> f64 {
-        let mut all: Vec<f64> = self.turns.iter().map(of).collect();
-        all.sort_by(f64::total_cmp);
-        all[all.len() / 2]
-    }
-
-    /// The median time of a piece.
-    pub fn time(&self, piece: usize) -> f64 {
-        self.median(|turn| turn[piece])
-    }
-
-    /// The median ratio of one piece to another, each within a turn.
-    pub fn ratio(&self, piece: usize, other: usize) -> f64 {
-        self.median(|turn| turn[piece] / turn[other])
-    }
+/// The processor's name.
+pub fn processor() -> String {
+    let text = fs::read_to_string("/proc/cpuinfo").unwrap_or_default();
+    let line = text.lines().find_map(|line| line.strip_prefix("model name")).unwrap_or(": unknown");
+    line.trim_start_matches([' ', '\t', ':']).to_string()
 }
 
 /// How many kilobytes more the process holds at the peak of a piece of work than before it.

@@ -47,9 +47,9 @@ static const gongaurora_section *section_of_face(const gongaurora_section *secti
     return sections;
 }
 
-/* Cell to face to node, element by element; hexahedra straight to their nodes. `corners_of` reads all corners of an element and
+/* Cell to face to node, element by element; hexahedra straight to their nodes. `read` reads all corners of an element and
  * answers how many they are. */
-#define ELEMENT_WALK(name, corners_of)                                                                                       \
+#define ELEMENT_WALK(name, read)                                                                                             \
     walked_t name(const uint8_t *image, size_t length, const gongaurora_section *sections, size_t count)                     \
     {                                                                                                                        \
         enum { ROOM = 32 };                                                                                                  \
@@ -59,7 +59,7 @@ static const gongaurora_section *section_of_face(const gongaurora_section *secti
             const gongaurora_section *cells = &sections[k];                                                                  \
             if (cells->type != HEXA_8 && cells->type != NFACE_N) continue;                                                   \
             for (uint64_t cell = cells->first; cell <= cells->last; cell++) {                                                \
-                uint64_t size = corners_of(image, length, cells, cell, of_cell, ROOM);                                       \
+                uint64_t size = read(image, length, cells, cell, of_cell, ROOM);                                             \
                 walked.corners += size;                                                                                      \
                 for (uint64_t c = 0; c < size; c++) {                                                                        \
                     if (cells->type == HEXA_8) {                                                                             \
@@ -68,7 +68,7 @@ static const gongaurora_section *section_of_face(const gongaurora_section *secti
                     }                                                                                                        \
                     uint64_t number = of_cell[c] < 0 ? 0 - (uint64_t)of_cell[c] : (uint64_t)of_cell[c];                      \
                     const gongaurora_section *faces = section_of_face(sections, count, number);                              \
-                    uint64_t nodes = corners_of(image, length, faces, number, of_face, ROOM);                                \
+                    uint64_t nodes = read(image, length, faces, number, of_face, ROOM);                                      \
                     walked.corners += nodes;                                                                                 \
                     for (uint64_t n = 0; n < nodes; n++) walked.sum += (uint64_t)of_face[n];                                 \
                 }                                                                                                            \
@@ -78,21 +78,22 @@ static const gongaurora_section *section_of_face(const gongaurora_section *secti
     }
 
 /* By the library, and by hand-written C with the same checks; 0 for a refusal. */
-static uint64_t of_library(const uint8_t *image, size_t length, const gongaurora_section *section, uint64_t element,
+static uint64_t by_library(const uint8_t *image, size_t length, const gongaurora_section *section, uint64_t element,
                            int64_t *out, size_t room)
 {
-    return gongaurora_corners_of(image, length, section, element, out, room).count;
+    return gongaurora_read_element(image, length, section, element, out, room).count;
 }
 
-static uint64_t of_checked(const uint8_t *image, size_t length, const gongaurora_section *section, uint64_t element,
-                           int64_t *out, size_t room)
+static uint64_t by_hand(const uint8_t *image, size_t length, const gongaurora_section *section, uint64_t element,
+                        int64_t *out, size_t room)
 {
-    uint64_t told = checked_corners(image, length, section, element, out, room);
-    return told >= UINT64_MAX - GONGAURORA_RULE_LARGEST ? 0 : told;
+    uint64_t count;
+    checked_read_element(image, length, section, element, out, room, &count);
+    return count;
 }
 
-ELEMENT_WALK(bench_walk_elements, of_library)
-ELEMENT_WALK(bench_walk_checked, of_checked)
+ELEMENT_WALK(bench_walk_elements, by_library)
+ELEMENT_WALK(bench_walk_checked, by_hand)
 
 /* The same corner by corner. */
 walked_t bench_walk_corners(const uint8_t *image, size_t length, const gongaurora_section *sections, size_t count)
@@ -103,20 +104,20 @@ walked_t bench_walk_corners(const uint8_t *image, size_t length, const gongauror
         if (cells->type == HEXA_8) {
             for (uint64_t cell = cells->first; cell <= cells->last; cell++)
                 for (uint64_t c = 1; c <= 8; c++) {
-                    walked.sum += (uint64_t)gongaurora_corner_of(image, length, cells, cell, c).number;
+                    walked.sum += (uint64_t)gongaurora_read_corner(image, length, cells, cell, c).number;
                     walked.corners++;
                 }
         }
         if (cells->type != NFACE_N) continue;
         for (uint64_t cell = cells->first; cell <= cells->last; cell++)
             for (uint64_t c = 1;; c++) {
-                gongaurora_corner face = gongaurora_corner_of(image, length, cells, cell, c);
+                gongaurora_corner face = gongaurora_read_corner(image, length, cells, cell, c);
                 if (face.rule != 0) break;
                 uint64_t number = face.number < 0 ? 0 - (uint64_t)face.number : (uint64_t)face.number;
                 const gongaurora_section *faces = section_of_face(sections, count, number);
                 walked.corners++;
                 for (uint64_t n = 1;; n++) {
-                    gongaurora_corner node = gongaurora_corner_of(image, length, faces, number, n);
+                    gongaurora_corner node = gongaurora_read_corner(image, length, faces, number, n);
                     if (node.rule != 0) break;
                     walked.sum += (uint64_t)node.number;
                     walked.corners++;

@@ -2,8 +2,8 @@
 
 use crate::faces::{face_count, face_usage};
 use crate::path::{path, path_into};
-use crate::reader::{array_value, corner, data_size, section_entries, section_entries_into};
-use crate::reader::{Section, Value, ENTRY_LENGTH};
+use crate::reader::{array_value, corner, corner_reads_into, data_size, element_corners, section_entries};
+use crate::reader::{section_entries_into, Section, Value, ENTRY_LENGTH};
 use crate::rejection::Rejection;
 use crate::table::check_table;
 use crate::validation::validate;
@@ -91,6 +91,30 @@ pub fn usage_into_line(image: &[u8], zone: u64, room: usize) -> String {
     let mut out = vec![FILLING; room];
     let answer = face_usage(image, zone, &mut out);
     let answered = line(answer, |count| format!("usage {count}"));
+    format!("{answered} room{}", numbers(&out))
+}
+
+/// How many entries the list has that `reads` reads with.
+pub const ENTRIES_READ: usize = 16;
+
+/// `reads N room n1 .. nR rules r1 .. rR` or the rejection and the same: three corner reads into two lists of `room` places. They read with a
+/// list of 16 entries, each of whose numbers was 170 before the zone's entries were asked for.
+pub fn reads_line(image: &[u8], zone: u64, room: usize, reads: &[[u64; 3]; 3]) -> String {
+    let mut entries = [Section::of_numbers(&[u64::from(FILLING); ENTRY_LENGTH]); ENTRIES_READ];
+    // a refusal leaves the list as it was, and it is read with all the same
+    let _ = section_entries_into(image, zone, &mut entries);
+    let entries = entries.map(|entry| entry.numbers());
+    let (mut stored, mut rules) = (vec![i64::from(FILLING); room], vec![u64::from(FILLING); room]);
+    let answer = corner_reads_into(image, &entries, reads, &mut stored, &mut rules);
+    let answered = line(answer, |count| format!("reads {count}"));
+    format!("{answered} room{} rules{}", numbers(stored), numbers(rules))
+}
+
+/// `corners N room n1 .. nR` or the rejection and `room n1 .. nR`: all corners of an element into memory of `room` numbers.
+pub fn element_into_line(image: &[u8], entry: &[u64; ENTRY_LENGTH], element: u64, room: usize) -> String {
+    let mut out = vec![i64::from(FILLING); room];
+    let answer = element_corners(image, entry, element, &mut out);
+    let answered = line(answer, |count| format!("corners {count}"));
     format!("{answered} room{}", numbers(&out))
 }
 

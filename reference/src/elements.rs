@@ -22,7 +22,7 @@ pub enum Shape {
     Offsets,
 }
 
-/// The shape of an element type; nothing for a type that is not taken (rule 27).
+/// The shape of an element type; nothing for a type that is not supported (rule 27).
 pub fn shape_of(element_type: i64) -> Option<Shape> {
     let nodes = match element_type {
         2 => 1,

@@ -33,7 +33,7 @@ pub mod validation;
 
 pub use faces::{face_count, face_usage};
 pub use path::{path, path_into};
-pub use reader::{array_value, corner, corner_reads, data_size, element_corners};
+pub use reader::{array_value, corner, corner_reads, corner_reads_into, data_size, element_corners};
 pub use reader::{section_entries, section_entries_into};
 pub use reader::{CornerRead, Section, Value, ENTRY_LENGTH};
 pub use rejection::Rejection;

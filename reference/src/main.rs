@@ -25,6 +25,9 @@ reference usage FILE ZONE
 reference path-into FILE NODE ROOM
 reference entries-into FILE ZONE ROOM
 reference usage-into FILE ZONE ROOM
+reference list-into FILE ZONE ROOM
+reference reads FILE ZONE ROOM W1 E1 C1 W2 E2 C2 W3 E3 C3
+reference element-into FILE E1 .. E9 ELEMENT ROOM
 reference generate SEED COUNT DIR [small|medium|large]
 reference cases DIR
 reference samples DIR
@@ -79,6 +82,15 @@ fn answer(call: &str, file: &str, numbers: &[u64]) -> Result<String, String> {
         ("path-into", [node, room]) => path_into_line(&image()?, *node, length(*room)?),
         ("entries-into", [zone, room]) => entries_into_line(&image()?, *zone, length(*room)?),
         ("usage-into", [zone, room]) => usage_into_line(&image()?, *zone, length(*room)?),
+        ("list-into", [zone, room]) => entries_into_line(&image()?, *zone, length(*room)?),
+        ("reads", &[zone, room, w1, e1, c1, w2, e2, c2, w3, e3, c3]) => {
+            let reads = [[w1, e1, c1], [w2, e2, c2], [w3, e3, c3]];
+            reads_line(&image()?, zone, length(room)?, &reads)
+        }
+        ("element-into", [entry @ .., element, room]) => {
+            let entry = entry.try_into().map_err(|_| USAGE.to_string())?;
+            element_into_line(&image()?, &entry, *element, length(*room)?)
+        }
         ("corner", [entry @ .., element, corner]) => {
             let entry = entry.try_into().map_err(|_| USAGE.to_string())?;
             corner_line(&image()?, &entry, *element, *corner)

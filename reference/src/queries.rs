@@ -4,17 +4,20 @@ use crate::answers::*;
 use crate::faces::face_count;
 use crate::path::path;
 use crate::random::Random;
-use crate::reader::{section_entries, Section, ENTRY_LENGTH};
+use crate::reader::{element_corners, section_entries, Section, ENTRY_LENGTH};
 use crate::table::{check_table, Table};
 
 /// Queries of an image, each as `QUERY = ANSWER`; the same list for the same seed and image.
 pub fn queries(seed: u64, image: &[u8]) -> Vec<String> {
     let mut asker = Asker { random: Random::new(seed, image.len() as u64), image, lines: Vec::new() };
     asker.verdicts();
-    for node in asker.nodes() {
+    let nodes = asker.nodes();
+    for &node in &nodes {
         asker.about_node(node);
     }
     asker.absurd_corners();
+    asker.lists(&nodes);
+    asker.absurd_elements();
     asker.lines
 }
 
@@ -162,23 +165,130 @@ impl Asker<'_> {
     /// Corners by entries that no image gave.
     fn absurd_corners(&mut self) {
         for _ in 0..12 {
-            let mut entry = [0; ENTRY_LENGTH];
-            for number in entry.iter_mut() {
-                *number = self.odd_number(8);
-            }
-            entry[1] = *self.random.pick(&[2, 5, 17, 20, 22, 23, u64::MAX, 0]);
-            entry[5] = *self.random.pick(&[4, 8, 0, 16, u64::MAX]);
-            entry[7] = *self.random.pick(&[4, 8, 0, u64::MAX]);
-            if self.random.one_in(2) {
-                entry[2] = self.random.below(3);
-                entry[3] = entry[2] + self.random.below(4);
-                entry[4] = self.random.below(64);
-                entry[6] = self.random.below(64);
-                entry[8] = self.random.below(12);
-            }
+            let entry = self.absurd_entry();
             let element = entry[2].wrapping_add(self.random.below(3));
             let corner = self.random.below(4);
             self.corner(&entry, element, corner);
         }
+    }
+
+    /// An entry that no image gave; often one whose numbers are small.
+    fn absurd_entry(&mut self) -> [u64; ENTRY_LENGTH] {
+        let mut entry = [0; ENTRY_LENGTH];
+        for number in entry.iter_mut() {
+            *number = self.odd_number(8);
+        }
+        entry[1] = *self.random.pick(&[2, 5, 17, 20, 22, 23, u64::MAX, 0]);
+        entry[5] = *self.random.pick(&[4, 8, 0, 16, u64::MAX]);
+        entry[7] = *self.random.pick(&[4, 8, 0, u64::MAX]);
+        if self.random.one_in(2) {
+            entry[2] = self.random.below(3);
+            entry[3] = entry[2] + self.random.below(4);
+            entry[4] = self.random.below(64);
+            entry[6] = self.random.below(64);
+            entry[8] = self.random.below(12);
+        }
+        entry
+    }
+
+    /// What is asked with lists: of every zone, and of two nodes that are none.
+    fn lists(&mut self, nodes: &[u64]) {
+        let (zones, mut others): (Vec<u64>, Vec<u64>) =
+            nodes.iter().partition(|&&node| section_entries(self.image, node).is_ok());
+        for zone in zones {
+            self.lists_of_zone(zone);
+        }
+        self.random.shuffle(&mut others);
+        for &node in others.iter().take(2) {
+            let (room, lists) = (self.random.index(4), 1 + self.random.index(6));
+            self.list(node, room);
+            self.reads(node, lists, &[]);
+        }
+    }
+
+    /// A zone's entries as structs, with memory of several lengths; reads by its entries; elements of its sections.
+    fn lists_of_zone(&mut self, zone: u64) {
+        let entries = section_entries(self.image, zone).unwrap_or_default();
+        let count = entries.len();
+        for room in [count.saturating_sub(1), count, count + 1 + self.random.index(3)] {
+            self.list(zone, room);
+        }
+        for room in [3, self.random.index(3), 3 + self.random.index(6), 4] {
+            self.reads(zone, room, &entries);
+        }
+        for entry in &entries {
+            self.elements(entry);
+        }
+    }
+
+    /// One query of a node's entries as structs.
+    fn list(&mut self, zone: u64, room: usize) {
+        let answer = entries_into_line(self.image, zone, room);
+        self.note(format!("list-into {zone} {room}"), answer);
+    }
+
+    /// Three reads by a zone's entries into lists of `room` places.
+    fn reads(&mut self, zone: u64, room: usize, entries: &[Section]) {
+        let reads = [(); 3].map(|()| self.read(entries));
+        let answer = reads_line(self.image, zone, room, &reads);
+        self.note(format!("reads {zone} {room}{}", numbers(reads.as_flattened())), answer);
+    }
+
+    /// One read of a list: mostly inside a section, else out of its range, of an entry that was not written, or of none.
+    fn read(&mut self, entries: &[Section]) -> [u64; 3] {
+        let beyond = [entries.len() as u64, 15, 16, 17, 1 << 63, u64::MAX];
+        if entries.is_empty() || self.random.one_in(4) {
+            let element = *self.random.pick(&[u64::from(FILLING), 1, u64::MAX]);
+            return [*self.random.pick(&beyond), element, self.random.below(3)];
+        }
+        let which = self.random.index(entries.len());
+        let entry = &entries[which];
+        let element = match self.random.below(6) {
+            0 => self.odd_number(entry.last),
+            1 => entry.last,
+            _ => entry.first + self.random.below(entry.last - entry.first + 1),
+        };
+        [which as u64, element, self.random.below(5)]
+    }
+
+    /// All corners of elements of a section: the first and the last with memory of several lengths, out of range, and by an entry with one
+    /// number changed.
+    fn elements(&mut self, entry: &Section) {
+        let numbers = entry.numbers();
+        for element in [entry.first, entry.last] {
+            let mut out = [0; 64];
+            let size = element_corners(self.image, &numbers, element, &mut out).unwrap_or(out.len());
+            for room in [size, size - 1, size + self.random.index(4), 0] {
+                self.element(&numbers, element, room);
+            }
+        }
+        for element in [entry.first - 1, entry.last + 1] {
+            self.element(&numbers, element, 2);
+        }
+        for _ in 0..6 {
+            let mut other = numbers;
+            let place = self.random.index(ENTRY_LENGTH);
+            other[place] = self.odd_number(numbers[place]);
+            let element = entry.first + self.random.below(entry.last - entry.first + 1);
+            let room = self.random.index(9);
+            self.element(&other, element, room);
+        }
+    }
+
+    /// All corners of elements by entries that no image gave.
+    fn absurd_elements(&mut self) {
+        for _ in 0..12 {
+            let entry = self.absurd_entry();
+            let element = entry[2].wrapping_add(self.random.below(3));
+            let room = self.random.index(9);
+            self.element(&entry, element, room);
+        }
+    }
+
+    /// One query of all corners of an element.
+    fn element(&mut self, entry: &[u64; ENTRY_LENGTH], element: u64, room: usize) {
+        let query = format!("element-into{} {element} {room}", numbers(entry));
+        let answer = element_into_line(self.image, entry, element, room);
+        self.note(query, answer);
     }
 }

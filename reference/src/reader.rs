@@ -194,6 +194,30 @@ pub fn corner_reads(image: &[u8], reads: &[CornerRead]) -> Vec<Result<i64, Rejec
     reads.iter().map(|read| corner(image, &read.section, read.element, read.corner)).collect()
 }
 
+/// A list of reads, each an entry's number, an element and a corner: the numbers (0 for a refusal) to the front of `numbers` and the rules (0
+/// for a number) to the front of `rules`, and how many they are; 40 is the rule where there is no such entry. Or 46, nothing written, where one
+/// of the two is too short.
+pub fn corner_reads_into(
+    image: &[u8],
+    entries: &[[u64; ENTRY_LENGTH]],
+    reads: &[[u64; 3]],
+    numbers: &mut [i64],
+    rules: &mut [u64],
+) -> Result<usize, Rejection> {
+    if numbers.len() < reads.len() || rules.len() < reads.len() {
+        return Err(Rejection::of_call(46));
+    }
+    for (k, &[which, element, number]) in reads.iter().enumerate() {
+        let entry = usize::try_from(which).ok().and_then(|which| entries.get(which));
+        let answer = entry.ok_or(Rejection::of_call(40)).and_then(|entry| corner(image, entry, element, number));
+        (numbers[k], rules[k]) = match answer {
+            Ok(stored) => (stored, 0),
+            Err(rejection) => (0, u64::from(rejection.rule)),
+        };
+    }
+    Ok(reads.len())
+}
+
 /// One value of an array: a whole number, or the bits of a single or a double, unchanged.
 #[derive(Clone, Copy, Debug, PartialEq, Eq)]
 pub enum Value {

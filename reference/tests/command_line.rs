@@ -37,6 +37,11 @@ fn calls() {
     assert_eq!(run(&["usage-into", &l, "3", "5"]), "refuse 45 13 5 room 0 0 0 0 170\n");
     assert_eq!(run(&["path-into", &a, "0", "2"]), "length 1 room 47 170\n");
     assert_eq!(run(&["entries-into", &a, "3", "0"]), "refuse 46 0 room\n");
+    assert_eq!(run(&["list-into", &a, "3", "2"]), entries.replace("entries 2", "entries 2 room"));
+    let reads = ["reads", &a, "3", "4", "0", "1", "2", "1", "5", "9", "16", "5", "1"];
+    assert_eq!(run(&reads), "reads 3 room 3 0 0 170 rules 0 42 40 170\n");
+    let element = ["element-into", &a, "9", "22", "1", "4", "1736", "4", "1756", "4", "12", "4", "4"];
+    assert_eq!(run(&element), "corners 3 room 3 1 4 170\n");
     assert!(run(&["answers", place.to_str().unwrap()]).starts_with("a.img accept 17 0 1 2\nb.img refuse 1 0\n"));
     assert!(run(&["queries", "1", &a]).starts_with("validate = accept 17 0 1 2\ntable = accept 17\npath 0 = /\n"));
     assert_eq!(run(&["corner", &a]), "");

@@ -2,7 +2,7 @@
 
 use reference::cases::case;
 use reference::random::Random;
-use reference::{corner, corner_reads, element_corners, section_entries, CornerRead, Rejection};
+use reference::{corner, corner_reads, corner_reads_into, element_corners, section_entries, CornerRead, Rejection};
 
 /// The rule of a refusal; 0 for an answer.
 fn rule(answer: Result<i64, Rejection>) -> u32 {
@@ -56,6 +56,28 @@ fn a_list_of_reads() {
     let reads: Vec<CornerRead> = (0..6).map(|corner| CornerRead { section, element: 5, corner }).collect();
     let answers: Vec<u32> = corner_reads(&image, &reads).into_iter().map(rule).collect();
     assert_eq!(answers, [42, 0, 0, 0, 0, 42]);
+}
+
+#[test]
+fn a_list_of_reads_into_memory() {
+    let image = case("a");
+    let mut entries = [[170; 9]; 4];
+    for (k, entry) in section_entries(&image, 3).unwrap().iter().enumerate() {
+        entries[k] = entry.numbers();
+    }
+    let (mut numbers, mut rules) = ([9; 7], [9; 8]);
+    let reads = [[0, 1, 2], [0, 5, 1], [1, 5, 5], [2, 5, 1], [2, 170, 1], [4, 1, 1]];
+    assert_eq!(corner_reads_into(&image, &entries, &reads, &mut numbers, &mut rules), Ok(6));
+    assert_eq!(numbers, [3, 0, 0, 0, 0, 0, 9]);
+    assert_eq!(rules, [0, 41, 42, 41, 43, 40, 9, 9]);
+    assert_eq!(corner_reads_into(&image, &[], &[[u64::MAX; 3]], &mut numbers, &mut rules), Ok(1));
+    assert_eq!((numbers[0], rules[0]), (0, 40));
+    let before = (numbers, rules);
+    for (a, b) in [(5, 8), (7, 5), (0, 0)] {
+        let short = corner_reads_into(&image, &entries, &reads, &mut numbers[..a], &mut rules[..b]);
+        assert_eq!(short, Err(Rejection::of_call(46)));
+    }
+    assert_eq!((numbers, rules), before);
 }
 
 /// Bytes with the start offsets 0 2 2 −1 9 3 and the connectivity 10 20 30 40 after them, all I4.

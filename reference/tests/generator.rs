@@ -62,6 +62,21 @@ fn every_query_ends_properly() {
 }
 
 #[test]
+fn lists_are_answered_and_refused() {
+    let lines: Vec<String> = (0..120).flat_map(|index| queries(index, &image(9, index, SizeClass::Small))).collect();
+    let met = |call: &str, answer: &str| lines.iter().any(|line| line.starts_with(call) && line.contains(answer));
+    for answer in ["= entries 2", "= refuse 40 0", "= refuse 46 0", "= refuse 3"] {
+        assert!(met("list-into ", answer), "list-into {answer}");
+    }
+    for answer in ["rules 0 0 0", " 40", " 41", " 42", " 43", "= refuse 46 0"] {
+        assert!(met("reads ", answer), "reads {answer}");
+    }
+    for answer in ["= corners ", "= refuse 41 0", "= refuse 43 0", "= refuse 46 0"] {
+        assert!(met("element-into ", answer), "element-into {answer}");
+    }
+}
+
+#[test]
 fn any_bytes_end_properly() {
     let mut random = Random::new(8, 8);
     for length in 0..200 {

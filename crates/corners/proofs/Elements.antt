@@ -1,25 +1,24 @@
--- All corners of an element, by what was found on the way: 41, 43, 46 and the numbers; and that the corner reader answers each of them.
+-- All corners of an element, by what was found on the way: 41, 43, 46 and the numbers.
 use Prim.Native.Nat.{ℕ, suc, _+_, _-_, _≤_, _<_}
-use mathlib.Core.Path.{_≡_, refl, sym, ap, _∙_}
+use mathlib.Core.Path.{_≡_, refl, ap, _∙_}
 use mathlib.Core.Bool.{Bool, true, false, and-false}
 use mathlib.Core.List.{List, [], _∷_}
 use native.Mathlib.Omega.{arith}
 use lib.Dec.{leb}
-use lib.ListN.{length, getD}
-use lib.IntN.{ℤ, pos}
+use lib.ListN.{length}
+use lib.IntN.{ℤ}
 use borrow.Author.Tests.{le-leb, lt-leb}
 use Rattle.model.specs.declared.Section.{Section}
 use Rattle.model.specs.Lists.{over}
 use Rattle.model.specs.Bytes.{signed}
-use Rattle.model.specs.Rules.{rejected, rejection, answer, Check, passed, _unless_, check, _then_, _gives_, leaves}
-use Rattle.model.specs.Corner.{inEntry, numberAt, entryStart, entrySize, readable, isCorner, cornerCheck, cornerNumber, cornerAnswer}
+use Rattle.model.specs.Rules.{rejected, rejection, answer, Check, _unless_, check, _then_, _gives_, leaves}
+use Rattle.model.specs.Corner.{inEntry, numberAt, entryStart, entrySize, readable, cornerNumber}
 use Rattle.model.specs.ReadList.{valuesFrom}
 use Rattle.model.specs.ElementCorners.{elementCornersCheck, elementCornersAnswer, elementCornersMemory}
 use Rattle.corners.specs.declared.spans.Span.{Span}
 use Rattle.corners.specs.declared.spans.Span.the-variants as Span
 use Rattle.corners.specs.Spans.{provided, spanOf, cornersIn, cornersInMemory}
-use Rattle.model.proofs.Passed.{check-pass, gives-check, gives-value}
-use Rattle.corners.proofs.Written.{values-shift, values-in-front}
+use Rattle.model.proofs.Written.{values-shift}
 
 leaves-gives : {A B : Type 0} (c : Check) (a : A) (out new : List B) → leaves (c gives a) out new ≡ leaves c out new
 unfolding leaves _gives_ _then_
@@ -100,23 +99,3 @@ module _ (b : List ℕ) (e : Section) (element : ℕ) (out : List ℤ) where
           rw (check-in, in-range start end q .2)
           (leaves-gives _ (end - start) out _
           ∙ ap (λ v. leaves (check 0 (46 unless leb (end - start) (length out) ∷ [])) out (over out v)) (values-shift _ (cornerNumber b e (element - e .first)) (end - start) 0 1 (λ m l. number-in m)))
-
--- where the check passes the element is in the range and can be read
-can-read : (b : List ℕ) (e : Section) (element room : ℕ) → elementCornersCheck b e element room ≡ passed
-    → (inEntry e element ≡ true) × (readable b e (element - e .first) ≡ true)
-unfolding elementCornersCheck
-can-read b e element room q = let h = check-pass 0 _ q in (h .0, h .1 .0)
-
--- where the call answers, the c-th number in front is what the corner reader answers at corner c
-pub by-corner-reads : (b : List ℕ) (e : Section) (element : ℕ) (out : List ℤ) (n c : ℕ) → elementCornersAnswer b e element (length out) ≡ answer n → 1 ≤ c → c ≤ n
-    → cornerAnswer b e element c ≡ answer (getD (elementCornersMemory b e element out) (c - 1) (pos 0))
-unfolding elementCornersAnswer elementCornersMemory cornerAnswer cornerCheck check isCorner leaves _gives_ _then_
-by-corner-reads b e element out n c q l h =
-    let k = element - e .first in
-    let yes = gives-check (elementCornersCheck b e element (length out)) (entrySize b e k) q in
-    let size = gives-value (elementCornersCheck b e element (length out)) (entrySize b e k) q in
-    let r = can-read b e element (length out) yes in
-    let p : 1 + (c - 1) ≡ c = omega arith in
-    let m : c ≤ entrySize b e k = omega arith in
-    rw (yes, r .0, r .1, le-leb _ _ l, le-leb _ _ m)
-    (sym (ap answer (values-in-front (cornerNumber b e k) out (pos 0) (entrySize b e k) 1 (c - 1) (omega arith) ∙ ap (cornerNumber b e k) p)))

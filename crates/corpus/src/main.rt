@@ -1,6 +1,7 @@
 // Answers calls on images, both from standard input: a line a call, in the independent program's words.
 // The input is 64-bit words: of each image its length and the number of calls, then its bytes, then twelve words a call.
 
+mod lists;
 mod print;
 
 use model::Section;
@@ -62,12 +63,12 @@ fn entries_on(image: &[u8], zone: u64, out: &mut [u64], n: usize) {
     );
 }
 
-// The first n numbers of a buffer.
-fn numbers(out: &[u64], n: usize) {
+// The first n numbers of a buffer, after a word.
+fn numbers(word: &[u8], out: &[u64], n: usize) {
     if out.len() < n {
         return;
     }
-    print::numbers(&out[..n]);
+    print::numbers(word, &out[..n]);
 }
 
 // The section entries with room for so many, each number 170 before; the memory afterwards.
@@ -78,7 +79,7 @@ fn entries_into(image: &[u8], zone: u64, room: u64) {
     }
     let n = 9 * room as usize;
     entries_on(image, zone, &mut out, n);
-    numbers(&out, n);
+    numbers(b" room", &out, n);
 }
 
 // The entry that a call names.
@@ -94,6 +95,81 @@ fn entry(call: &[u8; 96]) -> Section {
         connectivity_width: word(call, 8),
         connectivity_length: word(call, 9),
     }
+}
+
+// The first n signed numbers of a buffer.
+fn signed_numbers(out: &[i64], n: usize) {
+    if out.len() < n {
+        return;
+    }
+    print::signed_numbers(&out[..n]);
+}
+
+// The reads that a call names, three words each.
+fn reads_of(call: &[u8; 96]) -> [u64; 9] {
+    let mut reads = [0u64; 9];
+    let mut k = 0;
+    while k < 9 {
+        reads[k] = word(call, k + 3);
+        k += 1;
+    }
+    reads
+}
+
+// The reads of a list with the first n places of two buffers lent.
+fn reads_on(
+    image: &[u8],
+    entries: &[u64],
+    reads: &[u64],
+    out: &mut [i64],
+    rules: &mut [u64],
+    n: usize,
+) {
+    if out.len() < n {
+        return;
+    }
+    if rules.len() < n {
+        return;
+    }
+    print::count(
+        reads::corner_reads(image, entries, reads, &mut out[..n], &mut rules[..n]),
+        b"reads ",
+    );
+}
+
+// The reads of a list with entries, and with room for so many answers, each number 170 before; the memory afterwards.
+fn reads_with(image: &[u8], entries: &[u64], reads: &[u64], n: usize) {
+    let mut out = [170i64; 8];
+    let mut rules = [170u64; 8];
+    reads_on(image, entries, reads, &mut out, &mut rules, n);
+    signed_numbers(&out, n);
+    numbers(b" rules", &rules, n);
+}
+
+// The reads of a list with the entries of a zone, in a buffer whose numbers were 170 before.
+fn reads_into(image: &[u8], zone: u64, room: u64, call: &[u8; 96]) {
+    let mut entries = [170u64; 144];
+    let reads = reads_of(call);
+    sections::section_entries(image, zone, &mut entries);
+    reads_with(image, &entries, &reads, room as usize);
+}
+
+// All corners of an element with the first n numbers of a buffer lent.
+fn element_on(image: &[u8], section: Section, element: u64, out: &mut [i64], n: usize) {
+    if out.len() < n {
+        return;
+    }
+    print::count(
+        corners::element_corners(image, section, element, &mut out[..n]),
+        b"corners ",
+    );
+}
+
+// All corners of an element with room for so many, each number 170 before; the memory afterwards.
+fn element_into(image: &[u8], section: Section, element: u64, room: u64) {
+    let mut out = [170i64; 64];
+    element_on(image, section, element, &mut out, room as usize);
+    signed_numbers(&out, room as usize);
 }
 
 // Answers one call on an image, and says whether there was one.
@@ -130,6 +206,16 @@ fn one_call(image: &[u8]) -> bool {
     }
     if kind == 8 {
         usage_into(image, node, number);
+    }
+    if kind == 9 {
+        lists::list_into(image, node, number);
+    }
+    if kind == 10 {
+        reads_into(image, node, number, &call);
+    }
+    if kind == 11 {
+        let section = entry(&call);
+        element_into(image, section, word(&call, 10), word(&call, 11));
     }
     io::write_all(1, b"\n");
     true

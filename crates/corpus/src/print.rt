@@ -6,6 +6,7 @@ use model::Count;
 use model::DataSize;
 use model::FaceUsage;
 use model::Rejection;
+use model::Section;
 use model::Table;
 use model::Validation;
 
@@ -106,9 +107,9 @@ pub fn value(v: ArrayValue)
     }
 }
 
-// The numbers of lent memory, after `room`.
-pub fn numbers(out: &[u64]) {
-    io::write_all(1, b" room");
+// The numbers of lent memory, after a word.
+pub fn numbers(word: &[u8], out: &[u64]) {
+    io::write_all(1, word);
     each_number(out);
 }
 
@@ -116,6 +117,34 @@ fn each_number(out: &[u64]) {
     let mut k = 0;
     while k < out.len() {
         pair(b" ", out[k]);
+        k += 1;
+    }
+}
+
+// The nine numbers of an entry.
+pub fn section(s: Section) {
+    pair(b" ", s.node);
+    pair(b" ", s.element_type);
+    pair(b" ", s.first);
+    pair(b" ", s.last);
+    pair(b" ", s.offsets_at);
+    pair(b" ", s.offsets_width);
+    pair(b" ", s.connectivity_at);
+    pair(b" ", s.connectivity_width);
+    pair(b" ", s.connectivity_length);
+}
+
+// The signed numbers of lent memory, after `room`.
+pub fn signed_numbers(out: &[i64]) {
+    io::write_all(1, b" room");
+    each_signed(out);
+}
+
+fn each_signed(out: &[i64]) {
+    let mut k = 0;
+    while k < out.len() {
+        io::write_all(1, b" ");
+        signed(out[k]);
         k += 1;
     }
 }

@@ -1,76 +1,79 @@
--- Laws of answers as numbers: how many there are, and what is written where there is room or none.
-use Prim.Native.Nat.{ℕ, zero, suc, _+_, _≤_, _<_}
+-- Laws of answers in lent bytes: how many words there are, what is written where there is room or none, and the section in bytes.
+use Prim.Native.Nat.{ℕ, zero, suc, _+_, _*_, _≤_, _<_}
 use native.Mathlib.Omega.{arith}
-use mathlib.Core.Path.{_≡_, refl, _∙_, ap}
-use mathlib.Core.List.{List, [], _∷_, _++_}
-use lib.ListN.{length, drop, take}
-use lib.Seq.{sets, sets-eq}
+use mathlib.Core.Path.{_≡_, refl, sym, ap, _∙_}
+use mathlib.Core.List.{List}
+use lib.ListN.{length, getD, drop}
+use lib.Seq.{drop-drop}
 use borrow.Author.Tests.{le-leb, lt-leb}
 use Rattle.model.specs.Lists.{over}
-use Rattle.model.specs.Rules.{Answer, rejected, answer}
+use Rattle.model.specs.Bytes.{le, allBytes, numbers}
+use Rattle.model.specs.Rules.{Answer, rejected, answer, check, _then_, leaves}
 use Rattle.model.specs.Validation.{Counts}
+use Rattle.model.specs.DataSize.{Sizes}
 use Rattle.model.specs.ArrayValue.{Value, whole, single, double}
-use Rattle.validation.specs.Sizes.{Zeros}
-use Rattle.gongaurora.specs.Numbers.{validationNumbers, countNumbers, usageNumbers, valueNumbers, sizeNumbers}
-use Rattle.gongaurora.specs.Told.{told, roomed}
+use Rattle.model.specs.ReadList.{ruleOf}
+use Rattle.model.specs.Exports.{validationWords, countWords, usageWords, valueWords, sizeWords, wordsFit, exportRule, exportBytes, exportMemory}
 
--- a run of stores from the front on
-pub stored : {A : Type 0} (vs l : List A) → length vs ≤ length l → sets l 0 vs ≡ over l vs
-unfolding over
-stored vs l h = let e : 0 + length vs ≡ length vs = omega arith in sets-eq vs l 0 (omega arith) ∙ ap (λ k. vs ++ drop k l) e
+-- how many words an answer has
+pub validation-five : (a : Answer Counts) → length (validationWords a) ≡ 5
+unfolding validationWords
+validation-five (rejected r) = refl
+validation-five (answer c) = refl
 
-pub validation-six : (a : Answer Counts) → length (validationNumbers a) ≡ 6
-unfolding validationNumbers
-validation-six (rejected r) = refl
-validation-six (answer c) = refl
+pub count-two : (a : Answer ℕ) → length (countWords a) ≡ 2
+unfolding countWords
+count-two (rejected r) = refl
+count-two (answer n) = refl
 
-pub count-three : (a : Answer ℕ) → length (countNumbers a) ≡ 3
-unfolding countNumbers
-count-three (rejected r) = refl
-count-three (answer n) = refl
+pub usage-three : (a : Answer ℕ) → length (usageWords a) ≡ 3
+unfolding usageWords
+usage-three (rejected r) = refl
+usage-three (answer n) = refl
 
-pub usage-four : (a : Answer ℕ) → length (usageNumbers a) ≡ 4
-unfolding usageNumbers
-usage-four (rejected r) = refl
-usage-four (answer n) = refl
+pub value-three : (a : Answer Value) → length (valueWords a) ≡ 3
+unfolding valueWords
+value-three (rejected r) = refl
+value-three (answer (whole n)) = refl
+value-three (answer (single bits)) = refl
+value-three (answer (double bits)) = refl
 
-pub value-four : (a : Answer Value) → length (valueNumbers a) ≡ 4
-unfolding valueNumbers
-value-four (rejected r) = refl
-value-four (answer (whole n)) = refl
-value-four (answer (single bits)) = refl
-value-four (answer (double bits)) = refl
+pub size-five : (a : Answer Sizes) → length (sizeWords a) ≡ 5
+unfolding sizeWords
+size-five (rejected r) = refl
+size-five (answer s) = refl
 
-pub size-six : (a : Answer (List ℕ)) → length (sizeNumbers a) ≡ 6
-unfolding sizeNumbers
-size-six (rejected r) = refl
-size-six (answer sizes) = refl
+-- too few bytes: 46, and nothing is written
+module _ {A : Type 0} (n : ℕ) (out : List ℕ) (a : Answer A) (words : List ℕ) (e : length words ≡ n) where
+  pub short : length out < 8 * n → (46 ≡ exportRule n out a) × (out ≡ exportBytes out words)
+  unfolding exportRule exportBytes wordsFit check _then_ leaves ruleOf
+  short h = (rw (lt-leb (8 * n) (length out) h), rw (e, lt-leb (8 * n) (length out) h))
 
--- the sizes of a zone of 1 to 3 directions
-pub sizes-are : (n i j k : ℕ) → Zeros n j k → 0 ∷ 0 ∷ n ∷ i ∷ j ∷ k ∷ [] ≡ sizeNumbers (answer (take n (i ∷ j ∷ k ∷ [])))
-unfolding sizeNumbers
-sizes-are zero i j k z = absurd (let l = z .some in omega arith)
-sizes-are (suc zero) i j k z = rw (z .second (omega arith), z .third (omega arith)) refl
-sizes-are (suc (suc zero)) i j k z = rw (z .third (omega arith)) refl
-sizes-are (suc (suc (suc zero))) i j k z = refl
-sizes-are (suc (suc (suc (suc n)))) i j k z = absurd (let l = z .most in omega arith)
+  -- enough: the rule of the call, and its words
+  pub long : {r : ℕ} {told left : List ℕ} → 8 * n ≤ length out → r ≡ ruleOf a → told ≡ words → left ≡ over out (allBytes 8 told)
+      → (r ≡ exportRule n out a) × (left ≡ exportBytes out words)
+  unfolding exportRule exportBytes wordsFit check _then_ leaves
+  long h p q s =
+      let l = le-leb (8 * n) (length out) h in
+      (p ∙ rw l, s ∙ ap (λ (v : List ℕ). over out (allBytes 8 v)) q ∙ rw (e, l))
 
-module _ {n : ℕ} (out new : List ℕ) (e : length new ≡ n) where
-  -- no room
-  pub untold : length out < n → out ≡ told out new
-  unfolding told
-  untold h = simp (lt-leb (length new) (length out) (omega arith))
+module _ {B : Type 0} (n : ℕ) (out : List ℕ) (memory left : List B) where
+  pub memory-short : length out < 8 * n → memory ≡ exportMemory n out memory left
+  unfolding exportMemory wordsFit check leaves
+  memory-short h = rw (lt-leb (8 * n) (length out) h)
 
-  -- room, and the numbers in front
-  pub is-told : {left vs : List ℕ} → n ≤ length out → left ≡ over out vs → vs ≡ new → left ≡ told out new
-  unfolding told over
-  is-told h p q = p ∙ ap (over out) q ∙ simp (le-leb (length new) (length out) (omega arith))
+  pub memory-long : 8 * n ≤ length out → left ≡ exportMemory n out memory left
+  unfolding exportMemory wordsFit check leaves
+  memory-long h = rw (le-leb (8 * n) (length out) h)
 
-module _ (n : ℕ) (out memory left : List ℕ) where
-  pub no-room : length out < n → memory ≡ roomed n out memory left
-  unfolding roomed
-  no-room h = simp (lt-leb n (length out) h)
+-- number k of a row
+number-in : (w n : ℕ) (s : List ℕ) (k : ℕ) → k < n → getD (numbers w n s) k 0 ≡ le w (drop (w * k) s)
+unfolding numbers
+number-in w zero s k h = absurd (omega arith)
+number-in w (suc n) s zero h = let e : w * 0 ≡ 0 = omega arith in rw e
+number-in w (suc n) s (suc k) h =
+    let e : w * suc k ≡ w + w * k = omega arith in
+    number-in w n (drop w s) k (omega arith) ∙ rw (e, drop-drop (w * k) w s)
 
-  pub has-room : n ≤ length out → left ≡ roomed n out memory left
-  unfolding roomed
-  has-room h = simp (le-leb n (length out) h)
+pub word-in : (s : List ℕ) (k : ℕ) → k < 9 → le 8 (drop (8 * k) s) ≡ getD (numbers 8 9 s) k 0
+word-in s k h = sym (number-in 8 9 s k h)

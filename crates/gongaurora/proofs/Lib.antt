@@ -1,3 +1,2 @@
-pub mod Bits
-pub mod Corners
 pub mod Laws
+pub mod Readers

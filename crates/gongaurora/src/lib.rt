@@ -1,154 +1,199 @@
-// The C interface: each call on numbers and slices, with no `requires`. Where `answer` has no room for its numbers nothing is written at all.
+// The C interface: each call on numbers and slices, with no `requires`. An export answers the rule, 0 where there is none; the other numbers of its answer
+// are 64-bit words in lent bytes, little-endian. Where these are too short it answers 46 and writes nothing at all.
 ghost use mathlib.Core.Path.{_≡_};
-ghost use Prim.Native.Nat.{_/_};
+ghost use Prim.Native.Nat.{_/_, _≤_};
 ghost use lib.ListN.{length};
-ghost use Rattle.model.specs.ReadList.{ruleOf};
 ghost use Rattle.model.specs.Validation.{validation};
 ghost use Rattle.model.specs.Sections.{sectionsAnswer, sectionNumbersMemory};
 ghost use Rattle.model.specs.FaceUsage.{usageAnswer, usageMemory};
 ghost use Rattle.model.specs.Path.{pathAnswer, pathMemory};
 ghost use Rattle.model.specs.ArrayValue.{valueAnswer};
 ghost use Rattle.model.specs.DataSize.{dataSizeAnswer};
-ghost use Rattle.gongaurora.specs.Numbers.{validationNumbers, countNumbers, usageNumbers, valueNumbers, sizeNumbers};
-ghost use Rattle.gongaurora.specs.Told.{told, roomed, cornerTold, cornerMemory, cornersTold, cornersMemory, countOrRule};
+ghost use Rattle.model.specs.Exports.{validationWords, countWords, usageWords, valueWords, sizeWords, exportRule, exportBytes, exportMemory, sectionIn, CornerExport, ElementExport};
+use answers::count_told;
+use answers::put_answer;
+use answers::put_corner;
+use answers::put_size;
+use answers::size_told;
+use answers::usage_told;
+use answers::validation_told;
+use answers::value_told;
+use model::Section;
 
-mod numbers; // numbers.rt: answers as numbers
+// How many bytes each answer has.
+const VALIDATION_BYTES: usize = 40;
 
-use numbers::count_numbers;
-use numbers::count_or_rule;
-use numbers::put_corner;
-use numbers::put3;
-use numbers::put4;
-use numbers::put6;
-use numbers::size_numbers;
-use numbers::usage_numbers;
-use numbers::validation_numbers;
-use numbers::value_numbers;
+const SECTIONS_BYTES: usize = 16;
 
-// Whether the image meets every rule. The answer: rule (0 where accepted), node, nodes validated, nodes skipped, zones, sections.
+const USAGE_BYTES: usize = 24;
+
+const PATH_BYTES: usize = 16;
+
+const VALUE_BYTES: usize = 24;
+
+const SIZE_BYTES: usize = 40;
+
+// Whether the image meets every rule. The answer, five words: node, nodes validated, nodes skipped, zones, sections.
 #[no_mangle]
-pub extern "C" fn gongaurora_export_validate(image: &[u8], answer: &mut [u64])
-    ensures { λ _. ⌜ now (answer .exit) ≡ told (now (answer .entry)) (validationNumbers (validation (now (image .entry)))) ⌝ }
+pub extern "C" fn gongaurora_export_validate(image: &[u8], answer: &mut [u8]) -> u64
+    ensures { λ r. ⌜ r ≡ exportRule 5 (now (answer .entry)) (validation (now (image .entry))) ⌝ }
+    ensures { λ _. ⌜ now (answer .exit) ≡ exportBytes (now (answer .entry)) (validationWords (validation (now (image .entry)))) ⌝ }
 {
-    if answer.len() < 6 {
-        return;
+    if answer.len() < VALIDATION_BYTES {
+        return 46; // no verdict is made
     }
-    put6(answer, validation_numbers(validation::validate(image)));
+    put_answer(answer, validation_told(validation::validate(image)), 5)
 }
 
-// The number at an element's corner, of a section entry's nine numbers. Answers the rule, and 0 where the number was written in front of `number`.
-// Rule 46 where the entry has fewer than nine numbers or `number` has no room; a refusal leaves `number` as it was.
+// The section entry in the first 72 bytes.
+fn section_in(s: &[u8]) -> Section
+    requires { ⌜ 72 ≤ length (now s) ⌝ }
+    ensures { λ r. ⌜ r ≡ sectionIn (now (s .entry)) ⌝ }
+{
+    Section {
+        node: words::u64_at(s, 0),
+        element_type: words::u64_at(s, 8),
+        first: words::u64_at(s, 16),
+        last: words::u64_at(s, 24),
+        offsets_at: words::u64_at(s, 32),
+        offsets_width: words::u64_at(s, 40),
+        connectivity_at: words::u64_at(s, 48),
+        connectivity_width: words::u64_at(s, 56),
+        connectivity_length: words::u64_at(s, 64),
+    }
+}
+
+// The number at an element's corner, of the 72 bytes of a section entry: 8 bytes in front of `number` where the rule is 0; else they stay as they were.
+// Rule 46 where the section has fewer bytes or `number` has no room, then the reader's.
 #[no_mangle]
-pub extern "C" fn gongaurora_export_corner(
+pub extern "C" fn gongaurora_export_read_corner(
     image: &[u8],
-    section: &[u64],
+    section: &[u8],
     element: u64,
     corner: u64,
-    number: &mut [i64],
+    number: &mut [u8],
 ) -> u64
-    ensures { λ r. ⌜ r ≡ ruleOf (cornerTold (now (image .entry)) (now (section .entry)) element corner (now (number .entry))) ⌝ }
-    ensures { λ _. ⌜ now (number .exit) ≡ cornerMemory (cornerTold (now (image .entry)) (now (section .entry)) element corner (now (number .entry))) (now (number .entry)) ⌝ }
+    ensures { λ r. ⌜ CornerExport (now (image .entry)) (now (section .entry)) element corner (now (number .entry)) r (now (image .exit)) (now (section .exit)) (now (number .exit)) ⌝ }
 {
-    if section.len() < 9 {
+    if section.len() < 72 {
         return 46;
     }
-    if number.len() < 1 {
+    if number.len() < 8 {
         return 46;
     }
-    let c = corners::corner(image, corners::section_at(section, 0), element, corner);
-    put_corner(c, number)
+    put_corner(
+        corners::corner(image, section_in(section), element, corner),
+        number,
+    )
 }
 
-// All corners of an element in front of `out`, of a section entry's nine numbers. Answers their count; of a refusal the greatest number of 64 bits
-// less the rule. Rule 46 where the entry has fewer than nine numbers or `out` is too short; a refusal leaves `out` as it was.
+// All corners of an element in front of `out`, of the nine numbers of a section entry; their count, 0 of a refusal, in front of `count`.
+// Rule 46 where the section has fewer numbers or `count` has no room, and then nothing is written; then the reader's, which leave `out` as it was.
 #[no_mangle]
-pub extern "C" fn gongaurora_export_corners(
+pub extern "C" fn gongaurora_export_read_element(
     image: &[u8],
     section: &[u64],
     element: u64,
     out: &mut [i64],
+    count: &mut [u8],
 ) -> u64
-    ensures { λ r. ⌜ r ≡ countOrRule (cornersTold (now (image .entry)) (now (section .entry)) element (length (now (out .entry)))) ⌝ }
-    ensures { λ _. ⌜ now (out .exit) ≡ cornersMemory (now (image .entry)) (now (section .entry)) element (now (out .entry)) ⌝ }
+    ensures { λ r. ⌜ ElementExport (now (image .entry)) (now (section .entry)) element (now (out .entry)) (now (count .entry)) r (now (image .exit)) (now (section .exit)) (now (out .exit)) (now (count .exit)) ⌝ }
 {
     if section.len() < 9 {
-        return numbers::LARGEST - 46;
+        return 46;
     }
-    count_or_rule(corners::element_corners(image, corners::section_at(section, 0), element, out))
+    if count.len() < 8 {
+        return 46;
+    }
+    put_size(
+        corners::element_corners(image, Section::at(section, 0), element, out),
+        count,
+    )
 }
 
-// The section entries of a zone, nine numbers each, in front of `out`. The answer: rule, node, count of entries.
+// The section entries of a zone, nine numbers each, in front of `out`. The answer, two words: node, count of entries.
 #[no_mangle]
 pub extern "C" fn gongaurora_export_sections(
     image: &[u8],
     zone: u64,
     out: &mut [u64],
-    answer: &mut [u64],
-)
-    ensures { λ _. ⌜ now (answer .exit) ≡ told (now (answer .entry)) (countNumbers (sectionsAnswer (now (image .entry)) zone (length (now (out .entry)) / 9))) ⌝ }
-    ensures { λ _. ⌜ now (out .exit) ≡ roomed 3 (now (answer .entry)) (now (out .entry)) (sectionNumbersMemory (now (image .entry)) zone (now (out .entry))) ⌝ }
+    answer: &mut [u8],
+) -> u64
+    ensures { λ r. ⌜ r ≡ exportRule 2 (now (answer .entry)) (sectionsAnswer (now (image .entry)) zone (length (now (out .entry)) / 9)) ⌝ }
+    ensures { λ _. ⌜ now (answer .exit) ≡ exportBytes (now (answer .entry)) (countWords (sectionsAnswer (now (image .entry)) zone (length (now (out .entry)) / 9))) ⌝ }
+    ensures { λ _. ⌜ now (out .exit) ≡ exportMemory 2 (now (answer .entry)) (now (out .entry)) (sectionNumbersMemory (now (image .entry)) zone (now (out .entry))) ⌝ }
 {
-    if answer.len() < 3 {
-        return;
+    if answer.len() < SECTIONS_BYTES {
+        return 46;
     }
-    put3(
+    put_answer(
         answer,
-        count_numbers(sections::section_entries(image, zone, out)),
-    );
+        count_told(sections::section_entries(image, zone, out)),
+        2,
+    )
 }
 
-// The usage of a zone's faces, a byte each, in front of `out`. The answer: rule, node, element (of rule 45), count of faces.
+// The usage of a zone's faces, a byte each, in front of `out`. The answer, three words: node, element (of rule 45), count of faces.
 #[no_mangle]
 pub extern "C" fn gongaurora_export_face_usage(
     image: &[u8],
     zone: u64,
     out: &mut [u8],
-    answer: &mut [u64],
-)
-    ensures { λ _. ⌜ now (answer .exit) ≡ told (now (answer .entry)) (usageNumbers (usageAnswer (now (image .entry)) zone (length (now (out .entry))))) ⌝ }
-    ensures { λ _. ⌜ now (out .exit) ≡ roomed 4 (now (answer .entry)) (now (out .entry)) (usageMemory (now (image .entry)) zone (now (out .entry))) ⌝ }
+    answer: &mut [u8],
+) -> u64
+    ensures { λ r. ⌜ r ≡ exportRule 3 (now (answer .entry)) (usageAnswer (now (image .entry)) zone (length (now (out .entry)))) ⌝ }
+    ensures { λ _. ⌜ now (answer .exit) ≡ exportBytes (now (answer .entry)) (usageWords (usageAnswer (now (image .entry)) zone (length (now (out .entry))))) ⌝ }
+    ensures { λ _. ⌜ now (out .exit) ≡ exportMemory 3 (now (answer .entry)) (now (out .entry)) (usageMemory (now (image .entry)) zone (now (out .entry))) ⌝ }
 {
-    if answer.len() < 4 {
-        return;
+    if answer.len() < USAGE_BYTES {
+        return 46;
     }
-    put4(answer, usage_numbers(faces::face_usage(image, zone, out)));
+    put_answer(answer, usage_told(faces::face_usage(image, zone, out)), 3)
 }
 
-// The path of a node in front of `out`. The answer: rule, node, length.
+// The path of a node in front of `out`. The answer, two words: node, length.
 #[no_mangle]
 pub extern "C" fn gongaurora_export_path(
     image: &[u8],
     node: u64,
     out: &mut [u8],
-    answer: &mut [u64],
-)
-    ensures { λ _. ⌜ now (answer .exit) ≡ told (now (answer .entry)) (countNumbers (pathAnswer (now (image .entry)) node (length (now (out .entry))))) ⌝ }
-    ensures { λ _. ⌜ now (out .exit) ≡ roomed 3 (now (answer .entry)) (now (out .entry)) (pathMemory (now (image .entry)) node (now (out .entry))) ⌝ }
+    answer: &mut [u8],
+) -> u64
+    ensures { λ r. ⌜ r ≡ exportRule 2 (now (answer .entry)) (pathAnswer (now (image .entry)) node (length (now (out .entry)))) ⌝ }
+    ensures { λ _. ⌜ now (answer .exit) ≡ exportBytes (now (answer .entry)) (countWords (pathAnswer (now (image .entry)) node (length (now (out .entry))))) ⌝ }
+    ensures { λ _. ⌜ now (out .exit) ≡ exportMemory 2 (now (answer .entry)) (now (out .entry)) (pathMemory (now (image .entry)) node (now (out .entry))) ⌝ }
 {
-    if answer.len() < 3 {
-        return;
+    if answer.len() < PATH_BYTES {
+        return 46;
     }
-    put3(answer, count_numbers(paths::path(image, node, out)));
+    put_answer(answer, count_told(paths::path(image, node, out)), 2)
 }
 
-// Value k of a node's array, counted from 1. The answer: rule, node, kind (1 whole, 2 single, 3 double), bits (a whole number's at 64 bits).
+// Value k of a node's array, counted from 1. The answer, three words: node, kind (1 whole, 2 single, 3 double), bits (a whole number's at 64 bits).
 #[no_mangle]
-pub extern "C" fn gongaurora_export_array_value(image: &[u8], node: u64, k: u64, answer: &mut [u64])
-    ensures { λ _. ⌜ now (answer .exit) ≡ told (now (answer .entry)) (valueNumbers (valueAnswer (now (image .entry)) node k)) ⌝ }
+pub extern "C" fn gongaurora_export_array_value(
+    image: &[u8],
+    node: u64,
+    k: u64,
+    answer: &mut [u8],
+) -> u64
+    ensures { λ r. ⌜ r ≡ exportRule 3 (now (answer .entry)) (valueAnswer (now (image .entry)) node k) ⌝ }
+    ensures { λ _. ⌜ now (answer .exit) ≡ exportBytes (now (answer .entry)) (valueWords (valueAnswer (now (image .entry)) node k)) ⌝ }
 {
-    if answer.len() < 4 {
-        return;
+    if answer.len() < VALUE_BYTES {
+        return 46;
     }
-    put4(answer, value_numbers(values::array_value(image, node, k)));
+    put_answer(answer, value_told(values::array_value(image, node, k)), 3)
 }
 
-// The DataSize of an array. The answer: rule, node, directions, and the size in i, j and k, 0 where the zone lacks the direction.
+// The DataSize of an array. The answer, five words: node, directions, and the size in i, j and k, 0 where the zone lacks the direction.
 #[no_mangle]
-pub extern "C" fn gongaurora_export_data_size(image: &[u8], node: u64, answer: &mut [u64])
-    ensures { λ _. ⌜ now (answer .exit) ≡ told (now (answer .entry)) (sizeNumbers (dataSizeAnswer (now (image .entry)) node)) ⌝ }
+pub extern "C" fn gongaurora_export_data_size(image: &[u8], node: u64, answer: &mut [u8]) -> u64
+    ensures { λ r. ⌜ r ≡ exportRule 5 (now (answer .entry)) (dataSizeAnswer (now (image .entry)) node) ⌝ }
+    ensures { λ _. ⌜ now (answer .exit) ≡ exportBytes (now (answer .entry)) (sizeWords (dataSizeAnswer (now (image .entry)) node)) ⌝ }
 {
-    if answer.len() < 6 {
-        return;
+    if answer.len() < SIZE_BYTES {
+        return 46;
     }
-    put6(answer, size_numbers(validation::data_size(image, node)));
+    put_answer(answer, size_told(validation::data_size(image, node)), 5)
 }

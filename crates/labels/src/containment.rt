@@ -1,7 +1,7 @@
 // The placing table and the fixed names: the table's part of rule 20, and rules 21 and 22.
 ghost use mathlib.Core.Path.{_≡_};
 ghost use mathlib.Core.List.{[]};
-ghost use Prim.Native.Nat.{_+_, _*_, _≤_, _<_};
+ghost use Prim.Native.Nat.{_+_, _≤_, _<_};
 ghost use lib.ListN.{length, take, drop, getD};
 ghost use Rattle.model.specs.Lists.{among};
 ghost use Rattle.model.specs.Bytes.{spells};

@@ -1,8 +1,8 @@
 // Labels and containment: what a node is validated as, which node holds which, the fixed names, and the search for a child.
-pub mod containment; // containment.rt: the placing table, the fixed names, once only
+mod containment; // containment.rt: the placing table, the fixed names, once only
 pub mod roles; // roles.rt: the label's place among the known ones
-pub mod texts; // texts.rt: texts compared in place
-pub mod tree; // tree.rt: children, validated nodes, zones and sections
+mod texts; // texts.rt: texts compared in place
+mod tree; // tree.rt: children, validated nodes, zones and sections
 
 pub use containment::may_hold;
 pub use containment::named;
@@ -12,10 +12,8 @@ pub use texts::same_at;
 pub use texts::spells_at;
 pub use tree::child;
 pub use tree::child_before;
-pub use tree::is_child_as;
 pub use tree::is_zone;
 pub use tree::mark_ends;
 pub use tree::node_count;
 pub use tree::section_of;
 pub use tree::validated;
-pub use tree::validated_as;

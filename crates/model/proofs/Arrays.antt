@@ -4,7 +4,7 @@ use mathlib.Core.Path.{_≡_, sym, _∙_}
 use mathlib.Core.Bool.{true, false, not, _&&_, _||_}
 use mathlib.Core.List.{List, [], _∷_}
 use native.Mathlib.Omega.{arith}
-use native.Mathlib.Nat.{mul-comm, mul-le-mul-left}
+use native.Mathlib.Nat.{mul-comm, mul-le-mul-left, le-mul-of-pos-right}
 use lib.ListN.{length, getD}
 use lib.Dec.{eqb}
 use borrow.Author.Tests.{eqb-true, lt-ltb, le-leb}
@@ -75,6 +75,21 @@ module _ (b : List ℕ) (yes : tableCheck b ≡ passed) where
         let m = mul-le-mul-left (width (treeOf b) j) h in
         let fits : dataStart (treeOf b) j + width (treeOf b) j * n ≤ length b = omega (arith, l .whole, p .data-in, a .fill, start-is) in
         and-both (widthLawful (width (treeOf b) j)) _ (a .wide) (le-leb _ _ fits)
+
+    -- they are fewer than the image has bytes
+    pub indices-few : size (treeOf b) j ≤ 16777216
+    unfolding widthLawful
+    indices-few =
+        or-cases (eqb (width (treeOf b) j) 4) (eqb (width (treeOf b) j) 8) (a .wide)
+        (λ e. by-width 4 (omega arith) (eqb-true (width (treeOf b) j) 4 e))
+        (λ e. by-width 8 (omega arith) (eqb-true (width (treeOf b) j) 8 e))
+      where
+        by-width : (w : ℕ) → 1 ≤ w → width (treeOf b) j ≡ w → size (treeOf b) j ≤ 16777216
+        by-width w h e =
+            let l = table-laid b yes in
+            let p = node-placed b yes j (a .inside-table) in
+            let f : w * size (treeOf b) j ≡ node (treeOf b) j .dataSize = rw e at (a .fill) in
+            omega (arith, l .whole, l .short, p .data-in, f, le-mul-of-pos-right (size (treeOf b) j) h, mul-comm w (size (treeOf b) j))
 
     -- number k at the array's place is the one that the node stores
     pub indices-at : (k : ℕ) → k < size (treeOf b) j → numberAt b (dataStart (treeOf b) j) (width (treeOf b) j) k ≡ number (treeOf b) j k

@@ -4,12 +4,12 @@ use Prim.Native.String.{String}
 use mathlib.Core.Path.{_≡_, refl}
 use mathlib.Core.List.{List, [], _∷_}
 use lib.ListN.{length, replicate}
-use Rattle.model.specs.Bytes.{text, numbers}
+use Rattle.model.specs.Bytes.{allBytes, text, numbers}
 use Rattle.model.specs.Rules.{Answer, rejected, answer, rejection, repetition}
 use Rattle.model.specs.Validation.{Counts, validation}
-use Rattle.model.specs.DataSize.{dataSizeAnswer}
+use Rattle.model.specs.DataSize.{Sizes, dataSizeAnswer}
 use Rattle.model.specs.FaceUsage.{usageAnswer, usageMemory}
-use Rattle.model.specs.Build.{allBytes, minus, Plan, plan, image}
+use Rattle.model.specs.Build.{minus, Plan, plan, image}
 use Rattle.model.specs.Computed.{computed}
 
 infix 10 _refuses_at_ _accepts_ _starts_ _sizes_is_ _uses_leaving_ _repeats_
@@ -86,7 +86,7 @@ pub data Case : Type 0 where
   -- the section and the element of 45, the buffer's first four bytes then 0
   _repeats_ : List ℕ → Answer ℕ → Case
   -- the DataSize of a node
-  _sizes_is_ : List ℕ → ℕ → List ℕ → Case
+  _sizes_is_ : List ℕ → ℕ → Sizes → Case
 
 abbrev lent : List ℕ
 lent = replicate 6 9
@@ -134,7 +134,7 @@ cases =
     ∷ (withFaces (1 ∷ 2 ∷ 3 ∷ 3 ∷ []) repeats rejected (repetition 13 5))
     -- (m) 17 × 33 × 9 with a rind
     ∷ (layered accepts record { validated = 7; skipped = 0; zones = 1; sections = 0 })
-    ∷ (layered sizes 6 is (17 ∷ 33 ∷ 11 ∷ []))
+    ∷ (layered sizes 6 is record { directions = 3; i = 17; j = 33; k = 11 })
     ∷ []
 
 pub all-right : Right cases

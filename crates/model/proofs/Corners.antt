@@ -110,6 +110,11 @@ module _ {b : List ℕ} {z s : ℕ} (a : InZone b z s) where
   unfolding cornerAnswer cornerCheck check _gives_ _then_ inEntry entry
   answer-41 el c f = rw (not-between (firstElement (treeOf b) s) el (lastElement (treeOf b) s) f)
 
+  pub element-41 : (el room : ℕ) → ((firstElement (treeOf b) s ≤ el) × (el ≤ lastElement (treeOf b) s) → ⊥)
+      → elementCornersAnswer b (entry (treeOf b) s) el room ≡ rejected (rejection 41 0)
+  unfolding elementCornersAnswer elementCornersCheck check _gives_ _then_ inEntry entry
+  element-41 el room f = rw (not-between (firstElement (treeOf b) s) el (lastElement (treeOf b) s) f)
+
   module _ (el c : ℕ) (l : firstElement (treeOf b) s ≤ el) (m : el ≤ lastElement (treeOf b) s) where
     in-entry : inEntry (entry (treeOf b) s) el ≡ true
     unfolding inEntry entry

@@ -1,106 +1,74 @@
 -- Demand 3, proved. A read with the k-th entry is the corner reader's at the zone's k-th section, whose answer the image's rules decide; and a run of
 -- reads changes nothing, so each of its reads is one from the given state.
 use Prim.Native.Nat.{ℕ, _+_, _-_, _/_, _<_}
-use mathlib.Core.Path.{_≡_, sym, ap, _∙_}
+use mathlib.Core.Path.{_≡_, sym, _∙_}
 use mathlib.Core.Bool.{true}
-use mathlib.Core.List.{List, [], _∷_}
-use mathlib.Core.Logic.{_↔_, ⊎-elim}
+use mathlib.Core.List.{List}
+use mathlib.Core.Logic.{⊎-elim}
 use native.Mathlib.Omega.{arith}
 use lib.ListN.{length}
-use lib.Dec.{leb}
 use lib.IntN.{ℤ, natAbs}
-use Rattle.model.specs.declared.Rejection.{Rejection}
 use Rattle.model.specs.declared.Corner.{Corner}
 use Rattle.model.specs.Lists.{over}
-use Rattle.model.specs.Rules.{Answer, rejected, answer, rejection, passed, leaves, _unless_, check, _gives_}
+use Rattle.model.specs.Rules.{Answer, answer, passed, leaves}
 use Rattle.model.specs.Image.{Tree, treeOf}
 use Rattle.model.specs.Containment.{isZone}
-use Rattle.model.specs.Elements.{NFACE, elementType, firstElement, lastElement, elementStart, cornerReference, connectivityLength}
-use Rattle.model.specs.Validation.{Counts, validation, imageCheck}
+use Rattle.model.specs.Elements.{NFACE, elementType, firstElement, lastElement, elementStart, elementSize, cornerReference, connectivityLength}
+use Rattle.model.specs.Validation.{imageCheck}
 use Rattle.model.specs.Sections.{sectionNodes, entry, entries, sectionsCheck, sectionsAnswer, sectionNumbersMemory}
 use Rattle.model.specs.Corner.{cornerAnswer}
 use Rattle.model.specs.Answers.{cornerTells}
-use Rattle.model.specs.Reads.{sectionAt, readAnswer, ReadMade, IsRead}
-use Rattle.model.specs.ElementCorners.{elementCornersAnswer}
-use Rattle.model.specs.Demand3.{sectionCount, sectionNode, given, InSection, sizeIn, IsCornerOf, storedAt, NodeNumber, FaceNumber, ReadAnswers, ReadHolds, Listed, Claim3, Demand3, EntriesGiven}
+use Rattle.model.specs.Reads.{readAnswer, ReadMade, IsRead}
+use Rattle.model.specs.Demand3.{sectionCount, sectionNode, given, InSection, sizeIn, SizeExact, IsCornerOf, storedAt, NodeNumber, FaceNumber, ReadAnswers, ReadHolds, Listed, Claim3, Demand3, EntriesGiven}
 use Rattle.model.proofs.Logic.{inside-or-not}
-use Rattle.model.proofs.Passed.{refused, check-pass, then-first, then-second, gives-check, gives-value}
+use Rattle.model.proofs.Told.{Told, outside, lacking, stored, told-41, told-rule, told-no-other, told-value, told-stored}
+use Rattle.model.proofs.Passed.{check-pass, then-first, then-second, gives-check, gives-value}
 use Rattle.model.proofs.Runs.{read-leaves, run-exists, run-kept, ReadKept, all-of}
-use Rattle.model.proofs.ZoneEntries.{nodes-counted, section-at, section-listed, listed-once, entry-is, read-is, one-for-each}
+use Rattle.model.proofs.ZoneEntries.{nodes-counted, section-at, section-listed, listed-once, read-is, one-for-each}
 use Rattle.model.proofs.Accepted.{accepted}
-use Rattle.model.proofs.InZone.{InZone}
-use Rattle.model.proofs.Corners.{corner-inside, element-inside, answer-41, answer-42, answer-stored, element-answer}
+use Rattle.model.proofs.InZone.{InZone, span}
+use Rattle.model.proofs.Corners.{corner-inside, element-inside, answer-41, answer-42, answer-stored}
 use Rattle.model.proofs.NoneNegative.{not-one-negative}
 use Rattle.model.proofs.References.{one-section, HasFace, face-inside, node-inside, node-signed, face-signed}
 
--- the three answers of the reader at the zone's k-th section, and when each comes
-data Told (t : Tree) (z k el c : ℕ) (a : Answer ℤ) : Type 0 where
-  outside : (InSection t z k el → ⊥) → a ≡ rejected (rejection 41 0) → Told t z k el c a
-  no-corner : InSection t z k el → (IsCornerOf t z k el c → ⊥) → a ≡ rejected (rejection 42 0) → Told t z k el c a
-  stored : InSection t z k el → IsCornerOf t z k el c → a ≡ answer (storedAt t z k el c) → Told t z k el c a
+-- what the reader tells at the zone's k-th section
+abbrev pub CornerTold : Tree → ℕ → ℕ → ℕ → ℕ → Answer ℤ → Type 0
+CornerTold t z k el c a = Told (InSection t z k el) (IsCornerOf t z k el c) (IsCornerOf t z k el c → ⊥) 42 (storedAt t z k el c) a
 
-told : {b : List ℕ} {z k : ℕ} → InZone b z (sectionNode (treeOf b) z k) → (el c : ℕ)
-    → Told (treeOf b) z k el c (cornerAnswer b (entry (treeOf b) (sectionNode (treeOf b) z k)) el c)
-told {b} {z} {k} a el c =
+told : {b : List ℕ} {z : ℕ} (k : ℕ) → InZone b z (sectionNode (treeOf b) z k) → (el c : ℕ)
+    → CornerTold (treeOf b) z k el c (cornerAnswer b (entry (treeOf b) (sectionNode (treeOf b) z k)) el c)
+told {b} {z} k a el c =
     ⊎-elim
     (λ i.
-    ⊎-elim (λ j. stored i j (answer-stored a el c (i .0) (i .1) (j .0) (j .1))) (λ n. no-corner i n (answer-42 a el c (i .0) (i .1) n))
+    ⊎-elim (λ j. stored i j (answer-stored a el c (i .0) (i .1) (j .0) (j .1))) (λ n. lacking i n (answer-42 a el c (i .0) (i .1) n))
     (inside-or-not 1 c (sizeIn (treeOf b) z k el)))
     (λ n. outside n (answer-41 a el c n))
     (inside-or-not (firstElement (treeOf b) (sectionNode (treeOf b) z k)) el (lastElement (treeOf b) (sectionNode (treeOf b) z k)))
 
-two-rules : {A : Type 0} {a : Answer ℤ} → a ≡ rejected (rejection 41 0) → a ≡ rejected (rejection 42 0) → A
-two-rules p q =
-    let w : rejection 41 0 ≡ rejection 42 0 = cc in
-    let n : _≡_ {A = ℕ} 41 42 = ap (λ (r : Rejection). r .rule) w in
-    absurd (omega arith)
-
--- 41, 42 and no other refusal
-module _ {t : Tree} {z k el c : ℕ} {a : Answer ℤ} where
-  told-41 : Told t z k el c a → (a ≡ rejected (rejection 41 0)) ↔ (InSection t z k el → ⊥)
-  told-41 (outside n e) = (λ x. n, λ x. e)
-  told-41 (no-corner i n e) = (λ x. two-rules x e, λ x. absurd (x i))
-  told-41 (stored i j e) = (λ x. refused (sym x ∙ e), λ x. absurd (x i))
-
-  told-42 : Told t z k el c a → (a ≡ rejected (rejection 42 0)) ↔ (InSection t z k el × (IsCornerOf t z k el c → ⊥))
-  told-42 (outside n e) = (λ x. two-rules e x, λ x. absurd (n (x .0)))
-  told-42 (no-corner i n e) = (λ x. (i, n), λ x. e)
-  told-42 (stored i j e) = (λ x. refused (sym x ∙ e), λ x. absurd (x .1 j))
-
-  told-43 : Told t z k el c a → (why : Rejection) → a ≡ rejected why → why .rule ≡ 43 → ⊥
-  told-43 (outside n e) why x r = let q : _≡_ {A = ℕ} 41 43 = cc in omega arith
-  told-43 (no-corner i n e) why x r = let q : _≡_ {A = ℕ} 42 43 = cc in omega arith
-  told-43 (stored i j e) why x r = refused (sym x ∙ e)
-
-  told-number : Told t z k el c a → InSection t z k el → IsCornerOf t z k el c → a ≡ answer (storedAt t z k el c)
-  told-number (outside n e) i j = absurd (n i)
-  told-number (no-corner _ n e) i j = absurd (n j)
-  told-number (stored _ _ e) i j = e
-
-  -- a number is the one stored
-  told-stored : Told t z k el c a → (n : ℤ) → a ≡ answer n → InSection t z k el × IsCornerOf t z k el c × (n ≡ storedAt t z k el c)
-  told-stored (outside _ e) n x = refused (sym e ∙ x)
-  told-stored (no-corner i _ e) n x = refused (sym e ∙ x)
-  told-stored (stored i j e) n x = (i, j, cc)
-
 module _ (b : List ℕ) (ok : imageCheck b ≡ passed) (z : ℕ) (rest : List ℕ) where
-  in-zone : (k : ℕ) → k < sectionCount (treeOf b) z → InZone b z (sectionNode (treeOf b) z k)
+  pub in-zone : (k : ℕ) → k < sectionCount (treeOf b) z → InZone b z (sectionNode (treeOf b) z k)
   unfolding treeOf
   in-zone k h =
       let w = section-at (treeOf b) z k h in
       record { accepted = ok; listed = omega (arith, w .to); is-section = w .holds }
 
-  read-told : (k el c : ℕ) → k < sectionCount (treeOf b) z → (a : Answer ℤ) → a ≡ readAnswer b (given b z rest .entries) k el c → Told (treeOf b) z k el c a
-  read-told k el c h a e = rw (e, read-is b z rest k h el c) (told (in-zone k h) el c)
+  pub read-told : (k el c : ℕ) → k < sectionCount (treeOf b) z → (a : Answer ℤ) → a ≡ readAnswer b (given b z rest .entries) k el c → CornerTold (treeOf b) z k el c a
+  read-told k el c h a e = rw (e, read-is b z rest k h el c) (told k (in-zone k h) el c)
 
   step-told : (m : ReadMade) → IsRead m → m .found ≡ given b z rest → Listed b z rest (m .asked)
-      → Told (treeOf b) z (m .asked .which) (m .asked .element) (m .asked .corner) (cornerTells (m .answered))
+      → CornerTold (treeOf b) z (m .asked .which) (m .asked .element) (m .asked .corner) (cornerTells (m .answered))
   step-told m r e h = read-told (m .asked .which) (m .asked .element) (m .asked .corner) h (cornerTells (m .answered)) (rw e at (r .answers))
 
   corner-read : (k f c : ℕ) → k < sectionCount (treeOf b) z → InSection (treeOf b) z k f → IsCornerOf (treeOf b) z k f c
       → (m : ReadMade) → IsRead m → m .found ≡ given b z rest → m .asked ≡ record { which = k; element = f; corner = c }
       → (m .left ≡ given b z rest) × (cornerTells (m .answered) ≡ answer (storedAt (treeOf b) z k f c))
-  corner-read k f c h i j m r e q = (read-leaves m r ∙ e, told-number (rw q at (step-told m r e (rw q h))) i j)
+  corner-read k f c h i j m r e q = (read-leaves m r ∙ e, told-value (λ j n. n j) (rw q at (step-told m r e (rw q h))) i j)
+
+  size-exact : (k el : ℕ) → k < sectionCount (treeOf b) z → InSection (treeOf b) z k el → SizeExact (treeOf b) z k el
+  unfolding elementSize
+  size-exact k el h i =
+      let s = span (in-zone k h) _ (element-inside (in-zone k h) el (i .0) (i .1)) in
+      record { not-empty = omega (arith, s .starts-before); to-end = omega (arith, s .starts-before) }
 
   -- a face of the zone
   face : (f : ℕ) → HasFace b z f → FaceNumber b z rest f
@@ -117,6 +85,7 @@ module _ (b : List ℕ) (ok : imageCheck b ≡ passed) (z : ℕ) (rest : List �
             listed-once t z k (p .0) h (p .1)
             (one-section (in-zone k h) (g .in-zone) f (record { from = i .0; to = i .1 }) (g .has) ∙ sym (p .2));
         face-section = rw (p .2) (g .face-section);
+        has-corner = size-exact (p .0) f (p .1) has .not-empty;
         corners-read = λ c j m r e q. corner-read (p .0) f c (p .1) has j m r e q;
       }
 
@@ -141,15 +110,15 @@ module _ (b : List ℕ) (ok : imageCheck b ≡ passed) (z : ℕ) (rest : List �
     unfolding s cornerReference
     face-read y i j = rw (face-signed (in-zone k h) y _ (place-inside i j)) (face _ (face-inside (in-zone k h) y _ (place-inside i j)))
 
-  read-answers : isZone (treeOf b) z ≡ true → (k el c : ℕ) → k < sectionCount (treeOf b) z → (r : Corner)
-      → Told (treeOf b) z k el c (cornerTells r) → ReadAnswers b z rest k el c r
+  pub read-answers : isZone (treeOf b) z ≡ true → (k el c : ℕ) → k < sectionCount (treeOf b) z → (r : Corner)
+      → CornerTold (treeOf b) z k el c (cornerTells r) → ReadAnswers b z rest k el c r
   unfolding s
   read-answers zone k el c h r d =
       record {
-        meets-41 = told-41 d;
-        meets-42 = told-42 d;
-        never-43 = told-43 d;
-        number-stored = told-number d;
+        meets-41 = told-41 (λ q. omega arith) d;
+        meets-42 = told-rule (λ q. omega arith) (λ j n. n j) d;
+        never-43 = told-no-other 43 (λ q. omega arith) (λ q. omega arith) d;
+        number-stored = told-value (λ j n. n j) d;
         node-number = λ y n e. let w = told-stored d n e in rw (w .2) (node-read k el c h zone y (w .0) (w .1));
         face-number = λ y n e. let w = told-stored d n e in rw (w .2) (face-read k el c h y (w .0) (w .1));
       }
@@ -170,6 +139,7 @@ claim3 b ok z zone rest =
     record {
       one-for-each = one-for-each b z rest;
       none-negative = λ k h. not-one-negative (in-zone b ok z rest k h) zone;
+      sizes-exact = λ k h el. size-exact b ok z rest k el h;
       every-read = λ qs l ms end run. all-of (read-holds b ok z rest zone) (run-kept l run);
       some-run = run-exists (given b z rest);
     }
@@ -189,11 +159,3 @@ entries-given b z out e =
       list-is = rw yes′;
       claim = claim3 b (then-first (imageCheck b) _ yes′) z zone _;
     }
-
--- all corners of an element at once, with the k-th entry: an element of the section is refused with 46 alone, where the room is less than its size
-pub element-read : (b : List ℕ) (c : Counts) → validation b ≡ answer c → (z k : ℕ) → k < sectionCount (treeOf b) z → (rest : List ℕ) (element room : ℕ)
-    → InSection (treeOf b) z k element
-    → elementCornersAnswer b (sectionAt (given b z rest .entries) k) element room
-    ≡ (check 0 (46 unless leb (sizeIn (treeOf b) z k element) room ∷ []) gives sizeIn (treeOf b) z k element)
-element-read b c e z k h rest element room i =
-    rw (entry-is b z rest k h) (element-answer (in-zone b (accepted b e) z rest k h) element 1 (i .0) (i .1) room)

@@ -21,8 +21,15 @@ unfolding entries
 entries-length t [] = refl
 entries-length t (s ∷ ns) = ap suc (entries-length t ns)
 
+-- as structs
+pub struct-at : (t : Tree) (ns : List ℕ) (rest : List Section) (none : Section) (k : ℕ) → k < length ns → getD (entries t ns ++ rest) k none ≡ entry t (getD ns k 0)
+unfolding entries
+struct-at t [] rest none k h = absurd (omega arith)
+struct-at t (s ∷ ns) rest none zero h = refl
+struct-at t (s ∷ ns) rest none (suc k) h = struct-at t ns rest none k (omega arith)
+
 -- reading from an entry on
-section-from : (flat : List ℕ) (k : ℕ) → sectionAt flat k ≡ sectionAt (drop (9 * k) flat) 0
+pub section-from : (flat : List ℕ) (k : ℕ) → sectionAt flat k ≡ sectionAt (drop (9 * k) flat) 0
 unfolding sectionAt
 section-from flat k = simp (getD-drop, add-zero)
 

@@ -18,7 +18,14 @@ pub mod Corners
 pub mod References
 pub mod NoneNegative
 pub mod ZoneEntries
+pub mod LittleEndian
+pub mod Overlays
+pub mod Written
+pub mod ElementCorners
+pub mod Numbered
+pub mod Told
 pub mod Demand3
+pub mod Demand3Calls
 pub mod Staging
 pub mod Parents
 pub mod Known

@@ -151,3 +151,7 @@ sum-part f i n h =
     let s = sumBefore-step f i in
     let m : sumBefore f (i + 1) ≤ sumBefore f n = rw e at r in
     omega arith
+
+-- no more are counted than there are
+pub count-few : (p : ℕ → Bool) (k i : ℕ) → countFrom p k i ≤ k
+count-few p k i = let e = count-both p (λ j. not (p j)) k i (λ j. refl) in omega arith

@@ -46,7 +46,7 @@ module _ (t : Tree) (z : ℕ) where
 
 -- a read with the k-th entry is the corner reader's, with the entry of the k-th section
 module _ (b : List ℕ) (z : ℕ) (rest : List ℕ) (k : ℕ) (h : k < sectionCount (treeOf b) z) where
-  entry-listed : k < entriesIn (given b z rest .entries)
+  pub entry-listed : k < entriesIn (given b z rest .entries)
   entry-listed =
       let n : length (allNumbers (sectionEntries (treeOf b) z) ++ rest) ≡ 9 * sectionCount (treeOf b) z + length rest = rw length-append (rw (numbers-counted (treeOf b) z)) in
       omega arith

@@ -2,8 +2,6 @@
 use Prim.Native.Nat.{ℕ}
 use mathlib.Core.Path.{_≡_}
 use mathlib.Core.Bool.{true, false}
-use mathlib.Core.List.{List, [], _∷_}
-use lib.ListN.{take}
 use lib.IntN.{ℤ}
 use mir.Syntax.{w64}
 use mir.Val.{ofZ}
@@ -28,6 +26,7 @@ use Rattle.model.specs.declared.Rejection.{Rejection}
 use Rattle.model.specs.Rules.{Answer, rejected, answer, rejection, Check, passed}
 use Rattle.model.specs.Records.{TableCounts}
 use Rattle.model.specs.Validation.{Counts}
+use Rattle.model.specs.DataSize.{Sizes}
 use Rattle.model.specs.ArrayValue.{Value, whole, single, double}
 
 abbrev pub stageTells : Stage → Check
@@ -51,9 +50,8 @@ abbrev pub countTells : Count → Answer ℕ
 countTells (Count.Of n) = answer n
 countTells (Count.Rejected r) = rejected r
 
--- as many sizes as there are directions
-abbrev pub dataSizeTells : DataSize → Answer (List ℕ)
-dataSizeTells (DataSize.Sizes n i j k) = answer (take n (i ∷ j ∷ k ∷ []))
+abbrev pub dataSizeTells : DataSize → Answer Sizes
+dataSizeTells (DataSize.Sizes n i j k) = answer (record { directions = n; i = i; j = j; k = k })
 dataSizeTells (DataSize.Rejected r) = rejected r
 
 abbrev pub cornerTells : Corner → Answer ℤ

@@ -1,19 +1,10 @@
 -- An image from a description of its nodes, laid out as document 01 says. The worked cases are written with it.
-use Prim.Native.Nat.{ℕ, zero, suc, _+_, _*_, _-_, _/_, _%_}
+use Prim.Native.Nat.{ℕ, _+_, _*_, _-_}
 use Prim.Native.String.{String}
 use mathlib.Core.List.{List, [], _∷_, _++_}
 use lib.ListN.{length, take, replicate}
-use Rattle.model.specs.Bytes.{text}
+use Rattle.model.specs.Bytes.{leBytes, allBytes, text}
 use Rattle.model.specs.Image.{headerSize, recordSize}
-
--- x in w little-endian bytes, and a list of such
-abbrev pub leBytes : ℕ → ℕ → List ℕ
-leBytes zero x = []
-leBytes (suc w) x = x % 256 ∷ leBytes w (x / 256)
-
-abbrev pub allBytes : ℕ → List ℕ → List ℕ
-allBytes w [] = []
-allBytes w (x ∷ xs) = leBytes w x ++ allBytes w xs
 
 -- −x as the bits of an I4
 abbrev pub minus : ℕ → ℕ

@@ -1,9 +1,9 @@
 -- Numbers and texts in bytes. All numbers are little-endian.
-use Prim.Native.Nat.{ℕ, zero, suc, _+_, _*_, _-_, _^_}
+use Prim.Native.Nat.{ℕ, zero, suc, _+_, _*_, _-_, _/_, _%_, _^_}
 use Prim.Native.Char.{code}
 use Prim.Native.String.{String, [] as ending, _∷_ as _∷ᶜ_}
 use mathlib.Core.Bool.{Bool, true, false, cond, not, _&&_, _||_}
-use mathlib.Core.List.{List, [], _∷_}
+use mathlib.Core.List.{List, [], _∷_, _++_}
 use lib.ListN.{drop}
 use lib.Dec.{eqb, leb, ltb}
 use lib.IntN.{ℤ, pos, negsuc}
@@ -18,6 +18,15 @@ le (suc w) (x ∷ s) = x + 256 * le w s
 unfoldable pub numbers : ℕ → ℕ → List ℕ → List ℕ
 numbers w zero s = []
 numbers w (suc n) s = le w s ∷ numbers w n (drop w s)
+
+-- x in w bytes, and a list of such
+abbrev pub leBytes : ℕ → ℕ → List ℕ
+leBytes zero x = []
+leBytes (suc w) x = x % 256 ∷ leBytes w (x / 256)
+
+abbrev pub allBytes : ℕ → List ℕ → List ℕ
+allBytes w [] = []
+allBytes w (x ∷ xs) = leBytes w x ++ allBytes w xs
 
 -- A signed number of w bytes stays its bits x, two's complement; half the bit patterns are negative.
 unfoldable pub half : ℕ → ℕ

@@ -3,7 +3,7 @@ use Prim.Native.Nat.{ℕ}
 use mathlib.Core.List.{List}
 use Rattle.model.specs.Rules.{Answer}
 use Rattle.model.specs.Validation.{Counts}
-use Rattle.model.specs.Lists.{_⊃_, everyFrom, someFrom, countFrom, listFrom, seekFrom, sumBefore, among, row, over}
+use Rattle.model.specs.Lists.{_⊃_, everyFrom, someFrom, countFrom, listFrom, seekFrom, sumBefore, among, row, over, overAt}
 use Rattle.model.specs.Bytes.{le, numbers, half, negative, below, magnitude, signed, same, text, blank, spells, placeFrom}
 use Rattle.model.specs.Rules.{_then_, _gives_, _into_, check, checkFrom, leaves}
 use Rattle.model.specs.Image.{headerWord, form, totalLength, nodeCount, recordOffset, dimensionOffset, wordCount, dataOffset, dataLength, nodeOf, nodesOf, treeOf, node, name, label, parent, dimensions, stored, dataTypes, dataType, widths, width, number}
@@ -14,15 +14,16 @@ use Rattle.model.specs.Values.{typed, shaped, flat, reads, size, zoneTyp
 use Rattle.model.specs.Elements.{nodesPer, hasOffsets, taken, elementType, firstElement, lastElement, inRange, elementCount, startOffset, reference, connectivityLength, elementStart, elementSize, cornerReference, meets, overlap, overlaps, lengthsFit, startsAtZero, rises, allRise, endsAtLength, isNode, allNodes, faceSection, hasFace, faceOf, faceNumber, isFace, allFaces, elementRules}
 use Rattle.model.specs.Validation.{nodeRules, nodeCheckAt, nodeCheck, imageCheck, counts, validation}
 use Rattle.model.specs.Path.{trimmed, namesWithin, pathOf, pathCheck, pathAnswer, pathMemory}
-use Rattle.model.specs.DataSize.{isSizedArray, dataSizeAnswer}
+use Rattle.model.specs.DataSize.{isSizedArray, sizesOf, dataSizeAnswer}
 use Rattle.model.specs.Sections.{sectionNodes, dataStart, entry, entries, sectionEntries, entryNumbers, allNumbers, sectionsCheck, sectionsAnswer, sectionsMemory, sectionNumbersMemory}
 use Rattle.model.specs.Corner.{inEntry, widthLawful, inside, numberAt, entryStart, entrySize, startsBefore, readable, isCorner, cornerCheck, cornerNumber, cornerAnswer}
 use Rattle.model.specs.ArrayValue.{valueAt, valueCheck, valueAnswer}
 use Rattle.model.specs.FaceUsage.{facesIn, faceCount, facePlace, usePlace, useSign, endsAfter, elementHolding, unused, useEntry, useEntries, usesIn, useNodes, usage, usageCheck, usageAnswer, usageBytes, usageMemory, positiveUses, negativeUses, cellEntries}
 use Rattle.model.specs.Reads.{sectionAt, readAnswer}
-use Rattle.model.specs.ReadList.{requestAt, answerAt, ruleOf, numberOf, valuesFrom, roomForAnswers}
+use Rattle.model.specs.ReadList.{requestAt, answerAt, ruleOf, numberOf, valuesFrom, readsCheck}
 use Rattle.model.specs.ElementCorners.{elementCornersCheck, elementCornersAnswer, elementCornersMemory}
+use Rattle.model.specs.Exports.{validationWords, countWords, usageWords, valueWords, sizeWords, wordsFit, exportRule, exportBytes, exportMemory, sectionIn, readFits, cornerExported, numberBytes, elementExported, sizeWord}
 
 unfoldable pub computed : List ℕ → Answer Counts
-unfolding _⊃_ everyFrom someFrom countFrom listFrom seekFrom sumBefore among row over le numbers half negative below magnitude signed same text blank spells placeFrom _then_ _gives_ _into_ check checkFrom leaves headerWord form totalLength nodeCount recordOffset dimensionOffset wordCount dataOffset dataLength nodeOf nodesOf treeOf node name label parent dimensions stored dataTypes dataType widths width number lengthLawful nodeCountLawful laidOut headerRules headerCheck parentLawful deeperThan printable labelLawful nameLawful sibling namesake nameTaken link rankLawful wordsBefore wordsLawful product dataSizeLawful bytesBefore dataAtLawful recordRules recordCheckAt recordCheck nothingTrails trailingCheck tableCheck tableCounts tableAnswer knownLabels role containment mayHold validatedWithin validated skipped validatedAs isZone sectionOf fixedNames fixedName onceOnly isChild child found orMissing typed shaped flat reads size zoneTypeShape zoneTypeValue zoneTypeOf structured unstructured cellDimension indexDimension vertexSize cellSize boundarySize structuredSizes unstructuredSizes zoneValue baseValue rangeValue notNegative rindValue locationValue zoneAbove indexArray sectionArrayType arrayType typeLawful valueLawful conforming rangeOf offsetsOf connectivityOf placed named sameRole second baseChild complete cellCentred rindNumber dataSize dataSizesFrom dataSizes sizedArray sizesLawful sidsRules nodesPer hasOffsets taken elementType firstElement lastElement inRange elementCount startOffset reference connectivityLength elementStart elementSize cornerReference meets overlap overlaps lengthsFit startsAtZero rises allRise endsAtLength isNode allNodes faceSection hasFace faceOf faceNumber isFace allFaces elementRules nodeRules nodeCheckAt nodeCheck imageCheck counts validation trimmed namesWithin pathOf pathCheck pathAnswer pathMemory isSizedArray dataSizeAnswer sectionNodes dataStart entry entries sectionEntries entryNumbers allNumbers sectionsCheck sectionsAnswer sectionsMemory sectionNumbersMemory inEntry widthLawful inside numberAt entryStart entrySize startsBefore readable isCorner cornerCheck cornerNumber cornerAnswer valueAt valueCheck valueAnswer facesIn faceCount facePlace usePlace useSign endsAfter elementHolding unused useEntry useEntries usesIn useNodes usage usageCheck usageAnswer usageBytes usageMemory positiveUses negativeUses cellEntries sectionAt readAnswer requestAt answerAt ruleOf numberOf valuesFrom roomForAnswers elementCornersCheck elementCornersAnswer elementCornersMemory
+unfolding _⊃_ everyFrom someFrom countFrom listFrom seekFrom sumBefore among row over overAt le numbers half negative below magnitude signed same text blank spells placeFrom _then_ _gives_ _into_ check checkFrom leaves headerWord form totalLength nodeCount recordOffset dimensionOffset wordCount dataOffset dataLength nodeOf nodesOf treeOf node name label parent dimensions stored dataTypes dataType widths width number lengthLawful nodeCountLawful laidOut headerRules headerCheck parentLawful deeperThan printable labelLawful nameLawful sibling namesake nameTaken link rankLawful wordsBefore wordsLawful product dataSizeLawful bytesBefore dataAtLawful recordRules recordCheckAt recordCheck nothingTrails trailingCheck tableCheck tableCounts tableAnswer knownLabels role containment mayHold validatedWithin validated skipped validatedAs isZone sectionOf fixedNames fixedName onceOnly isChild child found orMissing typed shaped flat reads size zoneTypeShape zoneTypeValue zoneTypeOf structured unstructured cellDimension indexDimension vertexSize cellSize boundarySize structuredSizes unstructuredSizes zoneValue baseValue rangeValue notNegative rindValue locationValue zoneAbove indexArray sectionArrayType arrayType typeLawful valueLawful conforming rangeOf offsetsOf connectivityOf placed named sameRole second baseChild complete cellCentred rindNumber dataSize dataSizesFrom dataSizes sizedArray sizesLawful sidsRules nodesPer hasOffsets taken elementType firstElement lastElement inRange elementCount startOffset reference connectivityLength elementStart elementSize cornerReference meets overlap overlaps lengthsFit startsAtZero rises allRise endsAtLength isNode allNodes faceSection hasFace faceOf faceNumber isFace allFaces elementRules nodeRules nodeCheckAt nodeCheck imageCheck counts validation trimmed namesWithin pathOf pathCheck pathAnswer pathMemory isSizedArray sizesOf dataSizeAnswer sectionNodes dataStart entry entries sectionEntries entryNumbers allNumbers sectionsCheck sectionsAnswer sectionsMemory sectionNumbersMemory inEntry widthLawful inside numberAt entryStart entrySize startsBefore readable isCorner cornerCheck cornerNumber cornerAnswer valueAt valueCheck valueAnswer facesIn faceCount facePlace usePlace useSign endsAfter elementHolding unused useEntry useEntries usesIn useNodes usage usageCheck usageAnswer usageBytes usageMemory positiveUses negativeUses cellEntries sectionAt readAnswer requestAt answerAt ruleOf numberOf valuesFrom readsCheck elementCornersCheck elementCornersAnswer elementCornersMemory validationWords countWords usageWords valueWords sizeWords wordsFit exportRule exportBytes exportMemory sectionIn readFits cornerExported numberBytes elementExported sizeWord
 computed b = validation b

@@ -1,6 +1,6 @@
 -- Demand 3: what an acceptance buys. One claim about every list of corner reads with a zone's section entries.
 -- The image decides: the right sides speak of its nodes, by the definitions of the element rules, never of an entry's fields.
-use Prim.Native.Nat.{ℕ, _*_, _-_, _≤_, _<_}
+use Prim.Native.Nat.{ℕ, suc, _+_, _*_, _-_, _≤_, _<_}
 use mathlib.Core.Path.{_≡_}
 use mathlib.Core.Bool.{true}
 use mathlib.Core.List.{List, _++_}
@@ -15,7 +15,7 @@ use Rattle.model.specs.Rules.{rejected, answer, rejection}
 use Rattle.model.specs.Image.{Tree, treeOf, width}
 use Rattle.model.specs.Containment.{sectionOf, isZone}
 use Rattle.model.specs.Values.{vertexSize, rangeOf, offsetsOf, connectivityOf}
-use Rattle.model.specs.Elements.{NGON, NFACE, elementType, firstElement, lastElement, elementCount, startOffset, hasOffsets, elementSize, cornerReference}
+use Rattle.model.specs.Elements.{NGON, NFACE, elementType, firstElement, lastElement, elementCount, startOffset, hasOffsets, elementStart, elementSize, cornerReference}
 use Rattle.model.specs.Validation.{Counts, validation}
 use Rattle.model.specs.Sections.{entryLength, sectionNodes, entry, sectionEntries, allNumbers, sectionNumbersMemory}
 use Rattle.model.specs.Answers.{cornerTells}
@@ -32,7 +32,8 @@ sectionNode t z k = getD (sectionNodes t z) k 0
 abbrev pub given : List ℕ → ℕ → List ℕ → ReadState
 given b z rest = record { image = b; entries = allNumbers (sectionEntries (treeOf b) z) ++ rest }
 
--- of the zone's k-th section, as the image stores it: an element in its ElementRange, an element's size, a corner of it, the number stored there
+-- of the zone's k-th section, as the image stores it: an element in its ElementRange, an element's size, a corner of it, the number stored there. The size is
+-- end − start; in an accepted image an element starts before it ends (rule 31, and a fixed type has nodes), so the difference is exact (`SizeExact`).
 module _ (t : Tree) (z k : ℕ) where
   abbrev pub InSection : ℕ → Type 0
   InSection element = (firstElement t (sectionNode t z k) ≤ element) × (element ≤ lastElement t (sectionNode t z k))
@@ -47,6 +48,11 @@ module _ (t : Tree) (z k : ℕ) where
   storedAt element corner =
       signed (width t (connectivityOf t (sectionNode t z k)))
       (cornerReference t (sectionNode t z k) (element - firstElement t (sectionNode t z k)) corner)
+
+  pub record SizeExact (element : ℕ) : Type 0 where
+    pub not-empty : 1 ≤ sizeIn element
+    pub to-end : elementStart t (sectionNode t z k) (element - firstElement t (sectionNode t z k)) + sizeIn element
+        ≡ elementStart t (sectionNode t z k) (suc (element - firstElement t (sectionNode t z k)))
 
 -- "A node number so read lies from 1 to VertexSize."
 pub record NodeNumber (t : Tree) (z : ℕ) (n : ℤ) : Type 0 where
@@ -86,6 +92,8 @@ module _ (b : List ℕ) (z : ℕ) (rest : List ℕ) where
     pub in-range : InSection (treeOf b) z which f
     pub no-other : (k : ℕ) → k < sectionCount (treeOf b) z → InSection (treeOf b) z k f → k ≡ which
     pub face-section : elementType (treeOf b) (sectionNode (treeOf b) z which) ≡ NGON
+    -- it has a corner (rule 31)
+    pub has-corner : 1 ≤ sizeIn (treeOf b) z which f
     -- a read of any of its corners finds the given state and leaves it for the next one, and answers the number stored there
     pub corners-read : (c : ℕ) → IsCornerOf (treeOf b) z which f c → (m : ReadMade) → IsRead m → m .found ≡ given b z rest
         → m .asked ≡ record { which = which; element = f; corner = c }
@@ -120,6 +128,7 @@ module _ (b : List ℕ) (z : ℕ) (rest : List ℕ) where
   pub record Claim3 : Type 0 where
     pub one-for-each : OneForEach
     pub none-negative : (k : ℕ) → k < sectionCount (treeOf b) z → NoneNegative (treeOf b) z (sectionNode (treeOf b) z k)
+    pub sizes-exact : (k : ℕ) → k < sectionCount (treeOf b) z → (element : ℕ) → InSection (treeOf b) z k element → SizeExact (treeOf b) z k element
     pub every-read : (qs : List Request) → AllOf Listed qs → (ms : List ReadMade) (end : ReadState) → ReadRun (given b z rest) qs ms end → AllOf ReadHolds ms
     -- the claim is not empty: every list of reads has a run
     pub some-run : (qs : List Request) → (ms : List ReadMade) × ReadRun (given b z rest) qs ms (given b z rest)

@@ -21,5 +21,7 @@ pub mod Reads
 pub mod Demand3
 pub mod ReadList
 pub mod ElementCorners
+pub mod Exports
+pub mod Demand3Calls
 pub mod Build
 pub mod Computed

@@ -2,7 +2,7 @@
 use Prim.Native.Nat.{ℕ, zero, suc, _+_}
 use mathlib.Core.Bool.{Bool, true, false, cond, _&&_, _||_}
 use mathlib.Core.List.{List, [], _∷_, _++_}
-use lib.ListN.{length, drop}
+use lib.ListN.{length, take, drop}
 use lib.Dec.{eqb}
 
 infixr 25 _⊃_
@@ -58,3 +58,7 @@ row key default ((k has v) ∷ rest) = let later = row key default rest in cond 
 -- a buffer with a list written in front, the rest as it was
 unfoldable pub over : {A : Type 0} → List A → List A → List A
 over out new = new ++ drop (length new) out
+
+-- the same from place k on
+unfoldable pub overAt : {A : Type 0} → ℕ → List A → List A → List A
+overAt k out new = take k out ++ over (drop k out) new

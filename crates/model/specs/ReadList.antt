@@ -1,14 +1,18 @@
 -- A list of corner reads into lent lists of answers: what demand 3 speaks of, as a call.
 use Prim.Native.Nat.{ℕ, zero, suc, _+_, _*_, _/_}
 use mathlib.Core.Path.{_≡_}
-use mathlib.Core.Bool.{Bool, cond, _&&_}
+use mathlib.Core.Bool.{cond, _&&_}
 use mathlib.Core.List.{List, [], _∷_}
 use lib.ListN.{length, getD}
-use lib.Dec.{leb}
+use lib.Dec.{eqb, leb}
 use lib.IntN.{ℤ, pos}
+use Rattle.model.specs.declared.Count.{Count}
+use Rattle.model.specs.declared.Corner.{Corner}
+use Rattle.model.specs.declared.Corner.the-variants as Corner
 use Rattle.model.specs.Lists.{over}
-use Rattle.model.specs.Rules.{Answer, rejected, answer}
-use Rattle.model.specs.Reads.{readAnswer, Request}
+use Rattle.model.specs.Rules.{_unless_, Answer, rejected, answer, rejection, Check, check, _gives_, leaves}
+use Rattle.model.specs.Answers.{countTells}
+use Rattle.model.specs.Reads.{readAnswer, ReadState, Request, ReadMade}
 
 -- three numbers ask a read: which entry, an element, a corner
 abbrev pub requestLength : ℕ
@@ -39,20 +43,37 @@ unfoldable pub numberOf : Answer ℤ → ℤ
 numberOf (rejected r) = pos 0
 numberOf (answer n) = n
 
+-- the answer that two such numbers tell
+abbrev pub cornerFrom : ℕ → ℤ → Corner
+cornerFrom rule number = cond (eqb rule 0) (Corner.Number number) (Corner.Rejected (rejection rule 0))
+
 -- the values of k numbers from i on
 unfoldable pub valuesFrom : {A : Type 0} → (ℕ → A) → ℕ → ℕ → List A
 valuesFrom f zero i = []
 valuesFrom f (suc k) i = let rest = valuesFrom f k (suc i) in f i ∷ rest
 
--- whether both lent lists have room for the answers
-unfoldable pub roomForAnswers : List ℕ → List ℤ → List ℕ → Bool
-roomForAnswers reads numbers rules = leb (requestsIn reads) (length numbers) && leb (requestsIn reads) (length rules)
+-- 46 unless both lent lists have room for the answers; then how many there are
+unfoldable pub readsCheck : List ℕ → ℕ → ℕ → Check
+readsCheck reads numbers rules = check 0 (46 unless (leb (requestsIn reads) numbers && leb (requestsIn reads) rules) ∷ [])
 
--- the runner's contract: what it finds, whether there was room, what it leaves. Answers stand in front, the rest is as it was; without room nothing is written.
-pub record ReadsAnswered (image entries reads : List ℕ) (numbers : List ℤ) (rules : List ℕ) (r : Bool)
+-- the runner's contract: what it finds, what it answers, what it leaves. Answers stand in front, the rest is as it was; a refusal writes nothing.
+pub record ReadsAnswered (image entries reads : List ℕ) (numbers : List ℤ) (rules : List ℕ) (r : Count)
     (image′ entries′ : List ℕ) (numbers′ : List ℤ) (rules′ : List ℕ) : Type 0 where
-  pub room : r ≡ roomForAnswers reads numbers rules
+  pub answers : countTells r ≡ (readsCheck reads (length numbers) (length rules) gives requestsIn reads)
   pub image-kept : image′ ≡ image
   pub entries-kept : entries′ ≡ entries
-  pub numbers-are : numbers′ ≡ cond r (over numbers (valuesFrom (λ i. numberOf (answerAt image entries reads i)) (requestsIn reads) 0)) numbers
-  pub rules-are : rules′ ≡ cond r (over rules (valuesFrom (λ i. ruleOf (answerAt image entries reads i)) (requestsIn reads) 0)) rules
+  pub numbers-are : numbers′
+      ≡ leaves (readsCheck reads (length numbers) (length rules)) numbers (over numbers (valuesFrom (λ i. numberOf (answerAt image entries reads i)) (requestsIn reads) 0))
+  pub rules-are : rules′
+      ≡ leaves (readsCheck reads (length numbers) (length rules)) rules (over rules (valuesFrom (λ i. ruleOf (answerAt image entries reads i)) (requestsIn reads) 0))
+
+-- The reads that the runner made, as its two lists of answers tell them: the i-th, from a state that stays, and all of them.
+abbrev pub madeAt : ReadState → List ℕ → List ℤ → List ℕ → ℕ → ReadMade
+madeAt s reads numbers rules i =
+    record { found = s; asked = requestAt reads i; answered = cornerFrom (getD rules i 0) (getD numbers i (pos 0)); left = s }
+
+abbrev pub requestsOf : List ℕ → List Request
+requestsOf reads = valuesFrom (requestAt reads) (requestsIn reads) 0
+
+abbrev pub madeOf : ReadState → List ℕ → List ℤ → List ℕ → List ReadMade
+madeOf s reads numbers rules = valuesFrom (madeAt s reads numbers rules) (requestsIn reads) 0

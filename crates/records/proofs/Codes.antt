@@ -104,14 +104,18 @@ pub place-end : (x k : ℕ) (ys : List ℕ) → length ys ≤ k → place (k + 1
 unfolding place
 place-end x k ys h = rw (drop-of-length-le ys {i = k} h)
 
--- two bytes by their number
+-- two bytes of a list, and the same by their number
+pub pair-from : (b : List ℕ) (p : ℕ) → p + 2 ≤ length b → take 2 (drop p b) ≡ getD b p 0 ∷ getD b (p + 1) 0 ∷ []
+pair-from b p h =
+    let s : drop p b ≡ getD b p 0 ∷ getD b (p + 1) 0 ∷ drop (suc (p + 1)) b = drop-cons b p 0 (omega arith) ∙ ap (λ (l : List ℕ). getD b p 0 ∷ l) (ap (λ (n : ℕ). drop n b) (sym (add-one p)) ∙ drop-cons b (p + 1) 0 (omega arith)) in
+    ap (take 2) s
+
 pub two-bytes : (b : List ℕ) (p x y : ℕ) → p + 2 ≤ length b → x ≡ getD b p 0 → x < 256 → y ≡ getD b (p + 1) 0
     → take 2 (drop p b) ≡ (x + 256 * y) % 256 ∷ (x + 256 * y) / 256 ∷ []
 two-bytes b p x y h e l f =
     let q : (x + 256 * y) % 256 ≡ x = omega arith in
     let r : (x + 256 * y) / 256 ≡ y = omega arith in
-    let s : drop p b ≡ getD b p 0 ∷ getD b (p + 1) 0 ∷ drop (suc (p + 1)) b = drop-cons b p 0 (omega arith) ∙ ap (λ (l : List ℕ). getD b p 0 ∷ l) (ap (λ (n : ℕ). drop n b) (sym (add-one p)) ∙ drop-cons b (p + 1) 0 (omega arith)) in
-    rw (q, r, e, f) (ap (take 2) s)
+    rw (q, r, e, f) (pair-from b p h)
 
 -- a bound of a list's numbers, and of each
 abbrev pub atMost : ℕ → List ℕ → Bool

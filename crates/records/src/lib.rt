@@ -1,12 +1,13 @@
 // The header, the node records, data types, dimension words and stored numbers, read from the image's bytes.
 ghost use mathlib.Core.Path.{_≡_};
-ghost use Prim.Native.Nat.{_+_, _*_, _≤_, _<_};
+ghost use Prim.Native.Nat.{_≤_, _<_};
 ghost use lib.ListN.{length};
 ghost use Rattle.model.specs.Image.{treeOf, nodeCount, recordAt, parent};
 ghost use Rattle.model.specs.Bounds.{Laid};
-ghost use Rattle.records.specs.Fields.{headerOf, recordOf};
+ghost use Rattle.records.specs.Fields.{headerOf, numbersOf, recordOf};
 
 mod data;
+mod fields;
 mod types;
 
 pub use data::data_start;
@@ -65,8 +66,37 @@ impl Header {
     }
 }
 
-// The numbers of a node record; its texts are read in place.
+// The numbers of a node record, for readers that leave its texts in place.
+pub struct RecordNumbers {
+    pub rank: u64,
+    pub first_word: u64,
+    pub parent: u64,
+    pub data_at: u64,
+    pub data_size: u64,
+}
+
+impl RecordNumbers {
+    // The numbers of node i.
+    pub fn read(image: &[u8], i: usize) -> RecordNumbers
+        requires { ⌜ Laid (now image) × (i < nodeCount (now image)) ⌝ }
+        ensures { λ r. ⌜ r ≡ numbersOf (treeOf (now (image .entry))) i ⌝ }
+    {
+        let p = Record::at(i);
+        RecordNumbers {
+            rank: words::u16_at(image, p + Record::RANK),
+            first_word: words::u32_at(image, p + Record::FIRST_WORD),
+            parent: words::u32_at(image, p + Record::PARENT),
+            data_at: words::u32_at(image, p + Record::DATA_AT),
+            data_size: words::u32_at(image, p + Record::DATA_SIZE),
+        }
+    }
+}
+
+// A node record: name, label and data type as their bytes, and its numbers.
 pub struct Record {
+    pub name: [u8; 32],
+    pub label: [u8; 32],
+    pub data_type: [u8; 2],
     pub rank: u64,
     pub first_word: u64,
     pub parent: u64,
@@ -103,18 +133,25 @@ impl Record {
         Header::SIZE + Record::SIZE * i
     }
 
-    // The numbers of node i.
+    // The record of node i.
     pub fn read(image: &[u8], i: usize) -> Record
         requires { ⌜ Laid (now image) × (i < nodeCount (now image)) ⌝ }
         ensures { λ r. ⌜ r ≡ recordOf (treeOf (now (image .entry))) i ⌝ }
     {
         let p = Record::at(i);
+        let name = fields::text_at(image, p + Record::NAME);
+        let label = fields::text_at(image, p + Record::LABEL);
+        let data_type = fields::pair_at(image, p + Record::DATA_TYPE);
+        let numbers = RecordNumbers::read(image, i);
         Record {
-            rank: words::u16_at(image, p + Record::RANK),
-            first_word: words::u32_at(image, p + Record::FIRST_WORD),
-            parent: words::u32_at(image, p + Record::PARENT),
-            data_at: words::u32_at(image, p + Record::DATA_AT),
-            data_size: words::u32_at(image, p + Record::DATA_SIZE),
+            name,
+            label,
+            data_type,
+            rank: numbers.rank,
+            first_word: numbers.first_word,
+            parent: numbers.parent,
+            data_at: numbers.data_at,
+            data_size: numbers.data_size,
         }
     }
 }

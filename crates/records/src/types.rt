@@ -1,7 +1,7 @@
 // Data types and their widths.
 ghost use mathlib.Core.Path.{_≡_};
 ghost use mathlib.Core.List.{[], _∷_};
-ghost use Prim.Native.Nat.{_+_, _*_, _≤_, _<_, _%_, _/_};
+ghost use Prim.Native.Nat.{_≤_, _<_, _%_, _/_};
 ghost use lib.ListN.{getD};
 ghost use Rattle.model.specs.Image.{treeOf, nodeCount, node, dataType, widths};
 ghost use Rattle.model.specs.Records.{link};

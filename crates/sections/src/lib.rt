@@ -5,8 +5,5 @@ mod listing; // listing.rt: the entries as structs
 mod numbers; // numbers.rt: the entries as flat numbers
 mod zones; // zones.rt: the sections of a zone, one after the other, and how many
 
-pub use entries::entry_of;
 pub use listing::list_sections;
 pub use numbers::section_entries;
-pub use zones::entry_after;
-pub use zones::section_count;

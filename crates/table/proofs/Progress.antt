@@ -8,8 +8,8 @@ use lib.Dec.{eqb, leb}
 use borrow.Author.Count.{below-more}
 use borrow.Author.Tests.{leb-true}
 use Rattle.records.specs.declared.Header.{Header}
-use Rattle.records.specs.declared.Record.{Record}
-use Rattle.records.specs.Fields.{headerOf, recordOf}
+use Rattle.records.specs.declared.RecordNumbers.{RecordNumbers}
+use Rattle.records.specs.Fields.{headerOf, numbersOf}
 use Rattle.model.specs.Lists.{sumBefore}
 use Rattle.model.specs.Rules.{Check, passed, rejected, rejection, check, checkFrom, _then_}
 use Rattle.model.specs.Image.{Tree, treeOf, nodeCount, node}
@@ -33,7 +33,7 @@ record-groups t i =
     ∙ ap (λ (c : Check). check i (placeRules t i) then c) (check-append i (textRules t i) (typeRules t i ++ sizeRules t i) ∙ ap (λ (c : Check). check i (textRules t i) then c) (check-append i (typeRules t i) (sizeRules t i)))
 
 -- rules 15 and 17 by the running sums
-module _ {b : List ℕ} {i w x : ℕ} (s : Sums b i w x) {h : Header} (e : h ≡ headerOf b) {r : Record} (f : r ≡ recordOf (treeOf b) i) where
+module _ {b : List ℕ} {i w x : ℕ} (s : Sums b i w x) {h : Header} (e : h ≡ headerOf b) {r : RecordNumbers} (f : r ≡ numbersOf (treeOf b) i) where
   pub words-by : (eqb (r .«first_word») w && leb (w + r .rank) (h .«word_count»)) ≡ wordsLawful (treeOf b) i
   unfolding wordsLawful treeOf
   words-by = rw (e, f, s .words-are)
@@ -70,7 +70,7 @@ unfolding recordCheckAt recordRules dataAtLawful
 bytes-more t i e =
     leb-true _ _ (and-second (eqb (node t i .dataAt) (bytesBefore t i)) _ (check-pass i (recordRules t i) e .1 .1 .1 .1 .1 .1 .1 .1 .1 .1 .0))
 
-sums-on : {b : List ℕ} {i w x : ℕ} → Sums b i w x → recordCheckAt (treeOf b) i ≡ passed → {r : Record} → r ≡ recordOf (treeOf b) i → Sums b (i + 1) (w + r .rank) (x + r .«data_size»)
+sums-on : {b : List ℕ} {i w x : ℕ} → Sums b i w x → recordCheckAt (treeOf b) i ≡ passed → {r : RecordNumbers} → r ≡ numbersOf (treeOf b) i → Sums b (i + 1) (w + r .rank) (x + r .«data_size»)
 unfolding wordsBefore bytesBefore treeOf
 sums-on {b} {i} s e f =
     let t = treeOf b in
@@ -87,7 +87,7 @@ module _ {b : List ℕ} {i w x : ℕ} (p : Progress b i w x) where
   pub progress-to : Laid b → i < nodeCount b → RecordsTo b i
   progress-to l h = record { laid = l; inside = h; before = p .before }
 
-  pub progress-on : i < nodeCount b → recordCheckAt (treeOf b) i ≡ passed → {r : Record} → r ≡ recordOf (treeOf b) i → Progress b (i + 1) (w + r .rank) (x + r .«data_size»)
+  pub progress-on : i < nodeCount b → recordCheckAt (treeOf b) i ≡ passed → {r : RecordNumbers} → r ≡ numbersOf (treeOf b) i → Progress b (i + 1) (w + r .rank) (x + r .«data_size»)
   progress-on h e f =
       record {
         le = omega arith;

@@ -1,6 +1,6 @@
 // Rules 1 to 6: the header.
 ghost use mathlib.Core.Path.{_≡_};
-ghost use Prim.Native.Nat.{_+_, _*_, _≤_, _<_};
+ghost use Prim.Native.Nat.{_≤_};
 ghost use lib.ListN.{length};
 ghost use Rattle.model.specs.Rules.{check};
 ghost use Rattle.model.specs.Header.{headerCheck};

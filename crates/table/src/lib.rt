@@ -1,6 +1,5 @@
 // The check of rules 1 to 18: header, node records, trailing words and bytes. It reads no data bytes.
 ghost use mathlib.Core.Path.{_≡_};
-ghost use Prim.Native.Nat.{_<_};
 ghost use Rattle.model.specs.Rules.{rejected, rejection};
 ghost use Rattle.model.specs.Records.{tableCheck, tableAnswer};
 ghost use Rattle.model.specs.Answers.{stageTells, tableTells};

@@ -8,7 +8,7 @@ ghost use Rattle.model.specs.Records.{dataSizeLawful};
 ghost use Rattle.model.specs.Bounds.{Laid};
 ghost use Rattle.table.specs.Groups.{isWithin};
 use super::is_within;
-use records::Record;
+use records::RecordNumbers;
 
 const MT_TYPE: u64 = 1;
 
@@ -54,7 +54,7 @@ pub fn data_size_lawful(image: &[u8], i: usize) -> bool
     requires { ⌜ node (treeOf (now image)) i .firstWord + node (treeOf (now image)) i .rank ≤ wordCount (now image) ⌝ }
     ensures { λ r. ⌜ r ≡ dataSizeLawful (treeOf (now (image .entry))) i ⌝ }
 {
-    let r = Record::read(image, i);
+    let r = RecordNumbers::read(image, i);
     let rank = r.rank as usize;
     let size = r.data_size;
     let mut m = records::width_of(records::data_type_of(image, i));

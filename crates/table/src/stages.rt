@@ -1,7 +1,7 @@
 // Rules 7 to 18, node by node, the lowest rule first.
 ghost use mathlib.Core.Path.{_≡_};
 ghost use mathlib.Core.Bool.{true, _&&_};
-ghost use Prim.Native.Nat.{_+_, _<_};
+ghost use Prim.Native.Nat.{_<_};
 ghost use lib.Dec.{eqb};
 ghost use Rattle.model.specs.Rules.{check, _then_};
 ghost use Rattle.model.specs.Image.{treeOf, nodeCount};
@@ -17,7 +17,7 @@ use super::sizes;
 use super::tree;
 use model::Stage;
 use records::Header;
-use records::Record;
+use records::RecordNumbers;
 
 // Rules 7 and 8 at node i.
 fn place_stage(image: &[u8], i: usize) -> Stage
@@ -56,7 +56,7 @@ fn type_stage(image: &[u8], i: usize) -> Stage
     requires { ⌜ Laid (now image) × (i < nodeCount (now image)) ⌝ }
     ensures { λ r. ⌜ stageTells r ≡ check i (typeRules (treeOf (now (image .entry))) i) ⌝ }
 {
-    let r = Record::read(image, i);
+    let r = RecordNumbers::read(image, i);
     let rank = r.rank;
     let data_type = records::data_type_of(image, i);
     if records::is_link(image, i) {
@@ -80,7 +80,7 @@ fn size_stage(image: &[u8], i: usize, words: u64, bytes: u64) -> Stage
     let h = Header::read(image);
     let dimensions = h.word_count;
     let area = h.data_length;
-    let r = Record::read(image, i);
+    let r = RecordNumbers::read(image, i);
     let first_word = r.first_word;
     let rank = r.rank;
     let data_at = r.data_at;
@@ -147,7 +147,7 @@ pub fn records_stage(image: &[u8]) -> Stage
         let Stage::Pass = s else {
             return s;
         };
-        let r = Record::read(image, i);
+        let r = RecordNumbers::read(image, i);
         words += r.rank;
         bytes += r.data_size;
         texts::add_key(&mut seen, key);

@@ -7,13 +7,9 @@ mod values;
 mod zones;
 
 pub use lawful::type_lawful;
-pub use shapes::flat;
 pub use shapes::shaped;
-pub use shapes::text_shape;
 pub use shapes::typed;
-pub use shapes::typed_either;
 pub use stored::location_value;
-pub use stored::reads;
 pub use stored::reads_if_found;
 pub use stored::zone_type_value;
 pub use values::MAX_NUMBER;

@@ -1,13 +1,13 @@
 // Data types and dimensions.
 ghost use mathlib.Core.Path.{_≡_};
 ghost use mathlib.Core.List.{[], _∷_};
-ghost use Prim.Native.Nat.{_+_, _≤_, _<_};
+ghost use Prim.Native.Nat.{_≤_, _<_};
 ghost use lib.ListN.{take};
 ghost use Rattle.model.specs.Image.{treeOf, nodeCount};
 ghost use Rattle.model.specs.Bounds.{Laid};
 ghost use Rattle.model.specs.Given.{Sound};
 ghost use Rattle.model.specs.Values.{typed, shaped, flat, zoneTypeShape};
-use records::Record;
+use records::RecordNumbers;
 
 pub const MT: u64 = 1;
 
@@ -43,7 +43,7 @@ pub fn flat(image: &[u8], i: usize) -> bool
     requires { ⌜ Laid (now image) × (i < nodeCount (now image)) ⌝ }
     ensures { λ r. ⌜ r ≡ flat (treeOf (now (image .entry))) i ⌝ }
 {
-    Record::read(image, i).rank == 1
+    RecordNumbers::read(image, i).rank == 1
 }
 
 // The dimensions of node i are the first n of these sizes.
@@ -52,7 +52,7 @@ pub fn shaped(image: &[u8], i: usize, n: usize, sizes: [u64; 3]) -> bool
     requires { ⌜ n ≤ 3 ⌝ }
     ensures { λ r. ⌜ r ≡ shaped (treeOf (now (image .entry))) i (take n sizes) ⌝ }
 {
-    if Record::read(image, i).rank != n as u64 {
+    if RecordNumbers::read(image, i).rank != n as u64 {
         return false;
     }
     let mut k = 0;

@@ -5,7 +5,7 @@ ghost use Prim.Native.Nat.{_≤_, _<_};
 ghost use Rattle.model.specs.Image.{treeOf, nodeCount};
 ghost use Rattle.model.specs.Given.{Sound};
 ghost use Rattle.model.specs.Values.{reads, locationValue, zoneTypeValue};
-use records::Record;
+use records::RecordNumbers;
 
 // The data of node i are this text.
 pub fn reads(image: &[u8], i: usize, text: &[u8]) -> bool
@@ -15,7 +15,7 @@ pub fn reads(image: &[u8], i: usize, text: &[u8]) -> bool
     labels::same_at(
         image,
         records::data_start(image, i),
-        Record::read(image, i).data_size as usize,
+        RecordNumbers::read(image, i).data_size as usize,
         text,
     )
 }

@@ -1,12 +1,12 @@
 -- Rules 20 to 26, then a section's own; and a count as a loop meets it.
-use Prim.Native.Nat.{ℕ, _+_, _-_, _≤_, _<_}
+use Prim.Native.Nat.{ℕ, zero, suc, _+_, _-_, _≤_, _<_}
 use mathlib.Core.Path.{_≡_, refl, sym, ap, _∙_}
 use mathlib.Core.Bool.{Bool, true, false, cond, _&&_}
-use mathlib.Core.List.{List, [], _∷_}
+use mathlib.Core.List.{List, []}
 use native.Mathlib.Omega.{arith}
 use native.Mathlib.Decide.{ℕ-discrete}
 use lib.Dec.{eqb, ltb}
-use borrow.Author.Tests.{ltb-true, le-ltb}
+use borrow.Author.Tests.{ltb-true}
 use lib.ListN.{getD, take}
 use Rattle.model.proofs.Logic.{and-first, and-second}
 use Rattle.model.proofs.Bounds.{sound}
@@ -17,10 +17,9 @@ use Rattle.model.specs.Rules.{Check, answer, rejected, rejection, _gives_, pass
 use Rattle.model.specs.Image.{Tree, treeOf, nodeCount, parent}
 use Rattle.model.specs.Containment.{role, Zone, Elements, validated, skipped, validatedAs}
 use Rattle.model.specs.Values.{sidsRules, sizedArray, dataSizes, dataSize, indexDimension}
-use Rattle.sids.specs.Sizes.{directions}
+use Rattle.sids.specs.Sizes.{direction, directions}
 use Rattle.sids.proofs.Zones.{data-sizes-are}
-use Rattle.validation.specs.Sizes.{Zeros}
-use Rattle.model.specs.DataSize.{isSizedArray, dataSizeAnswer}
+use Rattle.model.specs.DataSize.{isSizedArray, sizesOf, dataSizeAnswer}
 use Rattle.model.specs.Given.{Accepted}
 use Rattle.model.specs.Elements.{elementRules}
 use Rattle.model.specs.Validation.{nodeRules, nodeCheckAt, nodeCheck, imageCheck, counts}
@@ -110,7 +109,7 @@ module _ (b : List ℕ) (i : ℕ) where
   unfolding dataSizeAnswer _gives_ _then_ check
   no-array e f = rw (e, f)
 
-  pub array-told : imageCheck b ≡ passed → isSizedArray (treeOf b) i ≡ true → answer (dataSizes (treeOf b) (parent (treeOf b) i)) ≡ dataSizeAnswer b i
+  pub array-told : imageCheck b ≡ passed → isSizedArray (treeOf b) i ≡ true → answer (sizesOf (dataSizes (treeOf b) (parent (treeOf b) i))) ≡ dataSizeAnswer b i
   unfolding dataSizeAnswer _gives_ _then_ check
   array-told e f = rw (e, f)
 
@@ -124,10 +123,16 @@ module _ (b : List ℕ) (i : ℕ) where
       (ltb-true i (nodeCount b) (and-first (ltb i (nodeCount b)) _ f), (and-second (ltb i (nodeCount b)) _ f, and-second (ltb i (nodeCount b) && sizedArray (treeOf b) i) _ e))
 
 -- the numbers of the answer are DataSize in each direction; a direction that the zone lacks is 0
+by-directions : (f : ℕ → ℕ) (n : ℕ) → 1 ≤ n → n ≤ 3
+    → record { directions = n; i = direction f n 0; j = direction f n 1; k = direction f n 2 } ≡ sizesOf (take n (directions f n))
+unfolding sizesOf
+by-directions f zero l m = absurd (omega arith)
+by-directions f (suc zero) l m = refl
+by-directions f (suc (suc zero)) l m = refl
+by-directions f (suc (suc (suc zero))) l m = refl
+by-directions f (suc (suc (suc (suc n)))) l m = absurd (omega arith)
+
 pub sizes-told : (t : Tree) (p n : ℕ) (s : List ℕ) → n ≡ indexDimension t (parent t p) → 1 ≤ n → n ≤ 3 → s ≡ directions (dataSize t p) (indexDimension t (parent t p))
-    → (answer (take n (getD s 0 0 ∷ getD s 1 0 ∷ getD s 2 0 ∷ [])) ≡ answer (dataSizes t p)) × Zeros n (getD s 1 0) (getD s 2 0)
+    → answer (record { directions = n; i = getD s 0 0; j = getD s 1 0; k = getD s 2 0 }) ≡ answer (sizesOf (dataSizes t p))
 sizes-told t p n s e l m f =
-    rw (f, e) (
-      ap (λ x. answer x) (data-sizes-are t p (rw e at m)),
-      record { some = rw e at l; most = rw e at m; second = λ h. rw (le-ltb 1 (indexDimension t (parent t p)) h); third = λ h. rw (le-ltb 2 (indexDimension t (parent t p)) h) },
-    )
+    rw (f, e) (ap (λ x. answer x) (by-directions (dataSize t p) (indexDimension t (parent t p)) (rw e at l) (rw e at m) ∙ ap sizesOf (data-sizes-are t p (rw e at m))))

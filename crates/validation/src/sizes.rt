@@ -6,10 +6,9 @@ ghost use Rattle.model.specs.Rules.{answer};
 ghost use Rattle.model.specs.Image.{treeOf, nodeCount, parent};
 ghost use Rattle.model.specs.Containment.{validated};
 ghost use Rattle.model.specs.Values.{sizedArray, dataSizes};
-ghost use Rattle.model.specs.DataSize.{isSizedArray, dataSizeAnswer};
+ghost use Rattle.model.specs.DataSize.{isSizedArray, sizesOf, dataSizeAnswer};
 ghost use Rattle.model.specs.Given.{Sound, Accepted};
 ghost use Rattle.model.specs.Answers.{dataSizeTells};
-ghost use Rattle.validation.specs.Sizes.{Absent};
 use model::DataSize;
 use model::Rejection;
 use model::Stage;
@@ -34,7 +33,7 @@ fn is_sized_array(image: &[u8], node: u64) -> bool
 fn array_sizes(image: &[u8], i: usize) -> DataSize
     requires { ⌜ Accepted (now image) × (i < nodeCount (now image)) ⌝ }
     requires { ⌜ (sizedArray (treeOf (now image)) i ≡ true) × (validated (treeOf (now image)) i ≡ true) ⌝ }
-    ensures { λ r. ⌜ (dataSizeTells r ≡ answer (dataSizes (treeOf (now (image .entry))) (parent (treeOf (now (image .entry))) i))) × Absent r ⌝ }
+    ensures { λ r. ⌜ dataSizeTells r ≡ answer (sizesOf (dataSizes (treeOf (now (image .entry))) (parent (treeOf (now (image .entry))) i))) ⌝ }
 {
     let up = records::parent_of(image, i);
     let n = types::index_dimension(image, records::parent_of(image, up));
@@ -49,7 +48,7 @@ fn array_sizes(image: &[u8], i: usize) -> DataSize
 
 // The DataSize of a coordinate or flow array in each direction: validation's rejection, then 40. A direction that the zone lacks is 0.
 pub fn data_size(image: &[u8], node: u64) -> DataSize
-    ensures { λ r. ⌜ (dataSizeTells r ≡ dataSizeAnswer (now (image .entry)) node) × Absent r ⌝ }
+    ensures { λ r. ⌜ dataSizeTells r ≡ dataSizeAnswer (now (image .entry)) node ⌝ }
 {
     let s = crate::image_stage(image);
     let Stage::Pass = s else {

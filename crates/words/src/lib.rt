@@ -1,10 +1,11 @@
 // Little-endian words and two's-complement numbers at a place of a byte slice.
 ghost use mathlib.Core.Path.{_≡_};
-ghost use Prim.Native.Nat.{_+_, _*_, _^_, _≤_, _<_};
+ghost use Prim.Native.Nat.{_+_, _^_, _≤_, _<_};
 ghost use lib.Dec.{T};
 ghost use lib.IntN.{natAbs};
 ghost use lib.ListN.{length, getD, take, drop};
-ghost use Rattle.model.specs.Bytes.{le, half, signed, same};
+ghost use Rattle.model.specs.Lists.{overAt};
+ghost use Rattle.model.specs.Bytes.{le, leBytes, signed, same};
 ghost use Rattle.words.specs.Width.{isWidth, twos};
 
 // One byte, widened: its bound comes with it.
@@ -126,4 +127,30 @@ pub fn magnitude64(x: i64) -> u64
     ensures { λ r. ⌜ r ≡ natAbs x ⌝ }
 {
     if x < 0 { (-1 - x) as u64 + 1 } else { x as u64 }
+}
+
+// Writes x in `width` little-endian bytes from `at` on; the rest stays.
+pub fn put_word(out: &mut [u8], at: usize, width: usize, x: u64)
+    requires { ⌜ (width ≤ 8) × (at + width ≤ length (now out)) ⌝ }
+    ensures { λ _. ⌜ now (out .exit) ≡ overAt at (now (out .entry)) (leBytes width x) ⌝ }
+{
+    let mut k: usize = 0;
+    let mut rest = x;
+    while k < width {
+        out[at + k] = (rest % 256) as u8;
+        rest = rest / 256;
+        k += 1;
+    }
+}
+
+// Writes the bytes of s from `at` on; the rest stays.
+pub fn put_bytes(out: &mut [u8], at: usize, s: &[u8])
+    requires { ⌜ at + length (now s) ≤ length (now out) ⌝ }
+    ensures { λ _. ⌜ now (out .exit) ≡ overAt at (now (out .entry)) (now (s .entry)) ⌝ }
+{
+    let mut k: usize = 0;
+    while k < s.len() {
+        out[at + k] = s[k];
+        k += 1;
+    }
 }

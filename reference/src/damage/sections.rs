@@ -8,7 +8,7 @@ use crate::random::Random;
 use crate::sizes::MAX_NUMBER;
 use crate::text::padded;
 
-/// An element type that is not taken (rule 27).
+/// An element type that is not supported (rule 27).
 pub fn other_element_type(image: &mut Image, random: &mut Random) {
     if let Some(node) = section(image, random) {
         let types = [0, 1, 20, 20, 24, 25, 39, 56, 57, -1, -22, 278, 65_558, MAX_NUMBER, i64::from(i32::MIN)];

@@ -1,9 +1,14 @@
-//! One call of the library held against the reference: the answer, and all memory that was lent.
+//! One call of the library held against the reference: the rule, and all memory that was lent.
 
-use crate::expected;
+use std::fmt::Arguments;
+
+use crate::expected::{self, Told};
 use crate::guarded::{Arena, Guarded, Item};
 use crate::library::*;
 use crate::tally::Tally;
+
+/// The bytes of a section's nine numbers.
+pub const SECTION: usize = 72;
 
 /// An image that both are asked about.
 pub struct Comparison<'a> {
@@ -16,188 +21,184 @@ pub struct Comparison<'a> {
     pub tally: &'a mut Tally,
 }
 
+/// Writes an answer's words where there is room for them and answers the rule; 46 where there is not.
+fn tell<const N: usize>(answer: &mut [u8], told: impl FnOnce() -> Told<N>) -> u64 {
+    let Some(front) = answer.get_mut(..8 * N) else {
+        return 46;
+    };
+    let (rule, words) = told();
+    front.copy_from_slice(&words.map(u64::to_le_bytes).concat());
+    rule
+}
+
+/// The nine numbers in front of a section's bytes, if there are as many.
+fn nine(section: &[u8]) -> Option<[u64; 9]> {
+    let word = |k: usize| Some(u64::from_le_bytes(section.get(8 * k..8 * k + 8)?.try_into().ok()?));
+    let words: Option<Vec<u64>> = (0..9).map(word).collect();
+    words?.try_into().ok()
+}
+
 impl Comparison<'_> {
-    /// Makes a call with `out_room` items and `room` numbers of answer lent, and compares. `make` is given both pointers;
-    /// `expect` writes what is to be in `out` and answers the numbers. With less room than these nothing is written.
-    fn answered<T: Item, const N: usize>(
+    /// Makes a call with `out_room` items and `room` bytes of answer lent, and compares the rule and both buffers. `make` is
+    /// given both pointers; `expect` writes what is to be in the buffers and answers the rule. Bytes are lent at addresses of
+    /// every kind, odd ones too.
+    fn hold<T: Item>(
         &mut self,
-        call: usize,
+        call: Call,
+        arguments: Arguments,
         (out_room, room): (usize, usize),
-        arguments: std::fmt::Arguments,
-        make: impl FnOnce(*mut T, *mut u64),
-        expect: impl FnOnce(&mut [T]) -> [u64; N],
+        make: impl FnOnce(*mut T, *mut u8) -> u64,
+        expect: impl FnOnce(&mut [T], &mut [u8]) -> u64,
     ) {
-        let mut out = Guarded::<T>::new(out_room);
-        let mut answer = Guarded::<u64>::new(room);
+        let shift = self.tally.calls() as usize % 7;
+        let mut out = Guarded::<T>::new(out_room, shift);
+        let mut answer = Guarded::<u8>::new(room, shift);
         let (mut out_after, mut answer_after) = (out.items().to_vec(), answer.items().to_vec());
-        let mut rule = None;
-        if let Some(front) = answer_after.get_mut(..N) {
-            let told = expect(&mut out_after);
-            front.copy_from_slice(&told);
-            rule = Some(told[0]);
-        }
+        let rule = expect(&mut out_after, &mut answer_after);
         now_calling(call);
-        make(out.pointer(), answer.pointer());
+        let told = make(out.pointer(), answer.pointer());
         self.tally.call(call, rule);
+        let mut differs = |what: String| {
+            self.tally.difference(call, &format!("({arguments}; room {out_room}, {room}): {what}"));
+        };
+        if told != rule {
+            differs(format!("rule {told} not {rule}"));
+        }
         if !answer.guards_intact() || !out.guards_intact() {
-            let what = format!("({arguments}; room {out_room}, {room}): writes beside the memory it was lent");
-            self.tally.difference(call, &what);
+            differs("writes beside the memory it was lent".to_string());
         }
         if answer.items() != answer_after {
-            let what = format!("({arguments}; room {out_room}, {room}): {:?} not {answer_after:?}", answer.items());
-            self.tally.difference(call, &what);
+            differs(format!("answer {:?} not {answer_after:?}", answer.items()));
         }
         if let Some(k) = (0..out_room).find(|&k| out.items()[k] != out_after[k]) {
-            let (found, wanted) = (out.items()[k], out_after[k]);
-            let what = format!("({arguments}; room {out_room}, {room}): item {k} is {found:?} not {wanted:?}");
-            self.tally.difference(call, &what);
+            differs(format!("item {k} is {:?} not {:?}", out.items()[k], out_after[k]));
         }
     }
 
     pub fn validate(&mut self, room: usize) {
         let (image, lent) = (self.image, self.lent);
-        self.answered::<u8, 6>(
-            0,
-            (0, room),
+        self.hold::<u8>(
+            Call::Validate,
             format_args!(""),
+            (0, room),
             |_, answer| unsafe { gongaurora_export_validate(lent, image.len(), answer, room) },
-            |_| expected::validation(image),
+            |_, answer| tell(answer, || expected::validation(image)),
         );
     }
 
     pub fn sections(&mut self, zone: u64, numbers: usize, room: usize) {
         let (image, lent) = (self.image, self.lent);
-        self.answered(
-            1,
-            (numbers, room),
+        self.hold(
+            Call::Sections,
             format_args!("zone {zone}"),
+            (numbers, room),
             |out, answer| unsafe { gongaurora_export_sections(lent, image.len(), zone, out, numbers, answer, room) },
-            |out| expected::sections(image, zone, out),
+            |out, answer| tell(answer, || expected::sections(image, zone, out)),
         );
     }
 
     pub fn face_usage(&mut self, zone: u64, bytes: usize, room: usize) {
         let (image, lent) = (self.image, self.lent);
-        self.answered(
-            3,
-            (bytes, room),
+        self.hold(
+            Call::FaceUsage,
             format_args!("zone {zone}"),
+            (bytes, room),
             |out, answer| unsafe { gongaurora_export_face_usage(lent, image.len(), zone, out, bytes, answer, room) },
-            |out| expected::usage(image, zone, out),
+            |out, answer| tell(answer, || expected::usage(image, zone, out)),
         );
     }
 
     pub fn path(&mut self, node: u64, bytes: usize, room: usize) {
         let (image, lent) = (self.image, self.lent);
-        self.answered(
-            4,
-            (bytes, room),
+        self.hold(
+            Call::Path,
             format_args!("node {node}"),
+            (bytes, room),
             |out, answer| unsafe { gongaurora_export_path(lent, image.len(), node, out, bytes, answer, room) },
-            |out| expected::path(image, node, out),
+            |out, answer| tell(answer, || expected::path(image, node, out)),
         );
     }
 
     pub fn data_size(&mut self, node: u64, room: usize) {
         let (image, lent) = (self.image, self.lent);
-        self.answered::<u8, 6>(
-            5,
-            (0, room),
+        self.hold::<u8>(
+            Call::DataSize,
             format_args!("node {node}"),
+            (0, room),
             |_, answer| unsafe { gongaurora_export_data_size(lent, image.len(), node, answer, room) },
-            |_| expected::sizes(image, node),
+            |_, answer| tell(answer, || expected::sizes(image, node)),
         );
     }
 
     pub fn array_value(&mut self, node: u64, k: u64, room: usize) {
         let (image, lent) = (self.image, self.lent);
-        self.answered::<u8, 4>(
-            6,
-            (0, room),
+        self.hold::<u8>(
+            Call::ArrayValue,
             format_args!("node {node}, k {k}"),
+            (0, room),
             |_, answer| unsafe { gongaurora_export_array_value(lent, image.len(), node, k, answer, room) },
-            |_| expected::value(image, node, k),
+            |_, answer| tell(answer, || expected::value(image, node, k)),
         );
     }
 
-    /// A corner by any nine numbers, with `room` numbers lent.
-    pub fn corner(&mut self, section: &[u64; 9], element: u64, corner: u64, room: usize) {
-        let (rule, number) = expected::corner(self.image, section, element, corner);
-        let mut out = Guarded::<i64>::new(room);
-        let mut after = out.items().to_vec();
-        let told = self.call_corner(section, element, corner, &mut out);
-        self.tally.call(2, Some(rule));
-        if let (Some(number), Some(first)) = (number, after.first_mut()) {
-            *first = number;
-        }
-        // Without room for a number 0 may not be answered; which rule then comes is left open.
-        let rule_right = if room > 0 { told == rule } else { told != 0 };
-        if !rule_right || out.items() != after || !out.guards_intact() {
-            let intact = out.guards_intact();
-            let what = format!(
-                "({section:?}, element {element}, corner {corner}; room {room}): rule {told}, {:?} not {rule}, {after:?}; guards intact {intact}",
-                out.items(),
-            );
-            self.tally.difference(2, &what);
-        }
-    }
-
-    /// A corner by fewer than nine numbers: nothing is written and 0 is not answered.
-    pub fn corner_by_few(&mut self, section: &[u64], element: u64, corner: u64) {
-        let mut out = Guarded::<i64>::new(1);
-        let after = out.items().to_vec();
-        let told = self.call_corner(section, element, corner, &mut out);
-        self.tally.call(2, None);
-        if told == 0 || out.items() != after || !out.guards_intact() {
-            let what = format!("({section:?}, element {element}, corner {corner}): rule {told}, {:?}", out.items());
-            self.tally.difference(2, &what);
-        }
-    }
-
-    /// All corners of an element by a section's first numbers, with `room` numbers lent. With fewer than nine numbers 46 is
-    /// answered and nothing is written.
-    pub fn corners(&mut self, section: &[u64], element: u64, room: usize) {
+    /// One corner by a section's bytes, with `room` bytes lent for the number, which a refusal leaves as they were.
+    pub fn read_corner(&mut self, section: &[u8], element: u64, corner: u64, room: usize) {
         let (image, lent) = (self.image, self.lent);
-        let mut out = Guarded::<i64>::new(room);
-        let mut after = out.items().to_vec();
-        let answer = <&[u64; 9]>::try_from(section)
-            .map_or(Err(46), |section| expected::corners(image, section, element, &mut after));
-        let out_at = out.pointer();
-        let told = self.with_section(7, section, |numbers, nine| {
-            // SAFETY: the image and the section can be read, the buffer can be written; they do not overlap.
-            unsafe { gongaurora_export_corners(lent, image.len(), numbers, nine, element, out_at, room) }
-        });
-        self.tally.call(7, Some(answer.err().unwrap_or(0)));
-        let wanted = answer.unwrap_or_else(|rule| u64::MAX - rule);
-        if told != wanted || out.items() != after || !out.guards_intact() {
-            let intact = out.guards_intact();
-            let what = format!(
-                "({section:?}, element {element}; room {room}): {told}, {:?} not {wanted}, {after:?}; guards intact {intact}",
-                out.items(),
-            );
-            self.tally.difference(7, &what);
-        }
+        let (at, bytes) = (self.place_section(section), section.len());
+        self.hold::<u8>(
+            Call::ReadCorner,
+            format_args!("{:?} of {bytes} bytes, element {element}, corner {corner}", nine(section)),
+            (0, room),
+            |_, number| unsafe {
+                gongaurora_export_read_corner(lent, image.len(), at, bytes, element, corner, number, room)
+            },
+            |_, number| {
+                let (Some(section), Some(front)) = (nine(section), number.get_mut(..8)) else {
+                    return 46;
+                };
+                match expected::corner(image, &section, element, corner) {
+                    Ok(number) => {
+                        front.copy_from_slice(&number.to_le_bytes());
+                        0
+                    }
+                    Err(rule) => rule,
+                }
+            },
+        );
+        self.hold_section(Call::ReadCorner, section, at);
     }
 
-    fn call_corner(&mut self, section: &[u64], element: u64, corner: u64, out: &mut Guarded<i64>) -> u64 {
-        let (lent, length) = (self.lent, self.image.len());
-        self.with_section(2, section, |numbers, nine| {
-            // SAFETY: the image and the section can be read, the buffer can be written; they do not overlap.
-            unsafe { gongaurora_export_corner(lent, length, numbers, nine, element, corner, out.pointer(), out.room()) }
-        })
+    /// All corners of an element by a section's numbers, with `numbers` numbers lent for them.
+    pub fn read_element(&mut self, section: &[u64], element: u64, numbers: usize, room: usize) {
+        let (image, lent) = (self.image, self.lent);
+        let bytes: Vec<u8> = section.iter().flat_map(|number| number.to_le_bytes()).collect();
+        let (at, count) = (self.sections.place_before_end(&bytes, 0), section.len());
+        self.hold(
+            Call::ReadElement,
+            format_args!("{section:?}, element {element}"),
+            (numbers, room),
+            |out, answer| unsafe {
+                gongaurora_export_read_element(lent, image.len(), at.cast(), count, element, out, numbers, answer, room)
+            },
+            |out, answer| match nine(&bytes) {
+                Some(section) => tell(answer, || expected::element(image, &section, element, out)),
+                None => 46,
+            },
+        );
+        self.hold_section(Call::ReadElement, &bytes, at);
     }
 
-    /// The library's answer to a call, with the section's numbers at the end of their pages.
-    fn with_section(&mut self, call: usize, section: &[u64], make: impl FnOnce(*const u64, usize) -> u64) -> u64 {
-        let bytes: Vec<u8> = section.iter().flat_map(|number| number.to_ne_bytes()).collect();
-        let numbers = self.sections.place(&bytes, true).cast::<u64>();
-        now_calling(call);
-        let told = make(numbers, section.len());
-        // SAFETY: the numbers were put there above.
-        let kept = (0..section.len()).all(|k| unsafe { numbers.add(k).read() } == section[k]);
-        if !kept {
+    /// Puts a section's bytes at the end of their pages, or so near it that they begin at an odd address.
+    fn place_section(&mut self, section: &[u8]) -> *const u8 {
+        let gap = [0, 1, 0, 3, 0, 5, 0, 7, 4][self.tally.calls() as usize % 9];
+        self.sections.place_before_end(section, gap)
+    }
+
+    /// Whether a call left the section as it was.
+    fn hold_section(&mut self, call: Call, section: &[u8], at: *const u8) {
+        // SAFETY: the bytes were put there before the call.
+        if unsafe { std::slice::from_raw_parts(at, section.len()) } != section {
             self.tally.difference(call, "writes the section");
         }
-        told
     }
 }

@@ -30,34 +30,37 @@ impl Item for i64 {
 /// A buffer with guards on both sides.
 pub struct Guarded<T> {
     all: Vec<T>,
+    /// Items in front of the lent ones.
+    before: usize,
 }
 
 impl<T: Item> Guarded<T> {
-    /// A buffer of `room` items, filled.
-    pub fn new(room: usize) -> Guarded<T> {
-        Guarded { all: (0..room + 2 * GUARD).map(T::filling).collect() }
+    /// A buffer of `room` items, filled; `shift` items further from where the memory begins.
+    pub fn new(room: usize, shift: usize) -> Guarded<T> {
+        let before = GUARD + shift;
+        Guarded { all: (0..before + room + GUARD).map(T::filling).collect(), before }
     }
 
     /// How many items are lent.
     pub fn room(&self) -> usize {
-        self.all.len() - 2 * GUARD
+        self.all.len() - self.before - GUARD
     }
 
     /// Where they are.
     pub fn pointer(&mut self) -> *mut T {
-        self.all[GUARD..].as_mut_ptr()
+        self.all[self.before..].as_mut_ptr()
     }
 
     /// The items.
     pub fn items(&self) -> &[T] {
-        &self.all[GUARD..GUARD + self.room()]
+        &self.all[self.before..self.before + self.room()]
     }
 
     /// Whether no guard was written.
     pub fn guards_intact(&self) -> bool {
-        let end = GUARD + self.room();
+        let end = self.before + self.room();
         let held = |k: usize| self.all[k] == T::filling(k);
-        (0..GUARD).all(held) && (end..end + GUARD).all(held)
+        (0..self.before).all(held) && (end..end + GUARD).all(held)
     }
 }
 
@@ -96,13 +99,23 @@ impl Arena {
 
     /// Puts bytes at the arena's end or its beginning, so that a read past it or before it faults.
     pub fn place(&mut self, bytes: &[u8], at_end: bool) -> *const u8 {
-        let at = if at_end { self.first.wrapping_add(self.size - bytes.len()) } else { self.first };
+        self.put(bytes, if at_end { self.size - bytes.len() } else { 0 })
+    }
+
+    /// Puts bytes so many before the arena's end.
+    pub fn place_before_end(&mut self, bytes: &[u8], gap: usize) -> *const u8 {
+        self.put(bytes, self.size - bytes.len() - gap)
+    }
+
+    fn put(&mut self, bytes: &[u8], at: usize) -> *const u8 {
+        assert!(at + bytes.len() <= self.size);
+        let at = self.first.wrapping_add(at);
         // SAFETY: the bytes fit, and the pages can be written.
         unsafe { std::ptr::copy_nonoverlapping(bytes.as_ptr(), at, bytes.len()) };
         at
     }
 
-    /// The same, with writes faulting too until the next call.
+    /// The same as `place`, with writes faulting too until the next call.
     pub fn place_read_only(&mut self, bytes: &[u8], at_end: bool) -> *const u8 {
         self.allow(READ | WRITE);
         let at = self.place(bytes, at_end);

@@ -6,27 +6,27 @@ use std::sync::atomic::{AtomicBool, AtomicU64, AtomicUsize, Ordering::Relaxed};
 use crate::tally::Place;
 
 extern "C" {
-    pub fn gongaurora_export_validate(image: *const u8, length: usize, answer: *mut u64, room: usize);
+    pub fn gongaurora_export_validate(image: *const u8, length: usize, answer: *mut u8, room: usize) -> u64;
     pub fn gongaurora_export_sections(
         image: *const u8,
         length: usize,
         zone: u64,
         out: *mut u64,
         numbers: usize,
-        answer: *mut u64,
+        answer: *mut u8,
         room: usize,
-    );
-    pub fn gongaurora_export_corner(
+    ) -> u64;
+    pub fn gongaurora_export_read_corner(
         image: *const u8,
         length: usize,
-        section: *const u64,
-        nine: usize,
+        section: *const u8,
+        bytes: usize,
         element: u64,
         corner: u64,
-        number: *mut i64,
-        one: usize,
+        number: *mut u8,
+        room: usize,
     ) -> u64;
-    pub fn gongaurora_export_corners(
+    pub fn gongaurora_export_read_element(
         image: *const u8,
         length: usize,
         section: *const u64,
@@ -34,6 +34,8 @@ extern "C" {
         element: u64,
         out: *mut i64,
         numbers: usize,
+        answer: *mut u8,
+        room: usize,
     ) -> u64;
     pub fn gongaurora_export_face_usage(
         image: *const u8,
@@ -41,36 +43,50 @@ extern "C" {
         zone: u64,
         out: *mut u8,
         bytes: usize,
-        answer: *mut u64,
+        answer: *mut u8,
         room: usize,
-    );
+    ) -> u64;
     pub fn gongaurora_export_path(
         image: *const u8,
         length: usize,
         node: u64,
         out: *mut u8,
         bytes: usize,
-        answer: *mut u64,
+        answer: *mut u8,
         room: usize,
-    );
-    pub fn gongaurora_export_data_size(image: *const u8, length: usize, node: u64, answer: *mut u64, room: usize);
+    ) -> u64;
+    pub fn gongaurora_export_data_size(image: *const u8, length: usize, node: u64, answer: *mut u8, room: usize)
+        -> u64;
     pub fn gongaurora_export_array_value(
         image: *const u8,
         length: usize,
         node: u64,
         k: u64,
-        answer: *mut u64,
+        answer: *mut u8,
         room: usize,
-    );
+    ) -> u64;
 
     fn signal(number: i32, handler: extern "C" fn(i32)) -> usize;
     fn write(file: i32, bytes: *const u8, length: usize) -> isize;
     fn _exit(status: i32) -> !;
 }
 
-/// The calls, by the places that the fault handler knows them by.
+/// The calls.
+#[derive(Clone, Copy)]
+pub enum Call {
+    Validate,
+    Sections,
+    ReadCorner,
+    ReadElement,
+    FaceUsage,
+    Path,
+    DataSize,
+    ArrayValue,
+}
+
+/// Their names, in the same order.
 pub const CALLS: [&str; 8] =
-    ["validate", "sections", "corner", "face_usage", "path", "data_size", "array_value", "corners"];
+    ["validate", "sections", "read_corner", "read_element", "face_usage", "path", "data_size", "array_value"];
 
 static SEED: AtomicU64 = AtomicU64::new(0);
 static FIXED: AtomicBool = AtomicBool::new(false);
@@ -89,8 +105,8 @@ pub fn now_comparing(seed: u64, place: Place) {
 }
 
 /// Notes which call is made.
-pub fn now_calling(call: usize) {
-    CALL.store(call, Relaxed);
+pub fn now_calling(call: Call) {
+    CALL.store(call as usize, Relaxed);
 }
 
 /// Says where a fault came and ends the program with status 1.

@@ -73,7 +73,7 @@ struct Arenas {
 /// Compares all calls on an image and, now and then, some on a part of it.
 fn compare(bytes: &[u8], random: &mut Random, class: SizeClass, arenas: &mut Arenas, tally: &mut Tally) {
     let Arenas { images, sections } = arenas;
-    tally.image(bytes.len(), expected::validation(bytes)[0]);
+    tally.image(bytes.len(), expected::validation(bytes).0);
     let lent = place(images, bytes, random.one_in(2));
     ask(&mut Comparison { image: bytes, lent, sections, tally }, random, class);
     if random.one_in(4) {

@@ -8,7 +8,7 @@ use reference::table::Table;
 use reference::validation::validated_tree;
 use reference::{path, section_entries, Section};
 
-use crate::comparison::Comparison;
+use crate::comparison::{Comparison, SECTION};
 
 /// Asks everything about an image.
 pub fn ask(comparison: &mut Comparison, random: &mut Random, class: SizeClass) {
@@ -53,6 +53,11 @@ impl Limits {
     }
 }
 
+/// A section's numbers as bytes.
+fn bytes_of(section: &[u64; 9]) -> Vec<u8> {
+    section.map(u64::to_le_bytes).concat()
+}
+
 struct Asker<'a, 'b> {
     comparison: &'a mut Comparison<'b>,
     random: &'a mut Random,
@@ -60,13 +65,12 @@ struct Asker<'a, 'b> {
 }
 
 impl Asker<'_, '_> {
-    /// Room for an answer of `n` numbers: mostly exact, now and then more or less.
-    fn room(&mut self, n: usize) -> usize {
-        match self.random.below(8) {
-            0 => self.random.index(n),
-            1 => n + 1 + self.random.index(4),
-            _ => n,
-        }
+    /// Rooms for an answer of so many words, in bytes: one too short, mostly by one byte, and one that is enough, mostly exact.
+    fn answers(&mut self, words: usize) -> [usize; 2] {
+        let exact = 8 * words;
+        let less = if self.random.one_in(4) { self.random.index(exact) } else { exact - 1 };
+        let enough = if self.random.one_in(8) { exact + 1 + self.random.index(12) } else { exact };
+        [less, enough]
     }
 
     /// Rooms around a length: none, one too short, exact, longer.
@@ -75,7 +79,7 @@ impl Asker<'_, '_> {
     }
 
     fn validations(&mut self) {
-        for room in [6, self.random.index(6), 7 + self.random.index(4)] {
+        for room in self.answers(5) {
             self.comparison.validate(room);
         }
     }
@@ -97,8 +101,9 @@ impl Asker<'_, '_> {
         for node in self.nodes(count) {
             let length = path(self.comparison.image, node).map_or(3, |path| path.len());
             for bytes in self.rooms(length) {
-                let room = self.room(3);
-                self.comparison.path(node, bytes, room);
+                for room in self.answers(2) {
+                    self.comparison.path(node, bytes, room);
+                }
             }
             let known = table.as_ref().filter(|_| node < count);
             let values = known.map_or(1, |table| table.dimensions(node as usize).iter().product());
@@ -114,8 +119,9 @@ impl Asker<'_, '_> {
         asked.sort_unstable();
         asked.dedup();
         for k in asked {
-            let room = self.room(4);
-            self.comparison.array_value(node, k, room);
+            for room in self.answers(3) {
+                self.comparison.array_value(node, k, room);
+            }
         }
     }
 
@@ -148,31 +154,45 @@ impl Asker<'_, '_> {
 
     /// The calls that validate first, of a node that is likely no zone.
     fn about_image_node(&mut self, node: u64) {
-        let (six, three, four) = (self.room(6), self.room(3), self.room(4));
-        let numbers = self.random.index(40);
-        self.comparison.data_size(node, six);
-        self.comparison.sections(node, numbers, three);
-        self.comparison.face_usage(node, numbers, four);
+        self.data_size(node);
+        let items = self.random.index(40);
+        self.sections(node, items);
+        self.face_usage(node, items);
+    }
+
+    fn data_size(&mut self, node: u64) {
+        for room in self.answers(5) {
+            self.comparison.data_size(node, room);
+        }
+    }
+
+    fn sections(&mut self, zone: u64, numbers: usize) {
+        for room in self.answers(2) {
+            self.comparison.sections(zone, numbers, room);
+        }
+    }
+
+    fn face_usage(&mut self, zone: u64, bytes: usize) {
+        for room in self.answers(3) {
+            self.comparison.face_usage(zone, bytes, room);
+        }
     }
 
     /// A zone with buffers of several lengths; answers its sections.
     fn about_zone(&mut self, zone: u64) -> Vec<Section> {
         let entries = section_entries(self.comparison.image, zone).unwrap_or_default();
         for numbers in self.rooms(9 * entries.len()) {
-            let room = self.room(3);
-            self.comparison.sections(zone, numbers, room);
+            self.sections(zone, numbers);
         }
         let faces = entries.iter().filter(|e| e.element_type == 22).map(|e| e.last - e.first + 1).sum::<u64>();
         for bytes in self.rooms(faces as usize) {
-            let room = self.room(4);
-            self.comparison.face_usage(zone, bytes, room);
+            self.face_usage(zone, bytes);
         }
-        let room = self.room(6);
-        self.comparison.data_size(zone, room);
+        self.data_size(zone);
         entries
     }
 
-    /// Corners by sections of the image, and by the same with a number changed.
+    /// Corners by sections of the image, by the same with a number changed, and with too little lent.
     fn corners(&mut self, entries: &[Section]) {
         for entry in entries {
             let numbers = entry.numbers();
@@ -184,44 +204,68 @@ impl Asker<'_, '_> {
                 let inside = entry.first + self.random.below(entry.last - entry.first + 1);
                 let element = *self.random.pick(&[entry.first, entry.last, inside, other[2], other[3]]);
                 let corner = self.random.below(5);
-                self.comparison.corner(&other, element, corner, 1);
-                self.all_corners(&other, element);
+                self.corner(&other, element, corner);
+                self.element(&other, element);
                 let element = self.odd_number(element);
-                self.comparison.corner(&other, element, corner, 1);
-                self.all_corners(&other, element);
+                self.corner(&other, element, corner);
+                self.element(&other, element);
             }
-            let few = self.random.index(9);
-            self.comparison.corner_by_few(&numbers[..few], entry.first, 1);
-            self.comparison.corner(&numbers, entry.first, 1, 0);
-            self.comparison.corner(&numbers, entry.first, 1, 3);
-            self.comparison.corners(&numbers[..few], entry.first, 8);
+            self.short(&bytes_of(&numbers), entry.first);
+            self.short_numbers(&numbers, entry.first);
         }
     }
 
+    /// Reads with fewer or more bytes lent than the section or the number has.
+    fn short(&mut self, section: &[u8], element: u64) {
+        let few = self.random.index(SECTION);
+        let longer = [section, &[0x55; 9]].concat();
+        for section in [&section[..few], &section[..SECTION - 1], section, &longer[..SECTION + 1], &longer] {
+            for room in self.answers(1) {
+                self.comparison.read_corner(section, element, 1, room);
+            }
+        }
+    }
+
+    /// Reads of an element with fewer or more numbers lent than the section has, and with fewer bytes than the count has.
+    fn short_numbers(&mut self, section: &[u64; 9], element: u64) {
+        let few = self.random.index(9);
+        let longer = [&section[..], &[0x55; 2]].concat();
+        for section in [&section[..few], &section[..8], section, &longer[..10], &longer] {
+            for room in self.answers(1) {
+                self.comparison.read_element(section, element, 8, room);
+            }
+        }
+    }
+
+    /// One corner, with the room that it needs.
+    fn corner(&mut self, section: &[u64; 9], element: u64, corner: u64) {
+        self.comparison.read_corner(&bytes_of(section), element, corner, 8);
+    }
+
     /// All corners of an element: room for about as many as elements mostly have, or for all of any element asked about.
-    fn all_corners(&mut self, section: &[u64; 9], element: u64) {
-        let room = if self.random.one_in(4) { 40 } else { self.random.index(10) };
-        self.comparison.corners(section, element, room);
+    fn element(&mut self, section: &[u64; 9], element: u64) {
+        let numbers = if self.random.one_in(4) { 40 } else { self.random.index(10) };
+        self.comparison.read_element(section, element, numbers, 8);
     }
 
     /// Corners of a section: its ends, all elements where they are few, else some.
     fn corners_of(&mut self, entry: &Section, numbers: &[u64; 9]) {
         for element in [0, entry.first - 1, entry.last + 1, u64::MAX] {
-            self.comparison.corner(numbers, element, 1, 1);
-            self.all_corners(numbers, element);
+            self.corner(numbers, element, 1);
+            self.element(numbers, element);
         }
         for corner in [0, 28, 1 << 32, 1 << 62, u64::MAX] {
-            self.comparison.corner(numbers, entry.first, corner, 1);
-            self.comparison.corner(numbers, entry.last, corner, 1);
+            self.corner(numbers, entry.first, corner);
+            self.corner(numbers, entry.last, corner);
         }
         let count = entry.last - entry.first + 1;
         for k in 0..self.limits.reads.min(count) {
             let element = entry.first + if count <= self.limits.reads { k } else { self.random.below(count) };
             let greatest = if self.random.one_in(8) { 28 } else { 5 };
             for corner in 1..=greatest {
-                self.comparison.corner(numbers, element, corner, 1);
+                self.corner(numbers, element, corner);
             }
-            self.all_corners(numbers, element);
+            self.element(numbers, element);
         }
     }
 
@@ -262,8 +306,8 @@ impl Asker<'_, '_> {
             }
             let element = section[2].wrapping_add(self.random.below(3));
             let corner = self.random.below(4);
-            self.comparison.corner(&section, element, corner, 1);
-            self.all_corners(&section, element);
+            self.corner(&section, element, corner);
+            self.element(&section, element);
         }
     }
 }

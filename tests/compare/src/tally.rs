@@ -2,7 +2,7 @@
 
 use std::collections::BTreeMap;
 
-use crate::library::{self, CALLS};
+use crate::library::{self, Call, CALLS};
 
 /// How many differences are shown; all are counted.
 const SHOWN: u64 = 20;
@@ -49,20 +49,23 @@ impl Tally {
         *self.verdicts.entry(rule).or_default() += 1;
     }
 
-    /// Counts a call, and the rule of its answer where it has room to tell it.
-    pub fn call(&mut self, call: usize, rule: Option<u64>) {
-        self.calls[call] += 1;
-        if let Some(rule) = rule {
-            *self.answers.entry(rule).or_default() += 1;
-        }
+    /// Counts a call by the rule of its answer.
+    pub fn call(&mut self, call: Call, rule: u64) {
+        self.calls[call as usize] += 1;
+        *self.answers.entry(rule).or_default() += 1;
+    }
+
+    /// How many calls were made.
+    pub fn calls(&self) -> u64 {
+        self.calls.iter().sum()
     }
 
     /// Counts a difference and shows it.
-    pub fn difference(&mut self, call: usize, what: &str) {
+    pub fn difference(&mut self, call: Call, what: &str) {
         self.differences += 1;
         if self.differences <= SHOWN {
             let (seed, place) = (self.seed, self.place.unwrap_or(Place::Fixed(0)));
-            println!("difference: seed {seed} {place:?} {} {what}", CALLS[call]);
+            println!("difference: seed {seed} {place:?} {} {what}", CALLS[call as usize]);
         }
     }
 
@@ -75,7 +78,7 @@ impl Tally {
         let calls: Vec<String> = CALLS.iter().zip(self.calls).map(|(name, count)| format!("{name} {count}")).collect();
         println!("images {} ({} bytes)", self.images, self.bytes);
         println!("images by rule {}", pairs(&self.verdicts));
-        println!("calls {}: {}", self.calls.iter().sum::<u64>(), calls.join(", "));
+        println!("calls {}: {}", self.calls(), calls.join(", "));
         println!("calls by rule {}", pairs(&self.answers));
         println!("differences {}", self.differences);
     }

@@ -1,21 +1,28 @@
+use native.Mathlib.Omega.{arith}
 use mathlib.Core.Path.{ap, _∙_}
 use borrow.Author.Needs.{needs}
-use Rattle.gongaurora.specs.Numbers.{usageNumbers}
-use Rattle.gongaurora.proofs.Laws.{usage-four, untold, is-told, no-room, has-room}
+use lib.ListN.{length}
+use Rattle.model.specs.ReadList.{ruleOf}
+use Rattle.model.specs.Exports.{usageWords}
+use Rattle.gongaurora.proofs.Laws.{usage-three, short, long, memory-short, memory-long}
 use Rattle.gongaurora.proofs.gongaurora_export_face_usage.Statement.{statement}
 use Rattle.gongaurora.proofs.gongaurora_export_face_usage.Tie as tie
 
 returns : tie.Need-returns
-returns c = (untold _ _ (usage-four _) (c .if1 .taken), no-room _ _ _ _ (c .if1 .taken))
+returns c = let s = short 3 _ _ _ (usage-three _) (c .if1 .taken) in (s .0, (s .1, memory-short 3 _ _ _ (c .if1 .taken)))
+
+put-answer-requires : tie.Need-put-answer-requires
+put-answer-requires c κs = (ap length (c .usage-told .ensures .1) ∙ usage-three _, omega arith)
 
 returns-2 : tie.Need-returns-2
 returns-2 c =
     let d = c .before .before in
-    let numbers = d .before .usage-numbers in
-    let call = d .before .before .before .before .face-usage in
+    let words = d .before .usage-told .ensures in
+    let call = d .before .before .before .before .face-usage .ensures in
     let room = d .before .before .before .before .before .before .before .if1 .left in
-    (is-told _ _ (usage-four _) room (d .put4 .ensures) (numbers .ensures ∙ ap usageNumbers (call .ensures .0)), call .ensures .1 ∙ has-room _ _ _ _ room)
+    let told = long 3 _ _ _ (usage-three _) room (d .put-answer .ensures .0 ∙ words .0 ∙ ap ruleOf (call .0)) (words .1 ∙ ap usageWords (call .0)) (d .put-answer .ensures .1) in
+    (told .0, (told .1, call .1 ∙ memory-long 3 _ _ _ room))
 
 pub gongaurora-export-face-usage-spec : {M : Type 1} → statement M
 gongaurora-export-face-usage-spec =
-    tie.close (tie.spec returns (search needs) (search needs) (search needs) (search needs) (search needs) returns-2)
+    tie.close (tie.spec returns (search needs) (search needs) put-answer-requires (search needs) (search needs) returns-2)

@@ -1,21 +1,28 @@
+use native.Mathlib.Omega.{arith}
 use mathlib.Core.Path.{ap, _∙_}
 use borrow.Author.Needs.{needs}
-use Rattle.gongaurora.specs.Numbers.{countNumbers}
-use Rattle.gongaurora.proofs.Laws.{count-three, untold, is-told, no-room, has-room}
+use lib.ListN.{length}
+use Rattle.model.specs.ReadList.{ruleOf}
+use Rattle.model.specs.Exports.{countWords}
+use Rattle.gongaurora.proofs.Laws.{count-two, short, long, memory-short, memory-long}
 use Rattle.gongaurora.proofs.gongaurora_export_sections.Statement.{statement}
 use Rattle.gongaurora.proofs.gongaurora_export_sections.Tie as tie
 
 returns : tie.Need-returns
-returns c = (untold _ _ (count-three _) (c .if1 .taken), no-room _ _ _ _ (c .if1 .taken))
+returns c = let s = short 2 _ _ _ (count-two _) (c .if1 .taken) in (s .0, (s .1, memory-short 2 _ _ _ (c .if1 .taken)))
+
+put-answer-requires : tie.Need-put-answer-requires
+put-answer-requires c κs = (ap length (c .count-told .ensures .1) ∙ count-two _, omega arith)
 
 returns-2 : tie.Need-returns-2
 returns-2 c =
     let d = c .before .before in
-    let numbers = d .before .count-numbers in
-    let call = d .before .before .before .before .section-entries in
+    let words = d .before .count-told .ensures in
+    let call = d .before .before .before .before .section-entries .ensures in
     let room = d .before .before .before .before .before .before .before .if1 .left in
-    (is-told _ _ (count-three _) room (d .put3 .ensures) (numbers .ensures ∙ ap countNumbers (call .ensures .0)), call .ensures .1 ∙ has-room _ _ _ _ room)
+    let told = long 2 _ _ _ (count-two _) room (d .put-answer .ensures .0 ∙ words .0 ∙ ap ruleOf (call .0)) (words .1 ∙ ap countWords (call .0)) (d .put-answer .ensures .1) in
+    (told .0, (told .1, call .1 ∙ memory-long 2 _ _ _ room))
 
 pub gongaurora-export-sections-spec : {M : Type 1} → statement M
 gongaurora-export-sections-spec =
-    tie.close (tie.spec returns (search needs) (search needs) (search needs) (search needs) (search needs) returns-2)
+    tie.close (tie.spec returns (search needs) (search needs) put-answer-requires (search needs) (search needs) returns-2)

@@ -12,7 +12,7 @@ use Rattle.model.specs.Bytes.{signed}
 use Rattle.model.specs.Corner.{numberAt}
 use Rattle.model.specs.ReadList.{valuesFrom}
 use Rattle.corners.proofs.Widths.{inside-width, inside-few, inside-at}
-use Rattle.corners.proofs.Written.{written-none, written-more}
+use Rattle.model.proofs.Written.{written-none, written-more}
 use Rattle.corners.proofs.element.put_row.Statement.{statement}
 use Rattle.corners.proofs.element.put_row.Tie as tie
 

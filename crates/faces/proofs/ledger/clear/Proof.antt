@@ -21,7 +21,7 @@ loop-holds c = (search needs, fill-none (c .args .out .now) 0)
 loop-again : tie.Need-loop-again Inv-loop μ-loop
 loop-again c =
     let l = c .before .loop in (
-      (omega arith, length-set (l .out) (l .k) 0 ∙ l .inv .0 .1),
+      (omega arith, length-set (l .out) (l .k) _ ∙ l .inv .0 .1),
       ap (λ (x : List _). set x (l .k) 0) (l .inv .1) ∙ fill-more (l .k) 0 (c .before .before .args .out .now) (omega arith),
     )
 

@@ -7,7 +7,7 @@ use lib.Dec.{eqb}
 use lib.ListN.{length, drop}
 use borrow.Author.Needs.{needs}
 use borrow.Author.Tests.{leb-true, not-true, not-false}
-use Rattle.records.specs.declared.Record.{Record}
+use Rattle.records.specs.declared.RecordNumbers.{RecordNumbers}
 use Rattle.model.specs.Image.{treeOf, node, dimensions}
 use Rattle.model.specs.Records.{dataSizeLawful}
 use Rattle.model.proofs.Logic.{and-second}
@@ -26,7 +26,7 @@ loop-holds : tie.Need-loop-holds Inv-loop μ-loop
 loop-holds c =
     let a = c .before .before .before .before .args in
     let t = treeOf (a .image .now) in
-    let z = ap (λ (x : Record). x .«data_size») (c .before .before .read .ensures) in
+    let z = ap (λ (x : RecordNumbers). x .«data_size») (c .before .before .read .ensures) in
     (omega arith, rw (width-by t (a .i) (c .width-of .ensures .0) (c .before .data-type-of .ensures .0), z) (sized-is t (a .i)))
 
 dimension-requires : tie.Need-dimension-requires Inv-loop μ-loop
@@ -34,7 +34,7 @@ dimension-requires c κs =
     let g = c .before .before .before .before in
     let d = g .before .before in
     let t = treeOf (d .args .image .now) in
-    let r : g .read .result .rank ≡ node t (d .args .i) .rank = ap (λ (x : Record). x .rank) (g .read .ensures) in
+    let r : g .read .result .rank ≡ node t (d .args .i) .rank = ap (λ (x : RecordNumbers). x .rank) (g .read .ensures) in
     (d .pre .0, (omega arith, d .pre .1))
 
 returns : tie.Need-returns Inv-loop μ-loop
@@ -43,7 +43,7 @@ returns c =
     let g = l .before .before .before in
     let a = g .before .before .args in
     let t = treeOf (a .image .now) in
-    let r : g .read .result .rank ≡ node t (a .i) .rank = ap (λ (x : Record). x .rank) (g .read .ensures) in
+    let r : g .read .result .rank ≡ node t (a .i) .rank = ap (λ (x : RecordNumbers). x .rank) (g .read .ensures) in
     let h : l .loop .k < length (dimensions t (a .i)) = rw (rank-is t (a .i)) (omega arith) in
     sym (size-off (l .loop .m) _ (dimensions t (a .i)) (l .loop .k) h (c .before .before .dimension .ensures) (sym (c .before .product-fits .ensures) ∙ not-true _ (c .if1 .taken))) ∙ l .loop .inv .1
 
@@ -60,7 +60,7 @@ loop-again c =
     let g = l .before .before .before in
     let a = g .before .before .args in
     let t = treeOf (a .image .now) in
-    let r : g .read .result .rank ≡ node t (a .i) .rank = ap (λ (x : Record). x .rank) (g .read .ensures) in
+    let r : g .read .result .rank ≡ node t (a .i) .rank = ap (λ (x : RecordNumbers). x .rank) (g .read .ensures) in
     let h : l .loop .k < length (dimensions t (a .i)) = rw (rank-is t (a .i)) (omega arith) in
     (omega arith, size-on (l .loop .m) _ (dimensions t (a .i)) (l .loop .k) h (c .before .before .dimension .ensures) (sym (c .before .product-fits .ensures) ∙ not-false _ (c .if1 .left)) ∙ l .loop .inv .1)
 
@@ -70,7 +70,7 @@ returns-2 c =
     let g = l .before .before .before in
     let a = g .before .before .args in
     let t = treeOf (a .image .now) in
-    let r : g .read .result .rank ≡ node t (a .i) .rank = ap (λ (x : Record). x .rank) (g .read .ensures) in
+    let r : g .read .result .rank ≡ node t (a .i) .rank = ap (λ (x : RecordNumbers). x .rank) (g .read .ensures) in
     let h : length (dimensions t (a .i)) ≤ l .loop .k = rw (rank-is t (a .i)) (omega arith) in
     sym (size-end (l .loop .m) _ (dimensions t (a .i)) (l .loop .k) h) ∙ l .loop .inv .1
 

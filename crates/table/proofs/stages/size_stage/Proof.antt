@@ -5,7 +5,7 @@ use lib.Dec.{eqb}
 use borrow.Author.Needs.{needs}
 use borrow.Author.Tests.{leb-true, eqb-true, not-true, not-false}
 use Rattle.records.specs.declared.Header.{Header}
-use Rattle.records.specs.declared.Record.{Record}
+use Rattle.records.specs.declared.RecordNumbers.{RecordNumbers}
 use Rattle.model.specs.Image.{treeOf, node, wordCount, dataLength}
 use Rattle.model.proofs.Logic.{and-first, and-second}
 use Rattle.model.proofs.Staging.{broken, kept}
@@ -38,8 +38,8 @@ data-size-lawful-requires c κs =
     let f = eqb-true (r .«first_word») w (and-first (eqb (r .«first_word») w) _ yes) in
     let l = leb-true (w + r .rank) (h .«word_count») (and-second (eqb (r .«first_word») w) _ yes) in
     let e : h .«word_count» ≡ wordCount (d .args .image .now) = ap (λ (x : Header). x .«word_count») (g .before .before .read .ensures) in
-    let m : r .«first_word» ≡ node t (d .args .i) .firstWord = ap (λ (x : Record). x .«first_word») (g .before .read2 .ensures) in
-    let n : r .rank ≡ node t (d .args .i) .rank = ap (λ (x : Record). x .rank) (g .before .read2 .ensures) in
+    let m : r .«first_word» ≡ node t (d .args .i) .firstWord = ap (λ (x : RecordNumbers). x .«first_word») (g .before .read2 .ensures) in
+    let n : r .rank ≡ node t (d .args .i) .rank = ap (λ (x : RecordNumbers). x .rank) (g .before .read2 .ensures) in
     (d .pre .0, omega arith)
 
 returns-2 : tie.Need-returns-2

@@ -3,7 +3,7 @@ use mathlib.Core.Path.{sym, ap, _∙_}
 use mathlib.Core.Bool.{not}
 use borrow.Author.Needs.{needs}
 use borrow.Author.Tests.{le-ltb, lt-ltb, not-true, not-false}
-use Rattle.records.specs.declared.Record.{Record}
+use Rattle.records.specs.declared.RecordNumbers.{RecordNumbers}
 use Rattle.model.specs.Records.{rankLawful}
 use Rattle.model.proofs.Staging.{broken, kept}
 use Rattle.table.proofs.Laws.{no-rule}
@@ -27,7 +27,7 @@ returns-3 c =
     let d = g .before .before .before in
     let n = ap not (sym (d .is-link .ensures) ∙ g .before .before .if1 .left) in
     let k = d .before .data-type-of .ensures .0 in
-    let r = ap (λ (x : Record). x .rank) (d .before .before .read .ensures) in
+    let r = ap (λ (x : RecordNumbers). x .rank) (d .before .before .read .ensures) in
     c .reject3 .ensures ∙ sym (kept _ 12 _ n ∙ kept _ 13 _ (rw (← k) (lt-ltb 0 (d .before .data-type-of .result) (omega (arith, g .before .if2 .left)))) ∙ broken _ 14 _ (rw (← k, ← r) (sym (g .rank-lawful .ensures) ∙ not-true _ (c .before .if3 .taken))))
 
 returns-4 : tie.Need-returns-4
@@ -37,7 +37,7 @@ returns-4 c =
     let d = g .before .before .before in
     let n = ap not (sym (d .is-link .ensures) ∙ g .before .before .if1 .left) in
     let k = d .before .data-type-of .ensures .0 in
-    let r = ap (λ (x : Record). x .rank) (d .before .before .read .ensures) in
+    let r = ap (λ (x : RecordNumbers). x .rank) (d .before .before .read .ensures) in
     sym (kept _ 12 _ n ∙ kept _ 13 _ (rw (← k) (lt-ltb 0 (d .before .data-type-of .result) (omega (arith, g .before .if2 .left)))) ∙ kept _ 14 _ (rw (← k, ← r) (sym (g .rank-lawful .ensures) ∙ not-false _ (c .if3 .left))) ∙ no-rule _)
 
 pub type-stage-spec : {M : Type 1} → statement M

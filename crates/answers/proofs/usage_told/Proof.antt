@@ -1,0 +1,17 @@
+use mathlib.Core.Path.{refl}
+use borrow.Author.Needs.{needs}
+use Rattle.model.specs.ReadList.{ruleOf}
+use Rattle.model.specs.Exports.{usageWords}
+use Rattle.answers.proofs.usage_told.Statement.{statement}
+use Rattle.answers.proofs.usage_told.Tie as tie
+
+returns : tie.Need-returns
+unfolding ruleOf usageWords
+returns c = rw (c .tell .ensures .0, c .tell .ensures .1, c .before .before .u .given .1) (refl, refl)
+
+returns-2 : tie.Need-returns-2
+unfolding ruleOf usageWords
+returns-2 c = rw (c .tell2 .ensures .0, c .tell2 .ensures .1, c .before .before .u2 .given .1) (refl, refl)
+
+pub usage-told-spec : {M : Type 1} → statement M
+usage-told-spec = tie.close (tie.spec (search needs) (search needs) (search needs) (search needs) returns returns-2)

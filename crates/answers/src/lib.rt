@@ -1,0 +1,168 @@
+// Answers for C: a rule and words, and words into lent bytes.
+ghost use mathlib.Core.Path.{_≡_};
+ghost use mathlib.Core.List.{[], _∷_};
+ghost use Prim.Native.Nat.{_*_, _≤_};
+ghost use lib.ListN.{length, take};
+ghost use mir.Syntax.{w64};
+ghost use mir.Val.{ofZ};
+ghost use Rattle.model.specs.Lists.{over};
+ghost use Rattle.model.specs.Bytes.{leBytes, allBytes};
+ghost use Rattle.model.specs.ReadList.{ruleOf};
+ghost use Rattle.model.specs.Answers.{validationTells, countTells, usageTells, cornerTells, valueTells, dataSizeTells, NanCases};
+ghost use Rattle.model.specs.Exports.{validationWords, countWords, usageWords, valueWords, sizeWords, numberBytes, sizeWord};
+use model::ArrayValue;
+use model::Corner;
+use model::Count;
+use model::DataSize;
+use model::FaceUsage;
+use model::Rejection;
+use model::Validation;
+
+// A rule, 0 for none, and up to five words: the node, and the values.
+pub struct Told {
+    pub rule: u64,
+    pub words: [u64; 5],
+}
+
+// Writes words in front of lent bytes; the rest stays.
+fn put_words(out: &mut [u8], words: &[u64])
+    requires { ⌜ 8 * length (now words) ≤ length (now out) ⌝ }
+    ensures { λ _. ⌜ now (out .exit) ≡ over (now (out .entry)) (allBytes 8 (now (words .entry))) ⌝ }
+{
+    let mut k: usize = 0;
+    while k < words.len() {
+        words::put_word(out, 8 * k, 8, words[k]);
+        k += 1;
+    }
+}
+
+// Writes the first n words of an answer in front of lent bytes and answers its rule; the rest stays.
+pub fn put_answer(out: &mut [u8], told: Told, n: usize) -> u64
+    requires { ⌜ (length (take n (told .words)) ≡ n) × (8 * n ≤ length (now out)) ⌝ }
+    ensures { λ r. ⌜ (r ≡ told .rule) × (now (out .exit) ≡ over (now (out .entry)) (allBytes 8 (take n (told .words)))) ⌝ }
+{
+    let words = told.words;
+    put_words(out, &words[..n]);
+    told.rule
+}
+
+// A rule, a node and four values.
+fn tell(rule: u64, node: u64, first: u64, second: u64, third: u64, fourth: u64) -> Told
+    ensures { λ r. ⌜ (r .rule ≡ rule) × (r .words ≡ node ∷ first ∷ second ∷ third ∷ fourth ∷ []) ⌝ }
+{
+    let words = [node, first, second, third, fourth];
+    Told { rule, words }
+}
+
+// The two's complement of a whole number at 64 bits.
+fn whole_bits(x: i64) -> u64
+    ensures { λ r. ⌜ r ≡ ofZ w64 x ⌝ }
+{
+    if x < 0 {
+        return 0xffff_ffff_ffff_ffff - (-1 - x) as u64;
+    }
+    x as u64
+}
+
+// Validation: node and the four counts.
+pub fn validation_told(v: Validation) -> Told
+    ensures { λ r. ⌜ (r .rule ≡ ruleOf (validationTells v)) × (take 5 (r .words) ≡ validationWords (validationTells v)) ⌝ }
+{
+    match v {
+        Validation::Accepted {
+            validated,
+            skipped,
+            zones,
+            sections,
+        } => tell(0, 0, validated, skipped, zones, sections),
+        Validation::Rejected(r) => tell(r.rule, r.node, 0, 0, 0, 0),
+    }
+}
+
+// A count: node and count.
+pub fn count_told(c: Count) -> Told
+    ensures { λ r. ⌜ (r .rule ≡ ruleOf (countTells c)) × (take 2 (r .words) ≡ countWords (countTells c)) ⌝ }
+{
+    match c {
+        Count::Of(n) => tell(0, 0, n, 0, 0, 0),
+        Count::Rejected(r) => tell(r.rule, r.node, 0, 0, 0, 0),
+    }
+}
+
+// Face usage: node, element, count.
+pub fn usage_told(u: FaceUsage) -> Told
+    ensures { λ r. ⌜ (r .rule ≡ ruleOf (usageTells u)) × (take 3 (r .words) ≡ usageWords (usageTells u)) ⌝ }
+{
+    match u {
+        FaceUsage::Faces(n) => tell(0, 0, 0, n, 0, 0),
+        FaceUsage::Rejected(r) => tell(r.rule, r.node, r.element, 0, 0, 0),
+    }
+}
+
+// The bits of a single.
+fn single_told(bits: u32) -> Told
+    ensures { λ r. ⌜ (r .rule ≡ 0) × (take 3 (r .words) ≡ 0 ∷ 2 ∷ bits ∷ []) ⌝ }
+{
+    tell(0, 0, 2, bits as u64, 0, 0)
+}
+
+// An array value: node, kind, bits.
+pub fn value_told(v: ArrayValue) -> Told
+    requires { ⌜ NanCases v ⌝ }
+    ensures { λ r. ⌜ (r .rule ≡ ruleOf (valueTells v)) × (take 3 (r .words) ≡ valueWords (valueTells v)) ⌝ }
+{
+    match v {
+        ArrayValue::Whole(x) => tell(0, 0, 1, whole_bits(x), 0, 0),
+        ArrayValue::Single(x) => single_told(f32::to_bits(x)),
+        ArrayValue::Double(x) => tell(0, 0, 3, f64::to_bits(x), 0, 0),
+        ArrayValue::SingleNan(bits) => single_told(bits),
+        ArrayValue::DoubleNan(bits) => tell(0, 0, 3, bits, 0, 0),
+        ArrayValue::Rejected(r) => tell(r.rule, r.node, 0, 0, 0, 0),
+    }
+}
+
+// A DataSize: node, directions and the size in each.
+pub fn size_told(d: DataSize) -> Told
+    ensures { λ r. ⌜ (r .rule ≡ ruleOf (dataSizeTells d)) × (take 5 (r .words) ≡ sizeWords (dataSizeTells d)) ⌝ }
+{
+    match d {
+        DataSize::Sizes {
+            directions,
+            i,
+            j,
+            k,
+        } => tell(0, 0, directions, i, j, k),
+        DataSize::Rejected(r) => tell(r.rule, r.node, 0, 0, 0, 0),
+    }
+}
+
+// Writes a corner's number in front of lent bytes and answers 0; a refusal answers its rule and leaves the bytes as they were.
+pub fn put_corner(c: Corner, number: &mut [u8]) -> u64
+    requires { ⌜ 8 ≤ length (now number) ⌝ }
+    ensures { λ r. ⌜ (r ≡ ruleOf (cornerTells c)) × (now (number .exit) ≡ numberBytes (cornerTells c) (now (number .entry))) ⌝ }
+{
+    match c {
+        Corner::Number(n) => {
+            words::put_word(number, 0, 8, whole_bits(n));
+            0
+        }
+        Corner::Rejected(r) => r.rule,
+    }
+}
+
+// Writes an element's size in front of lent bytes, 0 of a refusal, and answers the rule.
+pub fn put_size(c: Count, size: &mut [u8]) -> u64
+    requires { ⌜ 8 ≤ length (now size) ⌝ }
+    ensures { λ r. ⌜ (r ≡ ruleOf (countTells c)) × (now (size .exit) ≡ over (now (size .entry)) (leBytes 8 (sizeWord (countTells c)))) ⌝ }
+{
+    match c {
+        Count::Of(n) => {
+            words::put_word(size, 0, 8, n);
+            0
+        }
+        Count::Rejected(r) => {
+            words::put_word(size, 0, 8, 0);
+            r.rule
+        }
+    }
+}

@@ -1,0 +1,21 @@
+use borrow.Author.Needs.{needs}
+use Rattle.gongaurora.proofs.Readers.{few, full, fits, element-short, element-told}
+use Rattle.gongaurora.proofs.gongaurora_export_read_element.Statement.{statement}
+use Rattle.gongaurora.proofs.gongaurora_export_read_element.Tie as tie
+
+returns : tie.Need-returns
+returns c = element-short _ _ _ _ _ (few 9 _ _ (c .if1 .taken))
+
+returns-2 : tie.Need-returns-2
+returns-2 c = element-short _ _ _ _ _ (full 9 _ _ (c .before .if1 .left) (c .if2 .taken))
+
+returns-3 : tie.Need-returns-3
+returns-3 c =
+    let p = c .before .before .put-size .ensures in
+    let d = c .before .before .before .before .before in
+    let e = rw (d .before .before .at .ensures) at (d .element-corners .ensures) in
+    element-told _ _ _ _ _ (fits 9 _ _ (d .before .before .before .before .if1 .left) (d .before .before .before .if2 .left)) (e .0) (e .1) (p .0) (p .1)
+
+pub gongaurora-export-read-element-spec : {M : Type 1} → statement M
+gongaurora-export-read-element-spec =
+    tie.close (tie.spec returns returns-2 (search needs) (search needs) (search needs) (search needs) (search needs) returns-3)
