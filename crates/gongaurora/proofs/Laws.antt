@@ -1,13 +1,11 @@
--- Laws of answers in lent bytes: how many words there are, what is written where there is room or none, and the section in bytes.
-use Prim.Native.Nat.{ℕ, zero, suc, _+_, _*_, _≤_, _<_}
-use native.Mathlib.Omega.{arith}
-use mathlib.Core.Path.{_≡_, refl, sym, ap, _∙_}
+-- Laws of answers in lent bytes: how many words there are, and what is written where there is room or none.
+use Prim.Native.Nat.{ℕ, _*_, _≤_, _<_}
+use mathlib.Core.Path.{_≡_, refl, ap, _∙_}
 use mathlib.Core.List.{List}
-use lib.ListN.{length, getD, drop}
-use lib.Seq.{drop-drop}
+use lib.ListN.{length}
 use borrow.Author.Tests.{le-leb, lt-leb}
 use Rattle.model.specs.Lists.{over}
-use Rattle.model.specs.Bytes.{le, allBytes, numbers}
+use Rattle.model.specs.Bytes.{allBytes}
 use Rattle.model.specs.Rules.{Answer, rejected, answer, check, _then_, leaves}
 use Rattle.model.specs.Validation.{Counts}
 use Rattle.model.specs.DataSize.{Sizes}
@@ -65,15 +63,3 @@ module _ {B : Type 0} (n : ℕ) (out : List ℕ) (memory left : List B) where
   pub memory-long : 8 * n ≤ length out → left ≡ exportMemory n out memory left
   unfolding exportMemory wordsFit check leaves
   memory-long h = rw (le-leb (8 * n) (length out) h)
-
--- number k of a row
-number-in : (w n : ℕ) (s : List ℕ) (k : ℕ) → k < n → getD (numbers w n s) k 0 ≡ le w (drop (w * k) s)
-unfolding numbers
-number-in w zero s k h = absurd (omega arith)
-number-in w (suc n) s zero h = let e : w * 0 ≡ 0 = omega arith in rw e
-number-in w (suc n) s (suc k) h =
-    let e : w * suc k ≡ w + w * k = omega arith in
-    number-in w n (drop w s) k (omega arith) ∙ rw (e, drop-drop (w * k) w s)
-
-pub word-in : (s : List ℕ) (k : ℕ) → k < 9 → le 8 (drop (8 * k) s) ≡ getD (numbers 8 9 s) k 0
-word-in s k h = sym (number-in 8 9 s k h)

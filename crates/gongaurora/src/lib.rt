@@ -1,7 +1,7 @@
 // The C interface: each call on numbers and slices, with no `requires`. An export answers the rule, 0 where there is none; the other numbers of its answer
 // are 64-bit words in lent bytes, little-endian. Where these are too short it answers 46 and writes nothing at all.
 ghost use mathlib.Core.Path.{_≡_};
-ghost use Prim.Native.Nat.{_/_, _≤_};
+ghost use Prim.Native.Nat.{_/_};
 ghost use lib.ListN.{length};
 ghost use Rattle.model.specs.Validation.{validation};
 ghost use Rattle.model.specs.Sections.{sectionsAnswer, sectionNumbersMemory};
@@ -9,7 +9,7 @@ ghost use Rattle.model.specs.FaceUsage.{usageAnswer, usageMemory};
 ghost use Rattle.model.specs.Path.{pathAnswer, pathMemory};
 ghost use Rattle.model.specs.ArrayValue.{valueAnswer};
 ghost use Rattle.model.specs.DataSize.{dataSizeAnswer};
-ghost use Rattle.model.specs.Exports.{validationWords, countWords, usageWords, valueWords, sizeWords, exportRule, exportBytes, exportMemory, sectionIn, CornerExport, ElementExport};
+ghost use Rattle.model.specs.Exports.{validationWords, countWords, usageWords, valueWords, sizeWords, exportRule, exportBytes, exportMemory, CornerExport, ElementExport};
 use answers::count_told;
 use answers::put_answer;
 use answers::put_corner;
@@ -18,7 +18,6 @@ use answers::size_told;
 use answers::usage_told;
 use answers::validation_told;
 use answers::value_told;
-use model::Section;
 
 // How many bytes each answer has.
 const VALIDATION_BYTES: usize = 40;
@@ -45,24 +44,6 @@ pub extern "C" fn gongaurora_export_validate(image: &[u8], answer: &mut [u8]) ->
     put_answer(answer, validation_told(validation::validate(image)), 5)
 }
 
-// The section entry in the first 72 bytes.
-fn section_in(s: &[u8]) -> Section
-    requires { ⌜ 72 ≤ length (now s) ⌝ }
-    ensures { λ r. ⌜ r ≡ sectionIn (now (s .entry)) ⌝ }
-{
-    Section {
-        node: words::u64_at(s, 0),
-        element_type: words::u64_at(s, 8),
-        first: words::u64_at(s, 16),
-        last: words::u64_at(s, 24),
-        offsets_at: words::u64_at(s, 32),
-        offsets_width: words::u64_at(s, 40),
-        connectivity_at: words::u64_at(s, 48),
-        connectivity_width: words::u64_at(s, 56),
-        connectivity_length: words::u64_at(s, 64),
-    }
-}
-
 // The number at an element's corner, of the 72 bytes of a section entry: 8 bytes in front of `number` where the rule is 0; else they stay as they were.
 // Rule 46 where the section has fewer bytes or `number` has no room, then the reader's.
 #[no_mangle]
@@ -82,7 +63,7 @@ pub extern "C" fn gongaurora_export_read_corner(
         return 46;
     }
     put_corner(
-        corners::corner(image, section_in(section), element, corner),
+        corners::corner(image, entries::section_in(section), element, corner),
         number,
     )
 }
@@ -106,7 +87,7 @@ pub extern "C" fn gongaurora_export_read_element(
         return 46;
     }
     put_size(
-        corners::element_corners(image, Section::at(section, 0), element, out),
+        corners::element_corners(image, entries::section_at(section, 0), element, out),
         count,
     )
 }

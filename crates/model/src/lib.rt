@@ -1,9 +1,7 @@
 // The types that contracts name: a rejection, the answer of each call, a section. What they mean stands in specs/.
 ghost use mathlib.Core.Path.{_≡_};
 ghost use Rattle.model.specs.Rules.{rejection, repetition};
-ghost use Prim.Native.Nat.{_<_};
 ghost use Rattle.model.specs.Answers.{rejectionOf};
-ghost use Rattle.model.specs.Reads.{entriesIn, sectionAt};
 
 // Why a call is refused: document 01's rule number, the node (0 where the rule names none) and, for rule 45 alone, the element.
 pub struct Rejection {
@@ -126,25 +124,4 @@ pub struct Section {
     pub connectivity_at: u64,
     pub connectivity_width: u64,
     pub connectivity_length: u64,
-}
-
-impl Section {
-    // The k-th entry of a list of numbers, nine to an entry.
-    pub fn at(entries: &[u64], k: usize) -> Section
-        requires { ⌜ k < entriesIn (now entries) ⌝ }
-        ensures { λ r. ⌜ r ≡ sectionAt (now (entries .entry)) k ⌝ }
-    {
-        let i = 9 * k;
-        Section {
-            node: entries[i],
-            element_type: entries[i + 1],
-            first: entries[i + 2],
-            last: entries[i + 3],
-            offsets_at: entries[i + 4],
-            offsets_width: entries[i + 5],
-            connectivity_at: entries[i + 6],
-            connectivity_width: entries[i + 7],
-            connectivity_length: entries[i + 8],
-        }
-    }
 }

@@ -8,7 +8,6 @@ use corners::corner;
 use model::Corner;
 use model::Count;
 use model::Rejection;
-use model::Section;
 
 // One read with an entry of the list; 40 where there is no such entry. Image and entries stay as they are.
 pub fn one_read(
@@ -22,7 +21,12 @@ pub fn one_read(
 {
     let k = which as usize;
     if k < entries.len() / 9 {
-        return corner(image, Section::at(entries, k), element, corner_number);
+        return corner(
+            image,
+            entries::section_at(entries, k),
+            element,
+            corner_number,
+        );
     }
     Corner::Rejected(Rejection::at(40, 0))
 }

@@ -13,7 +13,7 @@ returns-3 : tie.Need-returns-3
 returns-3 c =
     let p = c .before .before .put-size .ensures in
     let d = c .before .before .before .before .before in
-    let e = rw (d .before .before .at .ensures) at (d .element-corners .ensures) in
+    let e = rw (d .before .before .section-at .ensures) at (d .element-corners .ensures) in
     element-told _ _ _ _ _ (fits 9 _ _ (d .before .before .before .before .if1 .left) (d .before .before .before .if2 .left)) (e .0) (e .1) (p .0) (p .1)
 
 pub gongaurora-export-read-element-spec : {M : Type 1} → statement M

@@ -3,9 +3,9 @@ use native.Mathlib.Omega.{arith}
 use borrow.Author.Needs.{needs}
 use Rattle.model.specs.Reads.{sectionAt}
 use Rattle.model.specs.Exports.{sectionIn}
-use Rattle.gongaurora.proofs.Laws.{word-in}
-use Rattle.gongaurora.proofs.section_in.Statement.{statement}
-use Rattle.gongaurora.proofs.section_in.Tie as tie
+use Rattle.entries.proofs.Rows.{word-in}
+use Rattle.entries.proofs.section_in.Statement.{statement}
+use Rattle.entries.proofs.section_in.Tie as tie
 
 returns : tie.Need-returns
 unfolding sectionIn sectionAt

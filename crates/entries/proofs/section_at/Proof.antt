@@ -1,15 +1,15 @@
 use mathlib.Core.Path.{refl}
 use borrow.Author.Needs.{needs}
 use Rattle.model.specs.Reads.{sectionAt}
-use Rattle.model.proofs.Section.at.Statement.{statement}
-use Rattle.model.proofs.Section.at.Tie as tie
+use Rattle.entries.proofs.section_at.Statement.{statement}
+use Rattle.entries.proofs.section_at.Tie as tie
 
 returns : tie.Need-returns
 unfolding sectionAt
 returns c = refl
 
-pub at-spec : {M : Type 1} → statement M
-at-spec = tie.close (tie.spec (search needs) (search needs) (search needs) (search needs) (search needs)
+pub section-at-spec : {M : Type 1} → statement M
+section-at-spec = tie.close (tie.spec (search needs) (search needs) (search needs) (search needs) (search needs)
     (search needs) (search needs) (search needs) (search needs) (search needs) (search needs) (search needs)
     (search needs) (search needs) (search needs) (search needs) (search needs) (search needs) (search needs)
     (search needs) (search needs) (search needs) (search needs) (search needs) (search needs) (search needs)
