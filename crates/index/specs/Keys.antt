@@ -1,0 +1,60 @@
+-- The looked-up children of a node: which child each of its four slots is for, by what the node is validated as.
+use Prim.Native.Nat.{ℕ, _<_}
+use mathlib.Core.Path.{_≡_}
+use mathlib.Core.Bool.{Bool, _&&_}
+use mathlib.Core.List.{List, [], _∷_}
+use lib.Dec.{eqb}
+use lib.ListN.{getD}
+use Rattle.model.specs.Lists.{Row, _has_, row, seekFrom}
+use Rattle.model.specs.Bytes.{text, spells}
+use Rattle.model.specs.Image.{Tree, name}
+use Rattle.model.specs.Containment.{Zone, ZoneType, GridCoordinates, FlowSolution, Elements, IndexRange, Rind, GridLocation, DataArray, role}
+
+-- the keys: a name and a role each
+unfoldable pub keyNames : List (List ℕ)
+keyNames =
+    text "ZoneType"
+    ∷ text "Rind"
+    ∷ text "GridLocation"
+    ∷ text "ElementRange"
+    ∷ text "ElementConnectivity"
+    ∷ text "ElementStartOffset"
+    ∷ []
+
+unfoldable pub keyRoles : List ℕ
+keyRoles = ZoneType ∷ Rind ∷ GridLocation ∷ IndexRange ∷ DataArray ∷ DataArray ∷ []
+
+-- the keys of a node's slots, by what it is validated as
+unfoldable pub slotKeys : List (Row (List ℕ))
+slotKeys =
+    Zone has (0 ∷ [])
+    ∷ GridCoordinates has (1 ∷ [])
+    ∷ FlowSolution has (1 ∷ 2 ∷ [])
+    ∷ Elements has (3 ∷ 4 ∷ 5 ∷ [])
+    ∷ []
+
+-- the key of slot k; 6 where the slot has none
+unfoldable pub keyAt : ℕ → ℕ → ℕ
+keyAt above k = getD (row above [] slotKeys) k 6
+
+-- no node has the role 15
+unfoldable pub keyRole : ℕ → ℕ → ℕ
+keyRole above k = getD keyRoles (keyAt above k) 15
+
+unfoldable pub keyName : ℕ → ℕ → List ℕ
+keyName above k = getD keyNames (keyAt above k) []
+
+-- node j is what slot k of a node is for
+unfoldable pub isKey : Tree → ℕ → ℕ → ℕ → Bool
+isKey t above k j = eqb (role t j) (keyRole above k) && spells (name t j) (keyName above k)
+
+-- the first slot for a child of a role
+unfoldable pub hasRole : ℕ → ℕ → ℕ → Bool
+hasRole above below k = eqb (keyRole above k) below
+
+unfoldable pub firstSlot : ℕ → ℕ → ℕ
+firstSlot above below = seekFrom (hasRole above below) 4 0
+
+-- r is the one slot that node j is for; 4 where it is for none
+pub record SlotOf (t : Tree) (above j r : ℕ) : Type 0 where
+  pub is : (k : ℕ) → k < 4 → isKey t above k j ≡ eqb k r
