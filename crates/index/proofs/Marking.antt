@@ -177,12 +177,12 @@ row-begun s j v h =
     let l2 = length-set s1 (a + 1) 0 in
     let l3 = length-set s2 (a + 2) 0 in
     let past : (i : ℕ) → (i ≡ a → ⊥) → (i ≡ a + 1 → ⊥) → (i ≡ a + 2 → ⊥) → (i ≡ a + 3 → ⊥) → getD (set s3 (a + 3) 0) i 0 ≡ getD s i 0 =
-      λ i n0 n1 n2 n3. getD-set-other s3 (a + 3) i 0 0 n3 ∙ getD-set-other s2 (a + 2) i 0 0 n2 ∙ getD-set-other s1 (a + 1) i 0 0 n1 ∙ getD-set-other s a i (4096 * v) 0 n0 in
+    λ i n0 n1 n2 n3. getD-set-other s3 (a + 3) i 0 0 n3 ∙ getD-set-other s2 (a + 2) i 0 0 n2 ∙ getD-set-other s1 (a + 1) i 0 0 n1 ∙ getD-set-other s a i (4096 * v) 0 n0 in
     let z : 4 * j + 0 ≡ a = omega arith in
     record {
       long = length-set s3 (a + 3) 0 ∙ l3 ∙ l2 ∙ l1;
       first = rw z (getD-set-other s3 (a + 3) a 0 0 (λ q. absurd (omega arith)) ∙ getD-set-other s2 (a + 2) a 0 0 (λ q. absurd (omega arith))
-        ∙ getD-set-other s1 (a + 1) a 0 0 (λ q. absurd (omega arith)) ∙ getD-set-same s a (4096 * v) 0 (omega arith));
+          ∙ getD-set-other s1 (a + 1) a 0 0 (λ q. absurd (omega arith)) ∙ getD-set-same s a (4096 * v) 0 (omega arith));
       empty = λ k l m. elim (ℕ-discrete k 3) [
         | yes q ↦ rw q (getD-set-same s3 (a + 3) 0 0 (omega arith))
         | no n ↦ getD-set-other s3 (a + 3) (4 * j + k) 0 0 (λ w. n (omega arith)) ∙ elim (ℕ-discrete k 2) [
@@ -291,10 +291,10 @@ module _ {b index : List ℕ} {j up above r : ℕ} (s : Sound b) (t : Rows b ind
       let here : getD new at 0 ≡ old + j = getD-set-same index at (old + j) 0 (mark-room g) in
       let slot : (old + j) % 4096 ≡ j = omega arith in
       let kind-stays : (i : ℕ) → kindAt new i ≡ kindAt index i =
-        λ i. elim (ℕ-discrete (4 * i + 0) at) [
-          | yes q ↦ rw (q, here) (let k : (old + j) / 4096 ≡ old / 4096 = omega arith in k)
-          | no n ↦ rw (getD-set-other index at (4 * i + 0) (old + j) 0 n)
-        ] in
+      λ i. elim (ℕ-discrete (4 * i + 0) at) [
+        | yes q ↦ rw (q, here) (let k : (old + j) / 4096 ≡ old / 4096 = omega arith in k)
+        | no n ↦ rw (getD-set-other index at (4 * i + 0) (old + j) 0 n)
+      ] in
       record {
         long = rw (length-set index at (old + j)) (t .long);
         kinds = λ i m. kind-stays i ∙ t .kinds i m;

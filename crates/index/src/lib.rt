@@ -12,6 +12,7 @@ pub use tables::location;
 pub use tables::offsets;
 pub use tables::range;
 pub use tables::rind;
+pub use tables::role_of;
 pub use tables::section_of;
 pub use tables::validated_as;
 pub use tables::zone_type;

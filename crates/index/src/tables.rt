@@ -8,7 +8,7 @@ ghost use Rattle.model.specs.Image.{treeOf, nodeCount};
 ghost use Rattle.model.specs.Bounds.{Laid};
 ghost use Rattle.model.specs.Given.{Sound};
 ghost use Rattle.model.specs.Bytes.{text};
-ghost use Rattle.model.specs.Containment.{validated, validatedAs, isZone, sectionOf, child, Zone, ZoneType, GridCoordinates, FlowSolution, Elements, IndexRange, Rind, GridLocation, DataArray};
+ghost use Rattle.model.specs.Containment.{role, validated, validatedAs, isZone, sectionOf, child, Zone, ZoneType, GridCoordinates, FlowSolution, Elements, IndexRange, Rind, GridLocation, DataArray};
 ghost use Rattle.index.specs.Index.{kind, kindBelow, kindAt, putAt, slotChild, Rows, RowBegun, Index};
 use super::keys::WIDTH;
 use super::keys::slot_of;
@@ -100,6 +100,15 @@ pub fn kind_of(image: &[u8], index: &[u16], i: usize) -> u64
     ensures { λ r. ⌜ (r ≡ kind (treeOf (now (image .entry))) i) × (r < 15) ⌝ }
 {
     row_kind(index, i)
+}
+
+// The role of a validated node.
+pub fn role_of(image: &[u8], index: &[u16], i: usize) -> u64
+    requires { ⌜ Index (now image) (now index) × (i < nodeCount (now image)) ⌝ }
+    requires { ⌜ validated (treeOf (now image)) i ≡ true ⌝ }
+    ensures { λ r. ⌜ (r ≡ role (treeOf (now (image .entry))) i) × (r < 15) ⌝ }
+{
+    kind_of(image, index, i)
 }
 
 // Is node i validated?

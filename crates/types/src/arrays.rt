@@ -4,7 +4,10 @@ ghost use mathlib.Core.List.{[], _∷_};
 ghost use Prim.Native.Nat.{_<_};
 ghost use Rattle.model.specs.Image.{treeOf, nodeCount, parent, I4, I8, R4, R8};
 ghost use Rattle.model.specs.Given.{Sound};
+ghost use Rattle.model.specs.Containment.{validated};
 ghost use Rattle.model.specs.Values.{typed, indexArray, sectionArrayType, arrayType};
+ghost use Rattle.index.specs.Index.{Index};
+ghost use mathlib.Core.Bool.{true};
 use super::shapes;
 use super::shapes::flat;
 use super::shapes::typed;
@@ -42,11 +45,12 @@ fn number_type(image: &[u8], i: usize) -> bool
 }
 
 // DataArray_t: R4 or R8 under coordinates; I4, I8, R4, R8 under flow; under a section as above.
-pub fn array_type(image: &[u8], i: usize) -> bool
-    requires { ⌜ (Sound (now image) × (i < nodeCount (now image))) × (parent (treeOf (now image)) i < nodeCount (now image)) ⌝ }
+pub fn array_type(image: &[u8], index: &[u16], i: usize) -> bool
+    requires { ⌜ Index (now image) (now index) × (i < nodeCount (now image)) ⌝ }
+    requires { ⌜ (parent (treeOf (now image)) i < nodeCount (now image)) × (validated (treeOf (now image)) (parent (treeOf (now image)) i) ≡ true) ⌝ }
     ensures { λ r. ⌜ r ≡ arrayType (treeOf (now (image .entry))) i ⌝ }
 {
-    let role = labels::role_of(image, records::parent_of(image, i));
+    let role = index::role_of(image, index, records::parent_of(image, i));
     match role {
         roles::GRID_COORDINATES => typed_either(image, i, shapes::R4, shapes::R8),
         roles::FLOW_SOLUTION => number_type(image, i),

@@ -7,6 +7,7 @@ ghost use lib.ListN.{take};
 ghost use Rattle.model.specs.Image.{treeOf, nodeCount, parent, I4, I8};
 ghost use Rattle.model.specs.Given.{Sound};
 ghost use Rattle.model.specs.Values.{typed, shaped, indexDimension, zoneAbove, typeLawful};
+ghost use Rattle.index.specs.Index.{Index};
 ghost use Rattle.types.specs.Given.{Based, Ready};
 use super::arrays::array_type;
 use super::shapes;
@@ -34,16 +35,16 @@ fn whole_shaped(image: &[u8], i: usize, n: usize, sizes: [u64; 3]) -> bool
 }
 
 // Zone_t: I4 or I8 [IndexDimension, 3].
-fn zone_shape(image: &[u8], z: usize) -> bool
-    requires { ⌜ Sound (now image) × Based (now image) z ⌝ }
+fn zone_shape(image: &[u8], index: &[u16], z: usize) -> bool
+    requires { ⌜ Index (now image) (now index) × Based (now image) z ⌝ }
     ensures { λ r. ⌜ r ≡ (typed (treeOf (now (image .entry))) z (I4 ∷ I8 ∷ []) && shaped (treeOf (now (image .entry))) z (indexDimension (treeOf (now (image .entry))) z ∷ 3 ∷ [])) ⌝ }
 {
-    whole_shaped(image, z, 2, [index_dimension(image, z), 3, 0])
+    whole_shaped(image, z, 2, [index_dimension(image, index, z), 3, 0])
 }
 
 // Rind_t: I4 [2 × IndexDimension] of the zone two above.
-fn rind_shape(image: &[u8], i: usize) -> bool
-    requires { ⌜ (Sound (now image) × (parent (treeOf (now image)) i < nodeCount (now image))) × ((i < nodeCount (now image)) × Based (now image) (zoneAbove (treeOf (now image)) i)) ⌝ }
+fn rind_shape(image: &[u8], index: &[u16], i: usize) -> bool
+    requires { ⌜ (Index (now image) (now index) × (parent (treeOf (now image)) i < nodeCount (now image))) × ((i < nodeCount (now image)) × Based (now image) (zoneAbove (treeOf (now image)) i)) ⌝ }
     ensures { λ r. ⌜ r ≡ (typed (treeOf (now (image .entry))) i (I4 ∷ []) && shaped (treeOf (now (image .entry))) i (2 * indexDimension (treeOf (now (image .entry))) (zoneAbove (treeOf (now (image .entry))) i) ∷ [])) ⌝ }
 {
     let zone = records::parent_of(image, records::parent_of(image, i));
@@ -52,26 +53,26 @@ fn rind_shape(image: &[u8], i: usize) -> bool
         i,
         shapes::I4,
         1,
-        [2 * index_dimension(image, zone), 0, 0],
+        [2 * index_dimension(image, index, zone), 0, 0],
     )
 }
 
 // Rule 24 at node i.
-pub fn type_lawful(image: &[u8], i: usize) -> bool
-    requires { ⌜ Sound (now image) × Ready (now image) i ⌝ }
+pub fn type_lawful(image: &[u8], index: &[u16], i: usize) -> bool
+    requires { ⌜ Index (now image) (now index) × Ready (now image) i ⌝ }
     ensures { λ r. ⌜ r ≡ typeLawful (treeOf (now (image .entry))) i ⌝ }
 {
-    let role = labels::role_of(image, i);
+    let role = index::role_of(image, index, i);
     match role {
         roles::LIBRARY_VERSION => typed_shaped(image, i, shapes::R4, 1, [1, 0, 0]),
         roles::BASE | roles::ELEMENTS => typed_shaped(image, i, shapes::I4, 1, [2, 0, 0]),
-        roles::ZONE => zone_shape(image, i),
+        roles::ZONE => zone_shape(image, index, i),
         roles::ZONE_TYPE | roles::GRID_LOCATION | roles::DESCRIPTOR => text_shape(image, i),
         roles::GRID_COORDINATES | roles::USER_DEFINED_DATA => typed(image, i, shapes::MT),
         roles::FLOW_SOLUTION | roles::ROOT => typed(image, i, shapes::MT),
         roles::INDEX_RANGE => whole_shaped(image, i, 1, [2, 0, 0]),
-        roles::RIND => rind_shape(image, i),
-        roles::DATA_ARRAY => array_type(image, i),
+        roles::RIND => rind_shape(image, index, i),
+        roles::DATA_ARRAY => array_type(image, index, i),
         _ => false,
     }
 }

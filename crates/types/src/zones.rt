@@ -2,22 +2,23 @@
 ghost use mathlib.Core.Path.{_≡_};
 ghost use Prim.Native.Nat.{_≤_, _<_};
 ghost use Rattle.model.specs.Image.{treeOf, nodeCount};
-ghost use Rattle.model.specs.Given.{Sound};
+ghost use Rattle.model.specs.Containment.{Zone};
 ghost use Rattle.model.specs.Values.{zoneTypeOf, structured, unstructured, indexDimension};
+ghost use Rattle.index.specs.Index.{kind, Index};
 ghost use Rattle.types.specs.Given.{Based};
 use super::shapes::text_shape;
 use super::stored::reads_if_found;
 use super::stored::zone_type_value;
 use super::values::whole;
-use labels::roles;
 
 // The zone's conforming ZoneType; the node count where there is none.
-pub fn zone_type_of(image: &[u8], z: usize) -> usize
-    requires { ⌜ Sound (now image) × (z < nodeCount (now image)) ⌝ }
+pub fn zone_type_of(image: &[u8], index: &[u16], z: usize) -> usize
+    requires { ⌜ Index (now image) (now index) × (z < nodeCount (now image)) ⌝ }
+    requires { ⌜ kind (treeOf (now image)) z ≡ Zone ⌝ }
     ensures { λ r. ⌜ (r ≡ zoneTypeOf (treeOf (now (image .entry))) z) × (r ≤ nodeCount (now (image .entry))) ⌝ }
 {
     let n = labels::node_count(image);
-    let j = labels::child(image, z, roles::ZONE_TYPE, b"ZoneType");
+    let j = index::zone_type(image, index, z);
     if j == n {
         return n;
     }
@@ -31,27 +32,29 @@ pub fn zone_type_of(image: &[u8], z: usize) -> usize
 }
 
 // The zone is structured.
-pub fn structured(image: &[u8], z: usize) -> bool
-    requires { ⌜ Sound (now image) × (z < nodeCount (now image)) ⌝ }
+pub fn structured(image: &[u8], index: &[u16], z: usize) -> bool
+    requires { ⌜ Index (now image) (now index) × (z < nodeCount (now image)) ⌝ }
+    requires { ⌜ kind (treeOf (now image)) z ≡ Zone ⌝ }
     ensures { λ r. ⌜ r ≡ structured (treeOf (now (image .entry))) z ⌝ }
 {
-    reads_if_found(image, zone_type_of(image, z), b"Structured")
+    reads_if_found(image, zone_type_of(image, index, z), b"Structured")
 }
 
 // The zone is unstructured.
-pub fn unstructured(image: &[u8], z: usize) -> bool
-    requires { ⌜ Sound (now image) × (z < nodeCount (now image)) ⌝ }
+pub fn unstructured(image: &[u8], index: &[u16], z: usize) -> bool
+    requires { ⌜ Index (now image) (now index) × (z < nodeCount (now image)) ⌝ }
+    requires { ⌜ kind (treeOf (now image)) z ≡ Zone ⌝ }
     ensures { λ r. ⌜ r ≡ unstructured (treeOf (now (image .entry))) z ⌝ }
 {
-    reads_if_found(image, zone_type_of(image, z), b"Unstructured")
+    reads_if_found(image, zone_type_of(image, index, z), b"Unstructured")
 }
 
 // IndexDimension: CellDimension of the base if the zone is structured, else 1.
-pub fn index_dimension(image: &[u8], z: usize) -> u64
-    requires { ⌜ Sound (now image) × Based (now image) z ⌝ }
+pub fn index_dimension(image: &[u8], index: &[u16], z: usize) -> u64
+    requires { ⌜ Index (now image) (now index) × Based (now image) z ⌝ }
     ensures { λ r. ⌜ (r ≡ indexDimension (treeOf (now (image .entry))) z) × (1 ≤ r) × (r ≤ 3) ⌝ }
 {
-    if !structured(image, z) {
+    if !structured(image, index, z) {
         return 1;
     }
     whole(image, records::parent_of(image, z), 0)

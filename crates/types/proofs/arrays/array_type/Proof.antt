@@ -6,6 +6,11 @@ use Rattle.model.specs.Values.{arrayType}
 use Rattle.types.proofs.arrays.array_type.Statement.{statement}
 use Rattle.types.proofs.arrays.array_type.Tie as tie
 
+role-of-requires : tie.Need-role-of-requires
+role-of-requires c κs =
+    let p = c .before .before .before .pre in
+    ((p .0 .0, rw (c .parent-of .ensures .0) (p .1 .0)), rw (c .parent-of .ensures .0) (p .1 .1))
+
 returns : tie.Need-returns
 unfolding arrayType row
 returns c =
@@ -33,4 +38,4 @@ returns-4 c =
 
 pub array-type-spec : {M : Type 1} → statement M
 array-type-spec =
-    tie.close (tie.spec (search needs) (search needs) (search needs) (λ c κs. search needs) (λ c κs. search needs) returns returns-2 returns-3 returns-4)
+    tie.close (tie.spec (search needs) role-of-requires (search needs) (λ c κs. search needs) (λ c κs. search needs) returns returns-2 returns-3 returns-4)

@@ -5,7 +5,7 @@ use Rattle.types.proofs.lawful.rind_shape.Tie as tie
 
 index-dimension-requires : tie.Need-index-dimension-requires
 unfolding zoneAbove
-index-dimension-requires c κs = (search needs, rw (c .parent-of2 .ensures .0, c .before .parent-of .ensures .0) (c .before .before .before .pre .1 .1))
+index-dimension-requires c κs = (search needs, rw (c .parent-of2 .ensures .0, c .before .parent-of .ensures .0) (c .before .before .before .before .pre .1 .1))
 
 returns : tie.Need-returns
 unfolding zoneAbove

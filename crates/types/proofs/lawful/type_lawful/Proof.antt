@@ -5,27 +5,34 @@ use mathlib.Core.Logic.{⊎-elim, inl, inr}
 use borrow.Author.Needs.{needs}
 use borrow.Author.Tests.{ne-eqb}
 use Rattle.model.specs.Lists.{row}
+use Rattle.model.specs.Image.{treeOf}
 use Rattle.model.specs.Values.{typeLawful, zoneTypeShape}
+use Rattle.model.proofs.Sections.{not-root}
+use Rattle.model.proofs.Above.{validated-above}
 use Rattle.types.proofs.Roles.{held-inside}
 use Rattle.types.proofs.lawful.type_lawful.Statement.{statement}
 use Rattle.types.proofs.lawful.type_lawful.Tie as tie
 
 zone-shape-requires : tie.Need-zone-shape-requires
 zone-shape-requires c κs =
-    let p = c .before .before .before .pre in
+    let p = c .before .before .before .before .pre in
     (p .0, p .1 .zone (sym (c .before .role-of .ensures .0) ∙ c .match .keys3))
 
 rind-shape-requires : tie.Need-rind-shape-requires
 rind-shape-requires c κs =
-    let d = c .before .before .before in
+    let d = c .before .before .before .before in
     let e = sym (c .before .role-of .ensures .0) ∙ c .match .keys8 in
-    ((d .pre .0, held-inside (d .args .image .now) (d .pre .0) (d .args .i) (d .pre .1 .inside) 9 e (λ (z : _≡_ {A = ℕ} 9 14). absurd (omega arith))), (d .pre .1 .inside, d .pre .1 .rind e))
+    ((d .pre .0, held-inside (d .args .image .now) (d .pre .0 .sound) (d .args .i) (d .pre .1 .inside) 9 e (λ (z : _≡_ {A = ℕ} 9 14). absurd (omega arith))), (d .pre .1 .inside, d .pre .1 .rind e))
 
 array-type-requires : tie.Need-array-type-requires
 array-type-requires c κs =
-    let d = c .before .before .before in
+    let d = c .before .before .before .before in
+    let b = d .args .image .now in
+    let s = d .pre .0 .sound in
+    let r = d .pre .1 in
     let e = sym (c .before .role-of .ensures .0) ∙ c .match .keys9 in
-    ((d .pre .0, d .pre .1 .inside), held-inside (d .args .image .now) (d .pre .0) (d .args .i) (d .pre .1 .inside) 11 e (λ (z : _≡_ {A = ℕ} 11 14). absurd (omega arith)))
+    let n : _≡_ {A = ℕ} 11 14 → ⊥ = λ z. absurd (omega arith) in
+    ((d .pre .0, r .inside), (held-inside b s (d .args .i) (r .inside) 11 e n, validated-above b s (d .args .i) (r .inside) (not-root (treeOf b) (d .args .i) 11 e n) (r .is-validated)))
 
 returns : tie.Need-returns
 unfolding typeLawful row
@@ -87,5 +94,5 @@ returns-10 c =
 
 pub type-lawful-spec : {M : Type 1} → statement M
 type-lawful-spec =
-    tie.close (tie.spec (search needs) (λ c κs. search needs) (λ c κs. search needs) zone-shape-requires (search needs) (search needs) (search needs) (λ c κs. search needs) rind-shape-requires
+    tie.close (tie.spec (λ c κs. let p = c .before .before .pre in ((p .0, p .1 .inside), p .1 .is-validated)) (λ c κs. search needs) (λ c κs. search needs) zone-shape-requires (search needs) (search needs) (search needs) (λ c κs. search needs) rind-shape-requires
     array-type-requires returns returns-2 returns-3 returns-4 returns-5 returns-6 returns-7 returns-8 returns-9 returns-10)

@@ -12,16 +12,16 @@ returns c = (rw (sym (c .before .structured .ensures) ∙ not-true _ (c .if1 .ta
 
 whole-requires : tie.Need-whole-requires
 whole-requires c κs =
-    let d = c .before .before .before .before in
-    (search needs, rw (c .parent-of .ensures .0) (based-has (d .args .image .now) (d .pre .0) (d .args .z) (d .pre .1)))
+    let d = c .before .before .before .before .before in
+    (search needs, rw (c .parent-of .ensures .0) (based-has (d .args .image .now) (d .pre .0 .sound) (d .args .z) (d .pre .1)))
 
 returns-2 : tie.Need-returns-2
 unfolding indexDimension cellDimension
 returns-2 c =
-    let d = c .before .before .before .before .before in
+    let d = c .before .before .before .before .before .before in
     let s = c .before .before in
     let e = rw (c .before .parent-of .ensures .0) at (c .whole .ensures) in
-    let l = cell-dimension (d .args .image .now) (d .pre .0) (d .args .z) (d .pre .1) in
+    let l = cell-dimension (d .args .image .now) (d .pre .0 .sound) (d .args .z) (d .pre .1) in
     (rw (sym (s .before .structured .ensures) ∙ not-false _ (s .if1 .left)) e, rw e (l .0), rw e (l .1))
 
 pub index-dimension-spec : {M : Type 1} → statement M
