@@ -1,4 +1,4 @@
-// DataSize: the sizes of the arrays under a GridCoordinates_t or FlowSolution_t node p, whose children are before `end`.
+// DataSize: the sizes of the arrays under a GridCoordinates_t or FlowSolution_t node p.
 ghost use mathlib.Core.Path.{_≡_};
 ghost use Prim.Native.Nat.{_+_, _*_, _≤_, _<_};
 ghost use Rattle.model.specs.Bytes.{text};
@@ -6,10 +6,10 @@ ghost use Rattle.model.specs.Image.{treeOf, nodeCount, parent};
 ghost use Rattle.model.specs.Given.{Sound};
 ghost use Rattle.model.specs.Containment.{Rind};
 ghost use Rattle.model.specs.Values.{indexDimension, conforming, cellCentred, rindNumber, dataSize};
-ghost use Rattle.labels.specs.Ends.{ChildrenBefore};
-ghost use Rattle.sids.specs.Given.{Held};
+ghost use Rattle.index.specs.Index.{Index};
+ghost use Rattle.sids.specs.Given.{Held, Sized};
 ghost use Rattle.sids.specs.Sizes.{direction, directions, innerSize};
-use super::children::conforming_before;
+use super::children::conforming;
 use super::zone::zone_sizes;
 use labels::roles;
 
@@ -17,29 +17,27 @@ use labels::roles;
 const NO_RIND: u64 = 0;
 
 // The arrays under p stand at CellCenter.
-fn cell_centred(image: &[u8], p: usize, end: usize) -> bool
-    requires { ⌜ Sound (now image) × (p < nodeCount (now image)) ⌝ }
-    requires { ⌜ ChildrenBefore (now image) p end ⌝ }
+fn cell_centred(image: &[u8], index: &[u16], p: usize) -> bool
+    requires { ⌜ Index (now image) (now index) × Sized (now image) p ⌝ }
     ensures { λ r. ⌜ r ≡ cellCentred (treeOf (now (image .entry))) p ⌝ }
 {
-    if labels::role_of(image, p) != roles::FLOW_SOLUTION {
+    if index::kind_of(image, index, p) != roles::FLOW_SOLUTION {
         return false;
     }
     types::reads_if_found(
         image,
-        conforming_before(image, p, roles::GRID_LOCATION, b"GridLocation", end),
+        conforming(image, index, index::location(image, index, p)),
         b"CellCenter",
     )
 }
 
 // VertexSize, or CellSize for CellCenter, in each direction.
-fn inner_sizes(image: &[u8], p: usize, end: usize) -> [u64; 3]
-    requires { ⌜ Sound (now image) × Held (now image) p ⌝ }
-    requires { ⌜ ChildrenBefore (now image) p end ⌝ }
+fn inner_sizes(image: &[u8], index: &[u16], p: usize) -> [u64; 3]
+    requires { ⌜ Index (now image) (now index) × Sized (now image) p ⌝ }
     ensures { λ r. ⌜ r ≡ directions (innerSize (treeOf (now (image .entry))) p) (indexDimension (treeOf (now (image .entry))) (parent (treeOf (now (image .entry))) p)) ⌝ }
 {
-    let sizes = zone_sizes(image, records::parent_of(image, p));
-    if cell_centred(image, p, end) {
+    let sizes = zone_sizes(image, index, records::parent_of(image, p));
+    if cell_centred(image, index, p) {
         return sizes[1];
     }
     sizes[0]
@@ -73,14 +71,13 @@ fn data_size_at(image: &[u8], p: usize, rind: usize, n: usize, inner: [u64; 3], 
 }
 
 // DataSize under node p in each direction; 0 in a direction that the zone lacks.
-pub fn data_sizes(image: &[u8], p: usize, end: usize) -> [u64; 3]
-    requires { ⌜ Sound (now image) × Held (now image) p ⌝ }
-    requires { ⌜ ChildrenBefore (now image) p end ⌝ }
+pub fn data_sizes(image: &[u8], index: &[u16], p: usize) -> [u64; 3]
+    requires { ⌜ Index (now image) (now index) × Sized (now image) p ⌝ }
     ensures { λ r. ⌜ r ≡ directions (dataSize (treeOf (now (image .entry))) p) (indexDimension (treeOf (now (image .entry))) (parent (treeOf (now (image .entry))) p)) ⌝ }
 {
-    let inner = inner_sizes(image, p, end);
-    let rind = conforming_before(image, p, roles::RIND, b"Rind", end);
-    let n = types::index_dimension(image, records::parent_of(image, p)) as usize;
+    let inner = inner_sizes(image, index, p);
+    let rind = conforming(image, index, index::rind(image, index, p));
+    let n = types::index_dimension(image, index, records::parent_of(image, p)) as usize;
     let i = data_size_at(image, p, rind, n, inner, 0);
     let j = data_size_at(image, p, rind, n, inner, 1);
     let k = data_size_at(image, p, rind, n, inner, 2);

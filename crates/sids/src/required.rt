@@ -1,33 +1,35 @@
 // Rules 20 and 23: a node in its place, with the children that it needs.
 ghost use mathlib.Core.Path.{_≡_};
-ghost use mathlib.Core.Bool.{_&&_};
+ghost use mathlib.Core.Bool.{true, _&&_};
 ghost use Prim.Native.Nat.{_<_};
 ghost use Rattle.model.specs.Lists.{someFrom};
 ghost use Rattle.model.specs.Image.{treeOf, nodeCount};
 ghost use Rattle.model.specs.Given.{Sound};
-ghost use Rattle.model.specs.Containment.{found};
+ghost use Rattle.model.specs.Containment.{found, validated, Elements};
 ghost use Rattle.model.specs.Values.{placed, baseChild, complete, rangeOf, connectivityOf};
+ghost use Rattle.index.specs.Index.{kind, Index};
 use super::children::connectivity_of;
 use super::children::range_of;
 use labels::roles;
 
 // Rule 20: the placing table has the label under this parent; Elements_t in an unstructured zone only.
-pub fn placed(image: &[u8], i: usize) -> bool
-    requires { ⌜ Sound (now image) × (i < nodeCount (now image)) ⌝ }
+pub fn placed(image: &[u8], index: &[u16], i: usize) -> bool
+    requires { ⌜ Index (now image) (now index) × (i < nodeCount (now image)) ⌝ }
+    requires { ⌜ validated (treeOf (now image)) i ≡ true ⌝ }
     ensures { λ r. ⌜ r ≡ placed (treeOf (now (image .entry))) i ⌝ }
 {
     if i == 0 {
         return true;
     }
     let up = records::parent_of(image, i);
-    let role = labels::role_of(image, i);
-    if !labels::may_hold(labels::role_of(image, up), role) {
+    let role = index::role_of(image, index, i);
+    if !labels::may_hold(index::role_of(image, index, up), role) {
         return false;
     }
     if role != roles::ELEMENTS {
         return true;
     }
-    types::unstructured(image, up)
+    types::unstructured(image, index, up)
 }
 
 // Node j is a CGNSBase_t child of the root.
@@ -55,24 +57,26 @@ fn has_base(image: &[u8]) -> bool
 }
 
 // A section has its range and its connectivity.
-fn section_complete(image: &[u8], s: usize) -> bool
-    requires { ⌜ Sound (now image) × (s < nodeCount (now image)) ⌝ }
+fn section_complete(image: &[u8], index: &[u16], s: usize) -> bool
+    requires { ⌜ Index (now image) (now index) × (s < nodeCount (now image)) ⌝ }
+    requires { ⌜ kind (treeOf (now image)) s ≡ Elements ⌝ }
     ensures { λ r. ⌜ r ≡ (found (treeOf (now (image .entry))) (rangeOf (treeOf (now (image .entry))) s) && found (treeOf (now (image .entry))) (connectivityOf (treeOf (now (image .entry))) s)) ⌝ }
 {
     let n = labels::node_count(image);
-    range_of(image, s) < n && connectivity_of(image, s) < n
+    range_of(image, index, s) < n && connectivity_of(image, index, s) < n
 }
 
 // Rule 23: the required children are there.
-pub fn complete(image: &[u8], i: usize) -> bool
-    requires { ⌜ Sound (now image) × (i < nodeCount (now image)) ⌝ }
+pub fn complete(image: &[u8], index: &[u16], i: usize) -> bool
+    requires { ⌜ Index (now image) (now index) × (i < nodeCount (now image)) ⌝ }
+    requires { ⌜ validated (treeOf (now image)) i ≡ true ⌝ }
     ensures { λ r. ⌜ r ≡ complete (treeOf (now (image .entry))) i ⌝ }
 {
-    let role = labels::role_of(image, i);
+    let role = index::role_of(image, index, i);
     match role {
         roles::ROOT => has_base(image),
-        roles::ZONE => types::zone_type_of(image, i) < labels::node_count(image),
-        roles::ELEMENTS => section_complete(image, i),
+        roles::ZONE => types::zone_type_of(image, index, i) < labels::node_count(image),
+        roles::ELEMENTS => section_complete(image, index, i),
         _ => true,
     }
 }

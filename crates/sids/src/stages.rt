@@ -4,13 +4,13 @@ ghost use mathlib.Core.Bool.{true};
 ghost use Prim.Native.Nat.{_<_};
 ghost use Rattle.model.specs.Rules.{check, rejected, rejection};
 ghost use Rattle.model.specs.Image.{treeOf, nodeCount, parent};
-ghost use Rattle.model.specs.Given.{Sound, NodesTo};
+ghost use Rattle.model.specs.Given.{NodesTo};
 ghost use Rattle.model.specs.Containment.{validated};
 ghost use Rattle.model.specs.Values.{sidsRules, sizedArray, sizesLawful};
 ghost use Rattle.model.specs.Answers.{stageTells};
-ghost use Rattle.labels.specs.Ends.{Ends};
+ghost use Rattle.index.specs.Index.{Index};
 ghost use Rattle.types.specs.Given.{Ready};
-ghost use Rattle.sids.specs.Given.{Held};
+ghost use Rattle.sids.specs.Given.{Sized};
 ghost use Rattle.sids.specs.Groups.{placeRules, contentRules};
 use super::data_size::data_sizes;
 use super::required::complete;
@@ -27,82 +27,81 @@ fn reject(rule: u64, node: usize) -> Stage
     Stage::Rejected(Rejection::at(rule, node as u64))
 }
 
-// Rules 20 to 22.
-fn place_stage(image: &[u8], i: usize) -> Stage
-    requires { ⌜ Sound (now image) × (i < nodeCount (now image)) ⌝ }
+// Rules 20 to 22. Rule 22 is never broken where 21 holds: labels allowed once have fixed names, and siblings differ in their names (rule 11).
+fn place_stage(image: &[u8], index: &[u16], i: usize) -> Stage
+    requires { ⌜ NodesTo (now image) i × (validated (treeOf (now image)) i ≡ true) ⌝ }
+    requires { ⌜ Index (now image) (now index) ⌝ }
     ensures { λ r. ⌜ stageTells r ≡ check i (placeRules (treeOf (now (image .entry))) i) ⌝ }
 {
-    if !placed(image, i) {
+    if !placed(image, index, i) {
         return reject(20, i);
     }
     if !labels::named(image, i) {
         return reject(21, i);
     }
-    if labels::second(image, i) {
-        return reject(22, i);
-    }
     Stage::Pass
 }
 
 // Rules 23 to 25.
-fn content_stage(image: &[u8], i: usize) -> Stage
-    requires { ⌜ Sound (now image) × Ready (now image) i ⌝ }
+fn content_stage(image: &[u8], index: &[u16], i: usize) -> Stage
+    requires { ⌜ Index (now image) (now index) × Ready (now image) i ⌝ }
     ensures { λ r. ⌜ stageTells r ≡ check i (contentRules (treeOf (now (image .entry))) i) ⌝ }
 {
-    if !complete(image, i) {
+    if !complete(image, index, i) {
         return reject(23, i);
     }
-    if !types::type_lawful(image, i) {
+    if !types::type_lawful(image, index, i) {
         return reject(24, i);
     }
-    if !value_lawful(image, i) {
+    if !value_lawful(image, index, i) {
         return reject(25, i);
     }
     Stage::Pass
 }
 
 // Node i is a coordinate or flow array.
-pub fn sized_array(image: &[u8], i: usize) -> bool
-    requires { ⌜ Sound (now image) × (i < nodeCount (now image)) ⌝ }
+pub fn sized_array(image: &[u8], index: &[u16], i: usize) -> bool
+    requires { ⌜ Index (now image) (now index) × (i < nodeCount (now image)) ⌝ }
+    requires { ⌜ validated (treeOf (now image)) i ≡ true ⌝ }
     ensures { λ r. ⌜ r ≡ sizedArray (treeOf (now (image .entry))) i ⌝ }
 {
-    if labels::role_of(image, i) != roles::DATA_ARRAY {
+    if index::role_of(image, index, i) != roles::DATA_ARRAY {
         return false;
     }
-    let above = labels::role_of(image, records::parent_of(image, i));
+    let above = index::role_of(image, index, records::parent_of(image, i));
     above == roles::GRID_COORDINATES || above == roles::FLOW_SOLUTION
 }
 
 // Rule 26: a coordinate or flow array has exactly the dimensions of DataSize.
-fn sizes_lawful(image: &[u8], ends: &[u16], i: usize) -> bool
-    requires { ⌜ Sound (now image) × (i < nodeCount (now image)) ⌝ }
-    requires { ⌜ Ends (now image) (now ends) (nodeCount (now image)) ⌝ }
-    requires { ⌜ (sizedArray (treeOf (now image)) i ≡ true → Held (now image) (parent (treeOf (now image)) i)) ⌝ }
+fn sizes_lawful(image: &[u8], index: &[u16], i: usize) -> bool
+    requires { ⌜ Index (now image) (now index) × (i < nodeCount (now image)) ⌝ }
+    requires { ⌜ validated (treeOf (now image)) i ≡ true ⌝ }
+    requires { ⌜ (sizedArray (treeOf (now image)) i ≡ true → Sized (now image) (parent (treeOf (now image)) i)) ⌝ }
     ensures { λ r. ⌜ r ≡ sizesLawful (treeOf (now (image .entry))) i ⌝ }
 {
-    if !sized_array(image, i) {
+    if !sized_array(image, index, i) {
         return true;
     }
     let up = records::parent_of(image, i);
-    let n = types::index_dimension(image, records::parent_of(image, up)) as usize;
-    types::shaped(image, i, n, data_sizes(image, up, ends[up] as usize))
+    let n = types::index_dimension(image, index, records::parent_of(image, up)) as usize;
+    types::shaped(image, i, n, data_sizes(image, index, up))
 }
 
-// Rules 20 to 26 at a validated node that validation has come to. `ends` tells where the children of each node end.
-pub fn sids_stage(image: &[u8], ends: &[u16], i: usize) -> Stage
+// Rules 20 to 26 at a validated node that validation has come to.
+pub fn sids_stage(image: &[u8], index: &[u16], i: usize) -> Stage
     requires { ⌜ NodesTo (now image) i × (validated (treeOf (now image)) i ≡ true) ⌝ }
-    requires { ⌜ Ends (now image) (now ends) (nodeCount (now image)) ⌝ }
+    requires { ⌜ Index (now image) (now index) ⌝ }
     ensures { λ r. ⌜ stageTells r ≡ check i (sidsRules (treeOf (now (image .entry))) i) ⌝ }
 {
-    let place = place_stage(image, i);
+    let place = place_stage(image, index, i);
     let Stage::Pass = place else {
         return place;
     };
-    let content = content_stage(image, i);
+    let content = content_stage(image, index, i);
     let Stage::Pass = content else {
         return content;
     };
-    if !sizes_lawful(image, ends, i) {
+    if !sizes_lawful(image, index, i) {
         return reject(26, i);
     }
     Stage::Pass

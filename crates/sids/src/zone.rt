@@ -5,6 +5,7 @@ ghost use Rattle.model.specs.Image.{treeOf, number};
 ghost use Rattle.model.specs.Given.{Sound};
 ghost use mathlib.Core.Bool.{cond};
 ghost use Rattle.model.specs.Values.{indexDimension, zoneValue};
+ghost use Rattle.index.specs.Index.{Index};
 ghost use Rattle.sids.specs.Given.{Shaped};
 ghost use Rattle.sids.specs.Sizes.{direction, directions, zoneSizes, sizeIn, structuredIn, unstructuredIn};
 
@@ -33,11 +34,11 @@ fn sizes_from(image: &[u8], z: usize, n: usize, from: usize) -> [u64; 3]
 }
 
 // VertexSize, CellSize and VertexSizeBoundary of zone z, one row each.
-pub fn zone_sizes(image: &[u8], z: usize) -> [[u64; 3]; 3]
-    requires { ⌜ Sound (now image) × Shaped (now image) z ⌝ }
+pub fn zone_sizes(image: &[u8], index: &[u16], z: usize) -> [[u64; 3]; 3]
+    requires { ⌜ Index (now image) (now index) × Shaped (now image) z ⌝ }
     ensures { λ r. ⌜ r ≡ zoneSizes (treeOf (now (image .entry))) z ⌝ }
 {
-    let n = types::index_dimension(image, z) as usize;
+    let n = types::index_dimension(image, index, z) as usize;
     let vertices = sizes_from(image, z, n, 0);
     let cells = sizes_from(image, z, n, n);
     let boundary = sizes_from(image, z, n, 2 * n);
@@ -91,13 +92,13 @@ fn sizes_permitted(structured: bool, sizes: [[u64; 3]; 3], d: usize) -> bool
 }
 
 // Rule 25 of Zone_t, direction by direction.
-pub fn zone_value(image: &[u8], z: usize) -> bool
-    requires { ⌜ Sound (now image) × Shaped (now image) z ⌝ }
+pub fn zone_value(image: &[u8], index: &[u16], z: usize) -> bool
+    requires { ⌜ Index (now image) (now index) × Shaped (now image) z ⌝ }
     ensures { λ r. ⌜ r ≡ zoneValue (treeOf (now (image .entry))) z ⌝ }
 {
-    let n = types::index_dimension(image, z) as usize;
-    let structured = types::structured(image, z);
-    let sizes = zone_sizes(image, z);
+    let n = types::index_dimension(image, index, z) as usize;
+    let structured = types::structured(image, index, z);
+    let sizes = zone_sizes(image, index, z);
     let mut d = 0;
     while d < n {
         if !sizes_permitted(structured, sizes, d) {
