@@ -68,7 +68,7 @@ someNames [] = true
 someNames ((a holds b called []) ∷ rest) = false
 someNames ((a holds b called (y ∷ n)) ∷ rest) = someNames rest
 
-fixed-or : (above below : ℕ) (d : List ℕ) (rows : List Named) → someNames rows ≡ true → fixedName above below d rows ≡ orElse d (fixedName above below [] rows)
+pub fixed-or : (above below : ℕ) (d : List ℕ) (rows : List Named) → someNames rows ≡ true → fixedName above below d rows ≡ orElse d (fixedName above below [] rows)
 unfolding fixedName
 fixed-or above below d [] t = refl
 fixed-or above below d ((a holds b called []) ∷ rest) t = untrue t

@@ -1,6 +1,7 @@
 -- Where validation has come to node i: what stands above a validated node that is placed as the table has it.
 use Prim.Native.Nat.{ℕ, _≤_, _<_}
 use mathlib.Core.Path.{_≡_, refl, sym, ap, _∙_}
+use mathlib.Core.Logic.{_⊎_, inl, inr}
 use mathlib.Core.Bool.{Bool, true, false, _||_}
 use mathlib.Core.List.{List, [], _∷_, _++_}
 use native.Mathlib.Omega.{arith}
@@ -21,9 +22,11 @@ use Rattle.model.proofs.Accepted.{sids-rule}
 use Rattle.model.proofs.Staging.{check-append}
 use Rattle.model.proofs.Sections.{not-root}
 use Rattle.model.proofs.Above.{validated-above, earlier-rule, held-by}
+use Rattle.index.specs.Index.{kind}
+use Rattle.index.proofs.Marking.{kind-role}
 use Rattle.types.specs.Given.{Based, Ready}
 use Rattle.types.proofs.Held.{or-none}
-use Rattle.sids.specs.Given.{Shaped, Held}
+use Rattle.sids.specs.Given.{Shaped, Held, Sized}
 use Rattle.sids.specs.Groups.{placeRules, contentRules, sizeRules}
 
 -- a list of one; what may hold a zone; what holds the three kinds of nodes under a zone
@@ -45,6 +48,10 @@ zone-holds above r k e = by-test (eqb r 5) refl (eqb r 6) refl (eqb r 7) refl k
     by-test false p false q true s h = among-one above Zone (held-by above 7 (rw (← eqb-true r 7 s) e))
     by-test false p false q false s h = untrue h
 
+pub section-zone : (above r : ℕ) → r ≡ Elements → mayHold above r ≡ true → above ≡ Zone
+unfolding among
+section-zone above r e h = zone-holds above r (rw e) h
+
 rind-under : (above : ℕ) → mayHold above Rind ≡ true → among above (GridCoordinates ∷ FlowSolution ∷ Elements ∷ []) ≡ true
 unfolding containment among
 rind-under above e = held-by above Rind e
@@ -54,7 +61,7 @@ unfolding among
 no-root t j r k e = not-root t j r e (λ (z : r ≡ 14). untrue (rw z at k))
 
 -- a node that is no root is one of the table's
-placed-held : (t : Tree) (i : ℕ) → (i ≡ 0 → ⊥) → placed t i ≡ true → mayHold (role t (parent t i)) (role t i) ≡ true
+pub placed-held : (t : Tree) (i : ℕ) → (i ≡ 0 → ⊥) → placed t i ≡ true → mayHold (role t (parent t i)) (role t i) ≡ true
 unfolding placed
 placed-held t i n e = and-first (mayHold (role t (parent t i)) (role t i)) _ (rw (ne-eqb i 0 n) at e)
 
@@ -94,6 +101,7 @@ module _ (b : List ℕ) (i : ℕ) (g : NodesTo b i) where
       let a = above j p (not-root (treeOf b) j Zone e (λ (z : _≡_ {A = ℕ} 3 14). absurd (omega arith))) in
       record {
         inside = omega arith;
+        zone = kind-role (treeOf b) j (p .is-validated) e;
         above = a .inside;
         base = base-holds (role (treeOf b) (parent (treeOf b) j)) (rw e at (a .holds));
         type = a .type;
@@ -117,6 +125,7 @@ module _ (b : List ℕ) (i : ℕ) (g : NodesTo b i) where
     ready =
         record {
           inside = g .inside;
+          is-validated = v;
           zone = λ e. based i here e;
           rind = λ e. rind-based e;
         }
@@ -133,7 +142,7 @@ module _ (b : List ℕ) (i : ℕ) (g : NodesTo b i) where
     section-held e = held i here (rw e)
 
     -- the zone of a coordinate or flow array
-    pub sized-held : sizedArray (treeOf b) i ≡ true → Held b (parent (treeOf b) i)
+    sized-held : sizedArray (treeOf b) i ≡ true → Held b (parent (treeOf b) i)
     unfolding sizedArray among
     sized-held e =
         let t = treeOf b in
@@ -145,6 +154,21 @@ module _ (b : List ℕ) (i : ℕ) (g : NodesTo b i) where
         three true y z h = refl
         three false true z h = refl
         three false false z h = untrue h
+
+    pub sized : sizedArray (treeOf b) i ≡ true → Sized b (parent (treeOf b) i)
+    unfolding sizedArray among
+    sized e =
+        let t = treeOf b in
+        let d = eqb-true (role t i) DataArray (and-first (eqb (role t i) DataArray) _ e) in
+        let n = not-root t i DataArray d (λ (z : _≡_ {A = ℕ} 11 14). absurd (omega arith)) in
+        let u = above i here n .upper .is-validated in
+        record { held = sized-held e; kind-is = by-test u (eqb (role t (parent t i)) 5) refl (eqb (role t (parent t i)) 6) refl (and-second (eqb (role t i) DataArray) _ e) }
+      where
+        by-test : validated (treeOf b) (parent (treeOf b) i) ≡ true → (x : Bool) → eqb (role (treeOf b) (parent (treeOf b) i)) 5 ≡ x → (y : Bool) → eqb (role (treeOf b) (parent (treeOf b) i)) 6 ≡ y
+            → (x || (y || false)) ≡ true → (kind (treeOf b) (parent (treeOf b) i) ≡ GridCoordinates) ⊎ (kind (treeOf b) (parent (treeOf b) i) ≡ FlowSolution)
+        by-test u true p y q h = inl (kind-role _ _ u (eqb-true _ 5 p))
+        by-test u false p true q h = inr (kind-role _ _ u (eqb-true _ 6 q))
+        by-test u false p false q h = untrue h
 
 -- no rule is left
 pub no-rule : (node : ℕ) → check node [] ≡ passed
@@ -174,8 +198,8 @@ module _ (b : List ℕ) (a : Accepted b) (i : ℕ) (h : i < nodeCount b) (v : va
   place = sids-rule b (a .image) 20 i h v
 
   -- the zone of a coordinate or flow array, and a zone itself
-  pub accepted-held : sizedArray (treeOf b) i ≡ true → Held b (parent (treeOf b) i)
-  accepted-held = sized-held b i (accepted-to b a i h) v place
+  pub accepted-sized : sizedArray (treeOf b) i ≡ true → Sized b (parent (treeOf b) i)
+  accepted-sized = sized b i (accepted-to b a i h) v place
 
   pub accepted-zone : role (treeOf b) i ≡ Zone → Shaped b i
   unfolding sidsRules

@@ -1,17 +1,25 @@
 -- What a search for a child found.
 use Prim.Native.Nat.{ℕ, _<_}
 use mathlib.Core.Path.{_≡_, sym, subst, _∙_}
-use mathlib.Core.Bool.{true, false, _&&_, _||_}
+use mathlib.Core.Bool.{Bool, true, false, not, _&&_}
 use mathlib.Core.List.{List}
-use lib.Dec.{eqb}
-use borrow.Author.Tests.{eqb-true, eq-eqb}
-use Rattle.model.specs.Image.{treeOf, nodeCount, parent}
-use Rattle.model.specs.Containment.{role, Zone, Rind, child, isChild}
-use Rattle.model.specs.Values.{zoneAbove}
-use Rattle.model.proofs.Logic.{untrue, and-first, and-second, or-left, or-right}
+use lib.Dec.{eqb, ltb}
+use borrow.Author.Tests.{eqb-true, eq-eqb, ltb-true, not-true}
+use Rattle.model.specs.Image.{Tree, treeOf, nodeCount, parent}
+use Rattle.model.specs.Containment.{role, validated, Zone, Rind, Root, UserDefinedData, child, isChild, orMissing}
+use Rattle.model.specs.Given.{Sound}
+use Rattle.model.specs.Values.{zoneAbove, typeLawful, valueLawful, conforming}
+use Rattle.model.proofs.Logic.{untrue, and-first, and-second}
+use Rattle.model.proofs.Validated.{validated-child}
+use Rattle.model.proofs.Sections.{not-root}
 use Rattle.model.proofs.Conforming.{child-is}
 use Rattle.types.specs.Given.{Based, Ready}
-use Rattle.sids.specs.Given.{Asked}
+use Rattle.index.specs.Index.{kind}
+use Rattle.index.proofs.Marking.{kind-parts}
+
+-- a child of role r, but a zone, is looked up under a node of kind k
+abbrev pub asked : ℕ → ℕ → Bool
+asked k r = (ltb 0 k && not (eqb k UserDefinedData)) && (ltb 0 r && not (eqb r Root) && not (eqb r Zone))
 
 module _ (b : List ℕ) (i r : ℕ) (n : List ℕ) (h : child (treeOf b) i r n < nodeCount b) where
   found-child : isChild (treeOf b) i r n (child (treeOf b) i r n) ≡ true
@@ -30,32 +38,29 @@ module _ (b : List ℕ) (i r : ℕ) (n : List ℕ) (h : child (treeOf b) i r n <
       let j = child (treeOf b) i r n in
       eqb-true _ _ (and-second (eqb (parent (treeOf b) j) i) _ (and-first (eqb (parent (treeOf b) j) i && eqb (role (treeOf b) j) r) _ found-child))
 
-  -- it can be judged
-  pub child-ready : Asked b i r → Ready b (child (treeOf b) i r n)
+  -- it has a known label, and stands under a validated node that is no UserDefinedData_t: it can be judged
+  child-ready : Sound b → {k : ℕ} → kind (treeOf b) i ≡ k → asked k r ≡ true → (r ≡ Rind → Based b (parent (treeOf b) i)) → Ready b (child (treeOf b) i r n)
   unfolding zoneAbove
-  child-ready a =
+  child-ready s {k} e q f =
+      let j = child (treeOf b) i r n in
+      let p = kind-parts (treeOf b) i e (ltb-true 0 k (and-first (ltb 0 k) _ (and-first (ltb 0 k && not (eqb k UserDefinedData)) _ q))) in
+      let l = and-second (ltb 0 k && not (eqb k UserDefinedData)) _ q in
+      let known = and-first (ltb 0 r) _ (and-first (ltb 0 r && not (eqb r Root)) _ l) in
+      let other : (x : ℕ) → not (eqb r x) ≡ true → r ≡ x → ⊥ = λ x g z. untrue (sym (not-true (eqb r x) g) ∙ eq-eqb r x z) in
+      let root = other Root (and-second (ltb 0 r) _ (and-first (ltb 0 r && not (eqb r Root)) _ l)) in
+      let foreign = not-true (eqb k UserDefinedData) (and-second (ltb 0 k) _ (and-first (ltb 0 k && not (eqb k UserDefinedData)) _ q)) in
       record {
         inside = h;
-        zone = λ e. absurd (a .zone (sym child-role ∙ e));
-        rind = λ e. subst (λ (p : ℕ). Based b (parent (treeOf b) p)) (sym child-parent) (a .rind (sym child-role ∙ e));
+        is-validated = validated-child b s j i h (not-root (treeOf b) j r child-role root) child-parent (p .0) (rw (p .1) foreign) ∙ rw child-role known;
+        zone = λ z. absurd (other Zone (and-second (ltb 0 r && not (eqb r Root)) _ l) (sym child-role ∙ z));
+        rind = λ z. subst (λ (p : ℕ). Based b (parent (treeOf b) p)) (sym child-parent) (f (sym child-role ∙ z));
       }
 
-pub found-ready : (b : List ℕ) (i r : ℕ) (n : List ℕ) {j : ℕ} → j ≡ child (treeOf b) i r n → j < nodeCount b → Asked b i r → Ready b j
-found-ready b i r n {j} e h a = rw e (child-ready b i r n (rw (← e) h) a)
+pub found-ready : (b : List ℕ) → Sound b → (i r : ℕ) (n : List ℕ) {j k : ℕ} → kind (treeOf b) i ≡ k → asked k r ≡ true → (r ≡ Rind → Based b (parent (treeOf b) i)) → j ≡ child (treeOf b) i r n
+    → j < nodeCount b → Ready b j
+found-ready b s i r n {j} e q f g h = rw g (child-ready b i r n (rw (← g) h) s e q f)
 
--- no zone and no Rind_t: nothing above matters
-pub plain : (b : List ℕ) (i r : ℕ) → i < nodeCount b → (eqb r Zone || eqb r Rind) ≡ false → Asked b i r
-plain b i r h e =
-    record {
-      inside = h;
-      zone = λ z. untrue (sym e ∙ or-left (eqb r Zone) (eqb r Rind) (eq-eqb r Zone z));
-      rind = λ z. untrue (sym e ∙ or-right (eqb r Zone) (eqb r Rind) (eq-eqb r Rind z));
-    }
-
-pub plain-ready : (b : List ℕ) (i r : ℕ) → i < nodeCount b → role (treeOf b) i ≡ r → (eqb r Zone || eqb r Rind) ≡ false → Ready b i
-plain-ready b i r h q e =
-    record {
-      inside = h;
-      zone = λ z. untrue (sym e ∙ or-left (eqb r Zone) (eqb r Rind) (eq-eqb r Zone (sym q ∙ z)));
-      rind = λ z. untrue (sym e ∙ or-right (eqb r Zone) (eqb r Rind) (eq-eqb r Rind (sym q ∙ z)));
-    }
+-- a looked-up child, or nothing, as rules 24 and 25 have it
+pub conforming-by : (t : Tree) (i r : ℕ) (n : List ℕ) {j x : ℕ} → j ≡ child t i r n → x ≡ orMissing t (typeLawful t j && valueLawful t j) j → x ≡ conforming t i r n
+unfolding conforming
+conforming-by t i r n e f = f ∙ rw e

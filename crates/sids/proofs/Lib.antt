@@ -2,3 +2,5 @@ pub mod Zones
 pub mod Found
 pub mod Rinds
 pub mod Context
+pub mod Sized
+pub mod Once

@@ -5,7 +5,7 @@ use Rattle.sids.proofs.data_size.inner_sizes.Statement.{statement}
 use Rattle.sids.proofs.data_size.inner_sizes.Tie as tie
 
 zone-sizes-requires : tie.Need-zone-sizes-requires
-zone-sizes-requires c κs = let s = c .before .before in (s .pre .0 .0, rw (c .parent-of .ensures .0) (s .pre .0 .1 .zone))
+zone-sizes-requires c κs = let p = c .before .before .before .pre in (p .0, rw (c .parent-of .ensures .0) (p .1 .held .zone))
 
 returns : tie.Need-returns
 returns c =
@@ -19,4 +19,4 @@ returns-2 c =
 
 pub inner-sizes-spec : {M : Type 1} → statement M
 inner-sizes-spec =
-    tie.close (tie.spec (search needs) zone-sizes-requires (λ c κs. search needs) (search needs) returns (search needs) returns-2)
+    tie.close (tie.spec (λ c κs. let p = c .before .before .pre in (p .0 .sound .laid, p .1 .held .inside)) zone-sizes-requires (λ c κs. search needs) (search needs) returns (search needs) returns-2)

@@ -5,6 +5,7 @@ use Rattle.model.specs.Lists.{row}
 use Rattle.model.specs.Image.{treeOf}
 use Rattle.model.specs.Containment.{found}
 use Rattle.model.specs.Values.{complete}
+use Rattle.index.proofs.Marking.{kind-role}
 use Rattle.sids.proofs.required.complete.Statement.{statement}
 use Rattle.sids.proofs.required.complete.Tie as tie
 
@@ -30,4 +31,6 @@ returns-4 c =
 
 pub complete-spec : {M : Type 1} → statement M
 complete-spec =
-    tie.close (tie.spec (search needs) (λ c κs. search needs) (λ c κs. search needs) (search needs) (λ c κs. search needs) returns returns-2 returns-3 returns-4)
+    tie.close (tie.spec (λ c κs. search needs) (λ c κs. search needs)
+    (λ c κs. let p = c .before .before .before .before .pre in (p .0, kind-role _ _ (p .1) (sym (c .before .role-of .ensures .0) ∙ c .match .keys2))) (search needs)
+    (λ c κs. let p = c .before .before .before .before .pre in (p .0, kind-role _ _ (p .1) (sym (c .before .role-of .ensures .0) ∙ c .match .keys3))) returns returns-2 returns-3 returns-4)

@@ -5,6 +5,9 @@ use borrow.Author.Tests.{eq-eqb, ne-eqb, not-true, not-false}
 use Rattle.model.specs.Lists.{_⊃_}
 use Rattle.model.specs.Image.{treeOf}
 use Rattle.model.specs.Values.{placed}
+use Rattle.model.proofs.Above.{validated-above}
+use Rattle.index.proofs.Marking.{kind-role}
+use Rattle.sids.proofs.Context.{section-zone}
 use Rattle.model.proofs.Parents.{parent-lower, lawful-at}
 use Rattle.sids.proofs.required.placed.Statement.{statement}
 use Rattle.sids.proofs.required.placed.Tie as tie
@@ -16,10 +19,11 @@ returns c = rw (eq-eqb _ 0 (c .if1 .taken))
 role-of-requires-2 : tie.Need-role-of-requires-2
 role-of-requires-2 c κs =
     let d = c .before in
-    let s = d .before .before .before in
-    let h = parent-lower (treeOf (s .args .image .now)) (s .args .i) (lawful-at (s .args .image .now) (s .pre .0) (s .args .i) (s .pre .1)) (d .before .if1 .left) in
+    let s = d .before .before .before .before in
+    let b = s .args .image .now in
     let e = d .parent-of .ensures .0 in
-    (search needs, omega arith)
+    let h = parent-lower (treeOf b) (s .args .i) (lawful-at b (s .pre .0 .0 .sound) (s .args .i) (s .pre .0 .1)) (d .before .if1 .left) in
+    ((s .pre .0 .0, omega (arith, s .pre .0 .1)), rw e (validated-above b (s .pre .0 .0 .sound) (s .args .i) (s .pre .0 .1) (d .before .if1 .left) (s .pre .1)))
 
 returns-2 : tie.Need-returns-2
 unfolding placed
@@ -44,11 +48,15 @@ returns-3 c =
 
 unstructured-requires : tie.Need-unstructured-requires
 unstructured-requires c κs =
+    let m = c .before .before in
     let d = c .before .before .before .before .before in
-    let s = d .before .before .before in
-    let h = parent-lower (treeOf (s .args .image .now)) (s .args .i) (lawful-at (s .args .image .now) (s .pre .0) (s .args .i) (s .pre .1)) (d .before .if1 .left) in
+    let s = d .before .before .before .before in
+    let b = s .args .image .now in
     let e = d .parent-of .ensures .0 in
-    (search needs, omega arith)
+    let h = parent-lower (treeOf b) (s .args .i) (lawful-at b (s .pre .0 .0 .sound) (s .args .i) (s .pre .0 .1)) (d .before .if1 .left) in
+    let v = validated-above b (s .pre .0 .0 .sound) (s .args .i) (s .pre .0 .1) (d .before .if1 .left) (s .pre .1) in
+    let z = section-zone _ _ (c .if3 .left) (sym (m .may-hold .ensures) ∙ not-false _ (c .before .if2 .left)) in
+    ((s .pre .0 .0, omega (arith, s .pre .0 .1)), kind-role _ _ (rw e v) (sym (m .before .role-of2 .ensures .0) ∙ z))
 
 returns-4 : tie.Need-returns-4
 unfolding placed _⊃_
@@ -66,4 +74,4 @@ returns-4 c =
 
 pub placed-spec : {M : Type 1} → statement M
 placed-spec =
-    tie.close (tie.spec returns (search needs) (search needs) role-of-requires-2 (search needs) returns-2 returns-3 unstructured-requires returns-4)
+    tie.close (tie.spec returns (search needs) (λ c κs. search needs) role-of-requires-2 (search needs) returns-2 returns-3 unstructured-requires returns-4)

@@ -17,7 +17,7 @@ returns-2 c =
 
 value-lawful-requires : tie.Need-value-lawful-requires
 value-lawful-requires c κs =
-    let g = c .before in (g .before .before .before .before .pre, sym (g .type-lawful .ensures) ∙ not-false _ (c .if2 .left))
+    let g = c .before in (g .before .before .before .before .before .pre, sym (g .type-lawful .ensures) ∙ not-false _ (c .if2 .left))
 
 returns-3 : tie.Need-returns-3
 returns-3 c =

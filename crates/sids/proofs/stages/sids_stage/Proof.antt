@@ -4,7 +4,7 @@ use borrow.Author.Needs.{needs}
 use borrow.Author.Tests.{not-true, not-false}
 use Rattle.model.proofs.Passed.{check-pass}
 use Rattle.model.proofs.Staging.{passes, stop, go, broken, kept}
-use Rattle.sids.proofs.Context.{no-rule, ready, sized-held, sids-groups}
+use Rattle.sids.proofs.Context.{no-rule, ready, sized, sids-groups}
 use Rattle.sids.proofs.stages.sids_stage.Statement.{statement}
 use Rattle.sids.proofs.stages.sids_stage.Tie as tie
 
@@ -15,7 +15,7 @@ content-stage-requires : tie.Need-content-stage-requires
 content-stage-requires c κs =
     let s = c .before .before .before .before .before in
     let q = check-pass _ _ (passes (c .before .before .place-stage .ensures) (c .enum-told .given .1)) .0 in
-    (s .pre .0 .0 .sound, ready (s .args .image .now) (s .args .i) (s .pre .0 .0) (s .pre .0 .1) q)
+    (s .pre .1, ready (s .args .image .now) (s .args .i) (s .pre .0 .0) (s .pre .0 .1) q)
 
 returns-2 : tie.Need-returns-2
 returns-2 c =
@@ -27,7 +27,7 @@ sizes-lawful-requires c κs =
     let d = c .before .before .before in
     let s = d .before .before .before .before .before in
     let q = check-pass _ _ (passes (d .before .before .place-stage .ensures) (d .enum-told .given .1)) .0 in
-    ((s .pre .0 .0 .sound, s .pre .0 .0 .inside), (s .pre .1, sized-held (s .args .image .now) (s .args .i) (s .pre .0 .0) (s .pre .0 .1) q))
+    ((s .pre .1, s .pre .0 .0 .inside), (s .pre .0 .1, sized (s .args .image .now) (s .args .i) (s .pre .0 .0) (s .pre .0 .1) q))
 
 returns-3 : tie.Need-returns-3
 returns-3 c =

@@ -10,33 +10,33 @@ use Rattle.sids.proofs.values.value_lawful.Tie as tie
 
 pair-within-requires : tie.Need-pair-within-requires
 pair-within-requires c κs =
-    let d = c .before .before .before in
+    let d = c .before .before .before .before in
     let e = sym (c .before .role-of .ensures .0) ∙ c .match .keys1 in
-    (d .pre .0 .0, base-has (d .args .image .now) (d .pre .0 .0) (d .args .i) (d .pre .0 .1 .inside) e (d .pre .1))
+    (d .pre .0 .0 .sound, base-has (d .args .image .now) (d .pre .0 .0 .sound) (d .args .i) (d .pre .0 .1 .inside) e (d .pre .1))
 
 zone-value-requires : tie.Need-zone-value-requires
 zone-value-requires c κs =
-    let d = c .before .before .before in
+    let d = c .before .before .before .before in
     let e = sym (c .before .role-of .ensures .0) ∙ c .match .keys2 in
     (d .pre .0 .0, record { based = d .pre .0 .1 .zone e; zone = e; type = d .pre .1 })
 
 not-negative-requires : tie.Need-not-negative-requires
 not-negative-requires c κs =
-    let d = c .before .before .before in
+    let d = c .before .before .before .before in
     let e = sym (c .before .role-of .ensures .0) ∙ c .match .keys4 in
-    (d .pre .0 .0, elements-has (d .args .image .now) (d .pre .0 .0) (d .args .i) (d .pre .0 .1 .inside) e (d .pre .1))
+    (d .pre .0 .0 .sound, elements-has (d .args .image .now) (d .pre .0 .0 .sound) (d .args .i) (d .pre .0 .1 .inside) e (d .pre .1))
 
 pair-within-requires-2 : tie.Need-pair-within-requires-2
 pair-within-requires-2 c κs =
-    let d = c .before .before .before in
+    let d = c .before .before .before .before in
     let e = sym (c .before .role-of .ensures .0) ∙ c .match .keys5 in
-    (d .pre .0 .0, range-has (d .args .image .now) (d .pre .0 .0) (d .args .i) (d .pre .0 .1 .inside) e (d .pre .1))
+    (d .pre .0 .0 .sound, range-has (d .args .image .now) (d .pre .0 .0 .sound) (d .args .i) (d .pre .0 .1 .inside) e (d .pre .1))
 
 rind-value-requires : tie.Need-rind-value-requires
 rind-value-requires c κs =
-    let d = c .before .before .before in
+    let d = c .before .before .before .before in
     let e = sym (c .before .role-of .ensures .0) ∙ c .match .keys6 in
-    ((d .pre .0 .0, d .pre .0 .1 .inside), (rind-four (treeOf (d .args .image .now)) (d .args .i) e (d .pre .1), rind-flat (treeOf (d .args .image .now)) (d .args .i) e (d .pre .1)))
+    ((d .pre .0 .0 .sound, d .pre .0 .1 .inside), (rind-four (treeOf (d .args .image .now)) (d .args .i) e (d .pre .1), rind-flat (treeOf (d .args .image .now)) (d .args .i) e (d .pre .1)))
 
 returns : tie.Need-returns
 unfolding valueLawful row baseValue
@@ -83,5 +83,5 @@ returns-8 c =
 
 pub value-lawful-spec : {M : Type 1} → statement M
 value-lawful-spec =
-    tie.close (tie.spec (search needs) pair-within-requires zone-value-requires (λ c κs. search needs) not-negative-requires pair-within-requires-2 rind-value-requires
+    tie.close (tie.spec (λ c κs. let p = c .before .before .pre .0 in ((p .0, p .1 .inside), p .1 .is-validated)) pair-within-requires zone-value-requires (λ c κs. search needs) not-negative-requires pair-within-requires-2 rind-value-requires
     (λ c κs. search needs) returns returns-2 returns-3 returns-4 returns-5 returns-6 returns-7 returns-8)

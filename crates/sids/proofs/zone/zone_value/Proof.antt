@@ -12,10 +12,10 @@ use Rattle.sids.proofs.zone.zone_value.Statement.{statement}
 use Rattle.sids.proofs.zone.zone_value.Tie as tie
 
 abbrev Inv-loop : tie.InvT-loop
-Inv-loop image z n which sizes d₀ d = EveryLeft (permittedIn (treeOf image) z) n d (zoneValue (treeOf image) z)
+Inv-loop image index z n which sizes d₀ d = EveryLeft (permittedIn (treeOf image) z) n d (zoneValue (treeOf image) z)
 
 abbrev μ-loop : tie.MeasureT-loop
-μ-loop image z n which sizes d₀ d = n - d
+μ-loop image index z n which sizes d₀ d = n - d
 
 loop-holds : tie.Need-loop-holds Inv-loop μ-loop
 loop-holds c = rw (zone-value-is _ _, ← c .before .before .index-dimension .ensures .0) (every-start _ _)
@@ -24,7 +24,7 @@ returns : tie.Need-returns Inv-loop μ-loop
 returns c =
     let l = c .before .before .before in
     let p = l .before .before .before in
-    let a = p .before .before .args in
+    let a = p .before .before .before .args in
     let f = rw (l .before .before .structured .ensures, l .before .zone-sizes .ensures) at (c .before .sizes-permitted .ensures) in
     let h : l .loop .d < indexDimension (treeOf (a .image .now)) (a .z) = rw (← p .index-dimension .ensures .0) (c .before .before .loop-test .taken) in
     let k : indexDimension (treeOf (a .image .now)) (a .z) ≤ 3 = rw (← p .index-dimension .ensures .0) (p .index-dimension .ensures .2) in
@@ -35,7 +35,7 @@ loop-again : tie.Need-loop-again Inv-loop μ-loop
 loop-again c =
     let l = c .before .before .before in
     let p = l .before .before .before in
-    let a = p .before .before .args in
+    let a = p .before .before .before .args in
     let f = rw (l .before .before .structured .ensures, l .before .zone-sizes .ensures) at (c .before .sizes-permitted .ensures) in
     let h : l .loop .d < indexDimension (treeOf (a .image .now)) (a .z) = rw (← p .index-dimension .ensures .0) (c .before .before .loop-test .taken) in
     let k : indexDimension (treeOf (a .image .now)) (a .z) ≤ 3 = rw (← p .index-dimension .ensures .0) (p .index-dimension .ensures .2) in
