@@ -1,0 +1,6 @@
+pub mod Moving
+pub mod Halving
+pub mod Inserting
+pub mod Half
+pub mod Gathering
+pub mod Keys
