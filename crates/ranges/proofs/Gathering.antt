@@ -39,7 +39,7 @@ module _ (test : ℕ → Bool) (firstOf lastOf : ℕ → ℕ) where
   gathered-start firsts reach =
       record {
         few = omega arith;
-        ordered = record { firsts-rise = record { room = omega arith; rises = λ i h. absurd (omega arith) }; reach-rises = record { room = omega arith; rises = λ i h. absurd (omega arith) } };
+        ordered = omega arith;
         meets = λ a c. refl;
       }
 

@@ -7,7 +7,7 @@ use lib.Dec.{leb, eqb}
 use borrow.Author.Tests.{leb-true, le-leb, eqb-true, eq-eqb}
 use Rattle.model.proofs.Logic.{and-first, and-second, and-both}
 use Rattle.ranges.specs.Tables.{key}
-use Rattle.ranges.proofs.Inserting.{both}
+use Rattle.ranges.proofs.Cases.{both}
 
 -- a to b of zone z meet c to d of zone y; with c and d one number, a to b hold it
 pub key-meets : (z y a b c d : ℕ) → b < 4294967296 → d < 4294967296

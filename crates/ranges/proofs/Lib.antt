@@ -1,3 +1,4 @@
+pub mod Cases
 pub mod Moving
 pub mod Halving
 pub mod Inserting

@@ -1,5 +1,5 @@
 -- Ranges of numbers in two tables, in ascending order of their first numbers: firsts[j], and reach[j], the greatest last number of the ranges up to j.
-use Prim.Native.Nat.{ℕ, suc, _+_, _-_, _*_, _≤_, _<_}
+use Prim.Native.Nat.{ℕ, suc, _+_, _*_, _≤_, _<_}
 use mathlib.Core.Path.{_≡_}
 use mathlib.Core.Bool.{Bool, _&&_, _||_}
 use mathlib.Core.List.{List, _∷_}
@@ -38,10 +38,6 @@ pub record Begun (firsts : List ℕ) (n f r left : ℕ) : Type 0 where
   pub inside : r + left ≤ n
   pub begins : (i : ℕ) → i < r → getD firsts i 0 ≤ f
   pub later : (i : ℕ) → r + left ≤ i → i < n → f < getD firsts i 0
-
--- the greater of two numbers: a difference is 0 at least
-abbrev pub greater : ℕ → ℕ → ℕ
-greater x y = x + (y - x)
 
 -- a table with the entries from a place to n moved up by one, each changed by g; entry `place` is free
 pub record Shifted (g : ℕ → ℕ) (old new : List ℕ) (n place : ℕ) : Type 0 where

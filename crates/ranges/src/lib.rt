@@ -3,11 +3,11 @@
 ghost use mathlib.Core.Path.{_≡_};
 ghost use mathlib.Core.Bool.{true};
 ghost use mathlib.Core.List.{_∷_};
-ghost use Prim.Native.Nat.{_≤_, _<_};
+ghost use Prim.Native.Nat.{_≤_, _<_, max};
 ghost use lib.Dec.{ltb};
 ghost use lib.ListN.{length, getD};
 ghost use Rattle.model.specs.Lists.{someFrom};
-ghost use Rattle.ranges.specs.Tables.{key, meetsAt, holds, inRanges, Rising, Ordered, Begun, greater, Shifted, Inserted};
+ghost use Rattle.ranges.specs.Tables.{key, meetsAt, holds, inRanges, Rising, Ordered, Begun, Shifted, Inserted};
 
 // The number of an element with its zone, so that one table serves all zones of an image.
 pub fn key(zone: usize, number: u64) -> u64
@@ -19,7 +19,7 @@ pub fn key(zone: usize, number: u64) -> u64
 
 // The greater of two numbers.
 fn greater(x: u64, y: u64) -> u64
-    ensures { λ r. ⌜ r ≡ greater x y ⌝ }
+    ensures { λ r. ⌜ r ≡ max x y ⌝ }
 {
     if x < y { y } else { x }
 }
@@ -27,7 +27,7 @@ fn greater(x: u64, y: u64) -> u64
 // The greater of the entry before k and a number; the number where there is no entry before.
 fn raised(table: &[u64], k: usize, least: u64) -> u64
     requires { ⌜ k ≤ length (now table) ⌝ }
-    ensures { λ r. ⌜ r ≡ greater (getD (0 ∷ now (table .entry)) k 0) least ⌝ }
+    ensures { λ r. ⌜ r ≡ max (getD (0 ∷ now (table .entry)) k 0) least ⌝ }
 {
     if k == 0 {
         return least;
@@ -36,9 +36,9 @@ fn raised(table: &[u64], k: usize, least: u64) -> u64
 }
 
 // Moves the entries from a place to n up by one, each raised to `least` where it is below.
-fn raise(table: &mut [u64], n: usize, place: usize, least: u64)
+fn move_up(table: &mut [u64], n: usize, place: usize, least: u64)
     requires { ⌜ (place ≤ n) × (n < length (now table)) ⌝ }
-    ensures { λ r. ⌜ Shifted (λ x. greater x least) (now (table .entry)) (now (table .exit)) n place ⌝ }
+    ensures { λ r. ⌜ Shifted (λ x. max x least) (now (table .entry)) (now (table .exit)) n place ⌝ }
 {
     let mut k = n + 1;
     while place < k {
@@ -52,7 +52,7 @@ pub fn make_room(table: &mut [u64], n: usize, place: usize)
     requires { ⌜ (place ≤ n) × (n < length (now table)) ⌝ }
     ensures { λ r. ⌜ Shifted (λ x. x) (now (table .entry)) (now (table .exit)) n place ⌝ }
 {
-    raise(table, n, place, 0);
+    move_up(table, n, place, 0);
 }
 
 // How many of n entries begin no later than f, by halving.
@@ -81,7 +81,7 @@ pub fn insert(firsts: &mut [u64], reach: &mut [u64], n: usize, first: u64, last:
     let place = begun(firsts, n, first);
     make_room(firsts, n, place);
     firsts[place] = first;
-    raise(reach, n, place, last);
+    move_up(reach, n, place, last);
     place
 }
 

@@ -7,8 +7,6 @@ use native.Mathlib.Omega.{arith}
 use borrow.Author.Needs.{needs}
 use Rattle.ranges.proofs.begun.Statement.{statement}
 use Rattle.ranges.proofs.begun.Tie as tie
-use Rattle.ranges.proofs.begun.Reads as reads
-use Rattle.ranges.proofs.begun.Lts as lts
 
 abbrev Inv-loop : tie.InvT-loop
 Inv-loop firsts n f from₀ left₀ from left = Begun firsts n f from left

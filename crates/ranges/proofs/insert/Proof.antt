@@ -12,7 +12,7 @@ returns c =
     let r = c .before .before in
     let m = r .before .before .before .before in
     let b = m .before .before in
-    inserted _ (b .before .before .before .before .pre .0) (b .begun .ensures) (put _ (m .make-room .ensures) (omega arith)) (r .raise .ensures)
+    inserted _ (b .before .before .before .before .pre .0) (b .begun .ensures) (put _ (m .make-room .ensures) (omega arith)) (r .move-up .ensures)
     (simp length-set (omega arith)) (omega arith)
 
 pub insert-spec : {M : Type 1} → statement M

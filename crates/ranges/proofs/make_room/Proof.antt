@@ -6,7 +6,7 @@ use Rattle.ranges.proofs.make_room.Statement.{statement}
 use Rattle.ranges.proofs.make_room.Tie as tie
 
 returns : tie.Need-returns
-returns c = shift-same (c .before .before .raise .ensures)
+returns c = shift-same (c .before .before .move-up .ensures)
 
 pub make-room-spec : {M : Type 1} → statement M
 make-room-spec = tie.close (tie.spec (search needs) (search needs) returns)

@@ -1,6 +1,6 @@
 -- Where some entry meets the range, the last one that begins no later does, for reach rises.
 use Prim.Native.Nat.{_-_}
-use Rattle.ranges.proofs.Halving.{meeting, found, none-found}
+use Rattle.ranges.proofs.Halving.{meets-at, found, none-found}
 use native.Mathlib.Omega.{arith}
 use borrow.Author.Needs.{needs}
 use Rattle.ranges.proofs.meeting.Statement.{statement}
@@ -12,7 +12,7 @@ returns c = (none-found _ _ _ _ _ (c .before .before .before .before .pre) (c .b
 returns-2 : tie.Need-returns-2
 returns-2 c =
     let b = c .before .before .before .begun in
-    let h = meeting _ _ _ _ _ (b .ensures .begins (b .result - 1) (omega arith)) (c .if2 .taken) in
+    let h = meets-at _ _ _ _ _ (b .ensures .begins (b .result - 1) (omega arith)) (c .if2 .taken) in
     (found _ _ _ _ _ _ (omega arith) h, λ l. h)
 
 returns-3 : tie.Need-returns-3
