@@ -15,7 +15,7 @@ sides place i f g h =
     elim (decLt i place) [
       | yes l ↦ f l
       | no l ↦ elim (ℕ-discrete i place) [
-          | yes e ↦ g e
-          | no d ↦ h (i - 1) (omega arith) (omega arith)
-        ]
+        | yes e ↦ g e
+        | no d ↦ h (i - 1) (omega arith) (omega arith)
+      ]
     ]

@@ -1,7 +1,7 @@
 -- The ranges of the sections that meet a test, one node after the other.
 use Prim.Native.Nat.{ℕ, zero, suc, _+_, _≤_, _<_}
 use mathlib.Core.Path.{_≡_, refl, sym, ap, _∙_}
-use mathlib.Core.Bool.{Bool, true, false, _&&_, _||_}
+use mathlib.Core.Bool.{Bool, true, false, _||_, or-false, or-assoc}
 use mathlib.Core.List.{List}
 use native.Mathlib.Omega.{arith}
 use native.Mathlib.Nat.{add-zero, zero-add}
@@ -16,19 +16,11 @@ use Rattle.ranges.specs.Tables.{meetsAt, holds, Inserted, meetsSection, 
 use Rattle.ranges.proofs.Halving.{met, meet}
 use Rattle.ranges.proofs.Half.{count-next, count-room}
 
-or-none : (a : Bool) → (a || false) ≡ a
-or-none true = refl
-or-none false = refl
-
 -- one number more, at the end
 some-last : (p : ℕ → Bool) (k i : ℕ) → someFrom p (suc k) i ≡ (someFrom p k i || p (i + k))
 unfolding someFrom
-some-last p zero i = rw add-zero (or-none (p i))
-some-last p (suc k) i = let e : i + suc k ≡ suc i + k = omega arith in rw e (by-test (p i) _ _ _ (some-last p k (suc i)))
-  where
-    by-test : (t x y z : Bool) → x ≡ (y || z) → (t || x) ≡ ((t || y) || z)
-    by-test true x y z h = refl
-    by-test false x y z h = h
+some-last p zero i = rw add-zero (or-false (p i))
+some-last p (suc k) i = let e : i + suc k ≡ suc i + k = omega arith in rw (e, some-last p k (suc i)) (sym (or-assoc (p i) _ _))
 
 pub some-next : (p : ℕ → Bool) (i : ℕ) → someFrom p (i + 1) 0 ≡ (someFrom p i 0 || p i)
 some-next p i = rw add-one (some-last p i 0 ∙ rw (zero-add i))
@@ -51,7 +43,7 @@ module _ {test : ℕ → Bool} {firstOf lastOf : ℕ → ℕ} {firsts reach : Li
       record {
         few = rw (count-next test i, e) (omega (arith, g .few));
         ordered = g .ordered;
-        meets = λ a c. g .meets a c ∙ sym (some-next (meetsSection test firstOf lastOf a c) i ∙ rw e (or-none _));
+        meets = λ a c. g .meets a c ∙ sym (some-next (meetsSection test firstOf lastOf a c) i ∙ rw e (or-false _));
       }
 
   -- node i does, and its range is put in
@@ -76,12 +68,12 @@ module _ {test : ℕ → Bool} {firstOf lastOf : ℕ → ℕ} {firsts reach : Li
   unfolding meetsSection
   gathered-has apart f r s h e l t b k =
       let d = met firsts reach f f r e in
-      let w = some-at (meetsSection test firstOf lastOf (getD reach r 0) (getD firsts r 0)) i 0
-          (sym (g .meets (getD reach r 0) (getD firsts r 0)) ∙ meet firsts reach (getD reach r 0) (getD firsts r 0) n r h (omega arith) (omega arith)) in
+      let a = getD reach r 0 in
+      let c = getD firsts r 0 in
+      let w = some-at (meetsSection test firstOf lastOf a c) i 0 (sym (g .meets a c) ∙ meet firsts reach a c n r h (omega arith) (omega arith)) in
       let q = w .at in
       let v = and-second (test q) _ (w .holds) in
-      let x = leb-true (firstOf q) (getD firsts r 0) (and-first _ (leb (getD reach r 0) (lastOf q)) v) in
-      let y = leb-true (getD reach r 0) (lastOf q) (and-second (leb (firstOf q) (getD firsts r 0)) _ v) in
-      let o = apart s q l (omega (arith, w .to)) t (and-first (test q) _ (w .holds)) (omega arith) (omega arith) in
-      let z : lastOf s ≡ lastOf q = ap lastOf o in
+      let x = leb-true (firstOf q) c (and-first _ (leb a (lastOf q)) v) in
+      let y = leb-true a (lastOf q) (and-second (leb (firstOf q) c) _ v) in
+      let z = ap lastOf (apart s q l (omega arith) t (and-first (test q) _ (w .holds)) (omega arith) (omega arith)) in
       and-both _ _ t (and-both _ _ (le-leb (firstOf s) f (omega arith)) (le-leb f (lastOf s) (omega arith)))

@@ -15,7 +15,7 @@ use Rattle.model.proofs.Walks.{count-both, countFrom-step}
 -- m numbers, then k more
 count-split : (p : ℕ → Bool) (m k i : ℕ) → countFrom p (m + k) i ≡ countFrom p m i + countFrom p k (i + m)
 unfolding countFrom
-count-split p zero k i = rw (zero-add, add-zero, zero-add)
+count-split p zero k i = rw (zero-add k, add-zero i) (omega arith)
 count-split p (suc m) k i = let e : i + suc m ≡ suc i + m = omega arith in rw (suc-add, e) (by-test (p i) _ _ _ (count-split p m k (suc i)))
   where
     by-test : (t : Bool) (x y d : ℕ) → x ≡ y + d → cond t (suc x) x ≡ cond t (suc y) y + d
@@ -74,7 +74,11 @@ module _ (E : ℕ → Bool) (c up : ℕ → ℕ) (n : ℕ) (own : (s : ℕ) → 
       by-test : (t : Bool) → E k ≡ t → countFrom E k 0 + cond t 1 0 ≤ countFrom (leads (k + 1)) n 0
       by-test true e =
           let o = own k h e in
-          omega (arith, count-lt (leads k) (leads (k + 1)) (leads-on k) n 0 (c k) (rw (o .2, o .1) (le-ltb k k (omega arith))) (rw (o .2, o .1) (lt-ltb k (k + 1) (omega arith))) (omega arith) (omega arith))
+          omega (
+            arith,
+            count-lt (leads k) (leads (k + 1)) (leads-on k) n 0 (c k)
+                (rw (o .2, o .1) (le-ltb k k (omega arith))) (rw (o .2, o .1) (lt-ltb k (k + 1) (omega arith))) (omega arith) (omega arith),
+          )
       by-test false e = omega (arith, count-le (leads k) (leads (k + 1)) (leads-on k) n 0)
 
   counted : (k : ℕ) → k ≤ n → countFrom E k 0 ≤ countFrom (leads k) n 0
@@ -84,4 +88,5 @@ module _ (E : ℕ → Bool) (c up : ℕ → ℕ) (n : ℕ) (own : (s : ℕ) → 
 
   pub half : 2 * countFrom E n 0 ≤ n
   half =
-      omega (arith, counted n (omega arith), count-le (leads n) (λ j. not (E j)) (λ j e. and-first (not (E j)) _ e) n 0, count-both E (λ j. not (E j)) n 0 (λ j. refl))
+      let l = count-le (leads n) (λ j. not (E j)) (λ j e. and-first (not (E j)) _ e) n 0 in
+      omega (arith, counted n (omega arith), count-both E (λ j. not (E j)) n 0 (λ j. refl))

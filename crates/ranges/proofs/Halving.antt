@@ -56,14 +56,18 @@ module _ (firsts reach : List ℕ) (a c : ℕ) where
     pub meet : (i : ℕ) → i < n → getD firsts i 0 ≤ c → a ≤ getD reach i 0 → someFrom (meetsAt firsts reach a c) n 0 ≡ true
     meet i h l u = some-by (meetsAt firsts reach a c) n 0 i (meets-at i l u) (omega arith) (omega arith)
 
-    -- an entry that meets the numbers from a to c, and none
-    pub found : (r : ℕ) → r < n → meetsAt firsts reach a c r ≡ true → ltb r n ≡ someFrom (meetsAt firsts reach a c) n 0
-    found r h e = lt-ltb r n h ∙ sym (some-by (meetsAt firsts reach a c) n 0 r e (omega arith) (omega arith))
+    -- the entry r meets the numbers from a to c; none does
+    pub found : (r : ℕ) → r < n → meetsAt firsts reach a c r ≡ true
+        → (ltb r n ≡ someFrom (meetsAt firsts reach a c) n 0) × (r < n → meetsAt firsts reach a c r ≡ true)
+    found r h e = (lt-ltb r n h ∙ sym (some-by (meetsAt firsts reach a c) n 0 r e (omega arith) (omega arith)), λ l. e)
 
     pub none-found : {r : ℕ} → Ordered firsts reach n → Begun firsts n c r 0 → (0 < r → getD reach (r - 1) 0 < a)
-        → ltb n n ≡ someFrom (meetsAt firsts reach a c) n 0
-    none-found {r} o b h =
-        both _ _ (λ e. absurd (omega (arith, ltb-true n n e))) (λ e. let s = some-at (meetsAt firsts reach a c) n 0 e in absurd (none (s .at) (omega arith) (met (s .at) (s .holds))))
+        → (ltb n n ≡ someFrom (meetsAt firsts reach a c) n 0) × (n < n → meetsAt firsts reach a c n ≡ true)
+    none-found {r} o b h = (
+      both _ _ (λ e. absurd (omega (arith, ltb-true n n e)))
+          (λ e. let s = some-at (meetsAt firsts reach a c) n 0 e in absurd (none (s .at) (omega arith) (met (s .at) (s .holds)))),
+      λ l. absurd (omega arith),
+    )
       where
         none : (i : ℕ) → i < n → (getD firsts i 0 ≤ c) × (a ≤ getD reach i 0) → ⊥
         none i l d =

@@ -60,10 +60,10 @@ module _ {firsts reach firsts′ reach′ : List ℕ} {n first place : ℕ} (las
         elim (decLt i place) [
           | yes l ↦ old i (omega arith) (omega (arith, p .before i l)) (omega (arith, m .before i l))
           | no l ↦ elim (decLt last a) [
-              | yes u ↦ further i h (omega arith) d u
-              | no u ↦ or-right (someFrom (meetsAt firsts reach a c) n 0) _
-                  (and-both _ _ (le-leb first c (omega (arith, rising firsts-rise place i (omega arith) h))) (le-leb a last (omega arith)))
-            ]
+            | yes u ↦ further i h (omega arith) d u
+            | no u ↦ or-right (someFrom (meetsAt firsts reach a c) n 0) _
+                (and-both _ _ (le-leb first c (omega (arith, rising firsts-rise place i (omega arith) h))) (le-leb a last (omega arith)))
+          ]
         ]
 
     new : (i : ℕ) → i < n + 1 → getD firsts′ i 0 ≤ c → a ≤ getD reach′ i 0 → someFrom (meetsAt firsts′ reach′ a c) (n + 1) 0 ≡ true

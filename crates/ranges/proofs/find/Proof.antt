@@ -7,7 +7,7 @@ use Rattle.ranges.proofs.find.Statement.{statement}
 use Rattle.ranges.proofs.find.Tie as tie
 
 returns : tie.Need-returns
-returns c = let h = sym (c .before .holds .ensures) ∙ c .if2 .taken in (found _ _ _ _ _ _ (omega arith) h, λ l. h)
+returns c = found _ _ _ _ _ _ (omega arith) (sym (c .before .holds .ensures) ∙ c .if2 .taken)
 
 pub find-spec : {M : Type 1} → statement M
 find-spec = tie.close (tie.spec (search needs) returns (λ c κs. search needs) (λ c. c .meeting .ensures))

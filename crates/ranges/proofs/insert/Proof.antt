@@ -1,4 +1,4 @@
--- The entries that begin later have moved up by one, and the place is between.
+-- The entries that begin later have moved up by one, and the place is before them.
 use lib.ListN.{length-set}
 use Rattle.ranges.proofs.Moving.{put}
 use Rattle.ranges.proofs.Inserting.{inserted}
@@ -6,6 +6,9 @@ use native.Mathlib.Omega.{arith}
 use borrow.Author.Needs.{needs}
 use Rattle.ranges.proofs.insert.Statement.{statement}
 use Rattle.ranges.proofs.insert.Tie as tie
+
+same-length : tie.Need-same-length
+same-length c = simp length-set (c .before .before .before .before .before .before .make-room .ensures .long)
 
 returns : tie.Need-returns
 returns c =
@@ -16,4 +19,4 @@ returns c =
     (simp length-set (omega arith)) (omega arith)
 
 pub insert-spec : {M : Type 1} → statement M
-insert-spec = tie.close (tie.spec (λ c κs. search needs) (search needs) (search needs) (search needs) (search needs) (λ c. simp length-set (c .before .before .before .before .before .before .make-room .ensures .long)) (search needs) returns)
+insert-spec = tie.close (tie.spec (λ c κs. search needs) (search needs) (search needs) (search needs) (search needs) same-length (search needs) returns)

@@ -1,12 +1,9 @@
--- A number is raised to 0 by staying as it is.
+-- A number raised to 0 stays as it is.
 use Rattle.ranges.proofs.Moving.{shift-same}
 use native.Mathlib.Omega.{arith}
 use borrow.Author.Needs.{needs}
 use Rattle.ranges.proofs.make_room.Statement.{statement}
 use Rattle.ranges.proofs.make_room.Tie as tie
 
-returns : tie.Need-returns
-returns c = shift-same (c .before .before .move-up .ensures)
-
 pub make-room-spec : {M : Type 1} → statement M
-make-room-spec = tie.close (tie.spec (search needs) (search needs) returns)
+make-room-spec = tie.close (tie.spec (search needs) (search needs) (λ c. shift-same (c .before .before .move-up .ensures)))

@@ -28,4 +28,5 @@ returns : tie.Need-returns Inv-loop μ-loop
 returns c = let e : c .before .loop .k ≡ c .before .before .before .args .place = omega arith in rw e at (c .before .loop .inv .1)
 
 pub move-up-spec : {M : Type 1} → statement M
-move-up-spec = tie.close (tie.spec Inv-loop μ-loop (search needs) loop-holds (search needs) (search needs) (search needs) (search needs) (search needs) loop-again same-length returns)
+move-up-spec = tie.close (tie.spec Inv-loop μ-loop (search needs) loop-holds (search needs) (search needs)
+    (search needs) (search needs) (search needs) loop-again same-length returns)
