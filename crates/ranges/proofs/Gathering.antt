@@ -12,7 +12,7 @@ use borrow.Author.Tests.{leb-true, le-leb}
 use Rattle.model.specs.Lists.{someFrom, countFrom}
 use Rattle.model.proofs.Logic.{and-first, and-second, and-both}
 use Rattle.model.proofs.Walks.{some-at}
-use Rattle.ranges.specs.Tables.{meetsAt, holds, Inserted, meetsSection, has, Gathered}
+use Rattle.ranges.specs.Tables.{holds, Inserted, meetsSection, has, Gathered}
 use Rattle.ranges.proofs.Halving.{met, meet}
 use Rattle.ranges.proofs.Half.{count-next, count-room}
 

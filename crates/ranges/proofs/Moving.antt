@@ -14,13 +14,13 @@ pub entry-before : (s : List ℕ) (k : ℕ) → (k ≡ 0 → ⊥) → getD (0 �
 entry-before s zero z = absurd (z refl)
 entry-before s (suc k) z = let e : suc k - 1 ≡ k = omega arith in rw e
 
-pub shift-start : (g : ℕ → ℕ) (s : List ℕ) (n : ℕ) → Shifted g s s n (n + 1)
+pub shift-start : (g : ℕ → ℕ) (s : List ℕ) (n : ℕ) → Shifted g s s n (suc n)
 shift-start g s n = omega arith
 
 -- entry j takes the one before it
-pub shift-more : {g : ℕ → ℕ} {old new : List ℕ} {n k j x : ℕ} → Shifted g old new n k → k ≡ suc j → j < length new
-    → x ≡ g (getD (0 ∷ new) j 0) → Shifted g old (set new j x) n j
-shift-more {g} {old} {new} {n} {k} {j} {x} m q h e =
+pub shift-more : {g : ℕ → ℕ} {old new : List ℕ} {n j x : ℕ} → Shifted g old new n (suc j) → j < length new → x ≡ g (getD (0 ∷ new) j 0)
+    → Shifted g old (set new j x) n j
+shift-more {g} {old} {new} {n} {j} {x} m h e =
     record {
       long = length-set new j x ∙ m .long;
       before = λ i l. getD-set-other new j i x 0 (omega arith) ∙ m .before i (omega arith);

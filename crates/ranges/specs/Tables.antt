@@ -39,7 +39,7 @@ pub record Begun (firsts : List ℕ) (n f r left : ℕ) : Type 0 where
   pub begins : (i : ℕ) → i < r → getD firsts i 0 ≤ f
   pub later : (i : ℕ) → r + left ≤ i → i < n → f < getD firsts i 0
 
--- a table with the entries from a place to n moved up by one, each changed by g; entry `place` is free
+-- a table whose entries from a place to n hold what stood one before, changed by g; 0 stands before the first
 pub record Shifted (g : ℕ → ℕ) (old new : List ℕ) (n place : ℕ) : Type 0 where
   pub long : length new ≡ length old
   pub before : (i : ℕ) → i < place → getD new i 0 ≡ getD old i 0

@@ -40,11 +40,12 @@ fn move_up(table: &mut [u64], n: usize, place: usize, least: u64)
     requires { ⌜ (place ≤ n) × (n < length (now table)) ⌝ }
     ensures { λ r. ⌜ Shifted (λ x. max x least) (now (table .entry)) (now (table .exit)) n place ⌝ }
 {
-    let mut k = n + 1;
+    let mut k = n;
     while place < k {
+        table[k] = greater(table[k - 1], least);
         k -= 1;
-        table[k] = raised(table, k, least);
     }
+    table[k] = raised(table, k, least);
 }
 
 // Moves the entries from a place to n up by one, in a further table that keeps a number with each range. The caller sets the entry at the place.

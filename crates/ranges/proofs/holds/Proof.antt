@@ -1,7 +1,6 @@
--- It lies between both numbers of the entry.
+-- The two tests are those of the definition.
 use borrow.Author.Tests.{lt-leb, le-leb}
 use Rattle.ranges.specs.Tables.{meetsAt}
-use native.Mathlib.Omega.{arith}
 use borrow.Author.Needs.{needs}
 use Rattle.ranges.proofs.holds.Statement.{statement}
 use Rattle.ranges.proofs.holds.Tie as tie

@@ -1,6 +1,5 @@
 -- A number raised to 0 stays as it is.
 use Rattle.ranges.proofs.Moving.{shift-same}
-use native.Mathlib.Omega.{arith}
 use borrow.Author.Needs.{needs}
 use Rattle.ranges.proofs.make_room.Statement.{statement}
 use Rattle.ranges.proofs.make_room.Tie as tie
