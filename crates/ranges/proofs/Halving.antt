@@ -1,0 +1,77 @@
+-- The search by halving: the last entry that begins no later than a range ends decides whether one meets it.
+use Prim.Native.Nat.{ℕ, zero, suc, _+_, _-_, _≤_, _<_}
+use mathlib.Core.Path.{_≡_, sym, _∙_}
+use mathlib.Core.Bool.{true}
+use mathlib.Core.List.{List}
+use native.Mathlib.Omega.{arith}
+use native.Mathlib.Decide.{ℕ-discrete, decLt}
+use lib.Dec.{ltb, leb}
+use lib.ListN.{getD}
+use borrow.Author.Tests.{lt-ltb, ltb-true, leb-true, le-leb}
+use Rattle.model.specs.Lists.{someFrom}
+use Rattle.model.proofs.Logic.{and-first, and-second, and-both}
+use Rattle.model.proofs.Walks.{some-at, some-by}
+use Rattle.ranges.specs.Tables.{meetsAt, Rising, Ordered, Begun}
+use Rattle.ranges.proofs.Cases.{both}
+
+-- any two entries
+pub rising : {s : List ℕ} {n : ℕ} → Rising s n → (i j : ℕ) → i ≤ j → j < n → getD s i 0 ≤ getD s j 0
+rising r i zero h l = let e : i ≡ 0 = omega arith in rw e (omega arith)
+rising r i (suc j) h l =
+    elim (ℕ-discrete i (suc j)) [
+      | yes q ↦ rw q (omega arith)
+      | no d ↦ omega (arith, rising r i j (omega arith) (omega arith), r .rises j l)
+    ]
+
+pub begun-start : (s : List ℕ) (n f : ℕ) → Begun s n f 0 n
+begun-start s n f = omega arith
+
+module _ {s : List ℕ} {n f from left half : ℕ} (b : Begun s n f from left) (r : Rising s n) (z : 1 ≤ half) (h : half + half ≤ left + 1) where
+  pub begun-up : getD s (from + half - 1) 0 ≤ f → Begun s n f (from + half) (left - half)
+  begun-up l =
+      record {
+        inside = omega arith;
+        begins = λ i u. omega (arith, rising r i (from + half - 1) (omega arith) (omega arith));
+        later = λ i k u. b .later i (omega arith) u;
+      }
+
+  pub begun-down : f < getD s (from + half - 1) 0 → Begun s n f from (left - half)
+  begun-down l =
+      record {
+        inside = omega arith;
+        begins = b .begins;
+        later = λ i k u. omega (arith, rising r (from + half - 1) i (omega arith) u);
+      }
+
+module _ (firsts reach : List ℕ) (a c : ℕ) where
+  pub met : (i : ℕ) → meetsAt firsts reach a c i ≡ true → (getD firsts i 0 ≤ c) × (a ≤ getD reach i 0)
+  unfolding meetsAt
+  met i e = (leb-true _ _ (and-first (leb (getD firsts i 0) c) _ e), leb-true _ _ (and-second (leb (getD firsts i 0) c) _ e))
+
+  pub meets-at : (i : ℕ) → getD firsts i 0 ≤ c → a ≤ getD reach i 0 → meetsAt firsts reach a c i ≡ true
+  unfolding meetsAt
+  meets-at i l h = and-both _ _ (le-leb _ c l) (le-leb a _ h)
+
+  module _ (n : ℕ) where
+    pub meet : (i : ℕ) → i < n → getD firsts i 0 ≤ c → a ≤ getD reach i 0 → someFrom (meetsAt firsts reach a c) n 0 ≡ true
+    meet i h l u = some-by (meetsAt firsts reach a c) n 0 i (meets-at i l u) (omega arith) (omega arith)
+
+    -- the entry r meets the numbers from a to c; none does
+    pub found : (r : ℕ) → r < n → meetsAt firsts reach a c r ≡ true
+        → (ltb r n ≡ someFrom (meetsAt firsts reach a c) n 0) × (r < n → meetsAt firsts reach a c r ≡ true)
+    found r h e = (lt-ltb r n h ∙ sym (some-by (meetsAt firsts reach a c) n 0 r e (omega arith) (omega arith)), λ l. e)
+
+    pub none-found : {r : ℕ} → Ordered firsts reach n → Begun firsts n c r 0 → (0 < r → getD reach (r - 1) 0 < a)
+        → (ltb n n ≡ someFrom (meetsAt firsts reach a c) n 0) × (n < n → meetsAt firsts reach a c n ≡ true)
+    none-found {r} o b h = (
+      both _ _ (λ e. absurd (omega (arith, ltb-true n n e)))
+          (λ e. let s = some-at (meetsAt firsts reach a c) n 0 e in absurd (none (s .at) (omega arith) (met (s .at) (s .holds)))),
+      λ l. absurd (omega arith),
+    )
+      where
+        none : (i : ℕ) → i < n → (getD firsts i 0 ≤ c) × (a ≤ getD reach i 0) → ⊥
+        none i l d =
+            elim (decLt i r) [
+              | yes k ↦ omega (arith, h (omega arith), rising (o .reach-rises) i (r - 1) (omega arith) (omega arith))
+              | no k ↦ omega (arith, b .later i (omega arith) l)
+            ]

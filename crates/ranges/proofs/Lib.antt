@@ -1,0 +1,7 @@
+pub mod Cases
+pub mod Moving
+pub mod Halving
+pub mod Inserting
+pub mod Half
+pub mod Gathering
+pub mod Keys
