@@ -1,8 +1,9 @@
 // Rules 7 to 18, node by node, the lowest rule first.
 ghost use mathlib.Core.Path.{_≡_};
 ghost use mathlib.Core.Bool.{true, _&&_};
-ghost use Prim.Native.Nat.{_<_};
+ghost use Prim.Native.Nat.{_≤_, _<_};
 ghost use lib.Dec.{eqb};
+ghost use lib.ListN.{length};
 ghost use Rattle.model.specs.Rules.{check, _then_};
 ghost use Rattle.model.specs.Image.{treeOf, nodeCount};
 ghost use Rattle.model.specs.Records.{parentLawful, recordCheckAt, recordCheck, trailingCheck};
@@ -34,7 +35,7 @@ fn place_stage(image: &[u8], i: usize) -> Stage
 }
 
 // Rules 9 to 11 at node i, with its key and the keys of the nodes before it.
-fn text_stage(image: &[u8], i: usize, key: usize, seen: &[u8]) -> Stage
+fn text_stage(image: &[u8], i: usize, key: usize, seen: &[u16]) -> Stage
     requires { ⌜ RecordsTo (now image) i × (parentLawful (treeOf (now image)) i ≡ true) ⌝ }
     requires { ⌜ (key ≡ keyAt (treeOf (now image)) i) × Seen (treeOf (now image)) i (now seen) ⌝ }
     ensures { λ r. ⌜ stageTells r ≡ check i (textRules (treeOf (now (image .entry))) i) ⌝ }
@@ -98,7 +99,7 @@ fn size_stage(image: &[u8], i: usize, words: u64, bytes: u64) -> Stage
 }
 
 // Rules 7 to 17 at node i, with its key, and the words, the bytes and the keys of the nodes before it.
-fn record_stage(image: &[u8], i: usize, words: u64, bytes: u64, key: usize, seen: &[u8]) -> Stage
+fn record_stage(image: &[u8], i: usize, words: u64, bytes: u64, key: usize, seen: &[u16]) -> Stage
     requires { ⌜ RecordsTo (now image) i × Sums (now image) i words bytes ⌝ }
     requires { ⌜ (key ≡ keyAt (treeOf (now image)) i) × Seen (treeOf (now image)) i (now seen) ⌝ }
     ensures { λ r. ⌜ stageTells r ≡ recordCheckAt (treeOf (now (image .entry))) i ⌝ }
@@ -128,9 +129,9 @@ fn sums_match(words: u64, dimensions: u64, bytes: u64, area: u64) -> bool
     bytes == area
 }
 
-// Rules 7 to 17 at each node, then 18.
-pub fn records_stage(image: &[u8]) -> Stage
-    requires { ⌜ Laid (now image) ⌝ }
+// Rules 7 to 17 at each node, then 18. The keys are marked in the lent filter, whatever it holds.
+pub fn records_stage(image: &[u8], seen: &mut [u16]) -> Stage
+    requires { ⌜ Laid (now image) × (16384 ≤ length (now seen)) ⌝ }
     ensures { λ r. ⌜ stageTells r ≡ (recordCheck (treeOf (now (image .entry))) then trailingCheck (treeOf (now (image .entry)))) ⌝ }
 {
     let h = Header::read(image);
@@ -140,17 +141,16 @@ pub fn records_stage(image: &[u8]) -> Stage
     let mut i: usize = 0;
     let mut words: u64 = 0;
     let mut bytes: u64 = 0;
-    let mut seen: [u8; 32768] = [0; 32768];
     while i < n {
         let key = texts::name_key(image, i);
-        let s = record_stage(image, i, words, bytes, key, &seen);
+        let s = record_stage(image, i, words, bytes, key, seen);
         let Stage::Pass = s else {
             return s;
         };
         let r = RecordNumbers::read(image, i);
         words += r.rank;
         bytes += r.data_size;
-        texts::add_key(&mut seen, key);
+        texts::add_key(seen, key);
         i += 1;
     }
     if !sums_match(words, dimensions, bytes, area) {

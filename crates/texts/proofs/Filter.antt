@@ -1,5 +1,5 @@
 -- The filter of keys: what was marked stays marked, and an earlier sibling of one name would be met.
-use Prim.Native.Nat.{ℕ, _+_, _-_, _<_}
+use Prim.Native.Nat.{ℕ, _+_, _-_, _≤_, _<_}
 use mathlib.Core.Path.{_≡_, refl, sym, ap₂, _∙_}
 use mathlib.Core.Bool.{Bool, true, false, cond, _||_}
 use mathlib.Core.List.{List}
@@ -23,26 +23,26 @@ key-small t i = omega arith
 
 -- what a mark leaves of a place: a mark that was there, and its own
 module _ (x m : ℕ) where
-  mark-stays : (k : ℕ) → 0 < k → (eqb x 255 || eqb x k) ≡ true → (eqb (marked x m) 255 || eqb (marked x m) k) ≡ true
+  mark-stays : (k : ℕ) → 0 < k → (eqb x 65535 || eqb x k) ≡ true → (eqb (marked x m) 65535 || eqb (marked x m) k) ≡ true
   mark-stays k l h = by-test (eqb x 0) (eqb x m) refl refl
     where
-      by-test : (a b : Bool) → eqb x 0 ≡ a → eqb x m ≡ b → (eqb (cond a m (cond b m 255)) 255 || eqb (cond a m (cond b m 255)) k) ≡ true
+      by-test : (a b : Bool) → eqb x 0 ≡ a → eqb x m ≡ b → (eqb (cond a m (cond b m 65535)) 65535 || eqb (cond a m (cond b m 65535)) k) ≡ true
       by-test true b e f = untrue (rw (eqb-true x 0 e, ne-eqb 0 k (λ (z : 0 ≡ k). absurd (omega arith))) at h)
       by-test false true e f = rw (eqb-true x m f) at h
       by-test false false e f = refl
 
-  mark-there : (eqb (marked x m) 255 || eqb (marked x m) m) ≡ true
+  mark-there : (eqb (marked x m) 65535 || eqb (marked x m) m) ≡ true
   mark-there = by-test (eqb x 0) (eqb x m)
     where
-      own : (eqb m 255 || eqb m m) ≡ true
-      own = or-right (eqb m 255) (eqb m m) (eq-eqb m m refl)
+      own : (eqb m 65535 || eqb m m) ≡ true
+      own = or-right (eqb m 65535) (eqb m m) (eq-eqb m m refl)
 
-      by-test : (a b : Bool) → (eqb (cond a m (cond b m 255)) 255 || eqb (cond a m (cond b m 255)) m) ≡ true
+      by-test : (a b : Bool) → (eqb (cond a m (cond b m 65535)) 65535 || eqb (cond a m (cond b m 65535)) m) ≡ true
       by-test true b = own
       by-test false true = own
       by-test false false = refl
 
-module _ (seen : List ℕ) (room : length seen ≡ 32768) (key : ℕ) (h : key < 4194304) where
+module _ (seen : List ℕ) (room : 16384 ≤ length seen) (key : ℕ) (h : key < 4194304) where
   met-still : (k : ℕ) → met seen k ≡ true → met (withKey seen key) k ≡ true
   unfolding met withKey
   met-still k e =
@@ -56,11 +56,11 @@ module _ (seen : List ℕ) (room : length seen ≡ 32768) (key : ℕ) (h : key <
   met-now =
       rw (getD-set-same seen (placeOf key) (marked (getD seen (placeOf key) 0) (markOf key)) 0 (omega arith)) (mark-there (getD seen (placeOf key) 0) (markOf key))
 
-  room-still : length (withKey seen key) ≡ 32768
+  room-still : 16384 ≤ length (withKey seen key)
   unfolding withKey
   room-still = rw length-set room
 
-pub seen-start : (t : Tree) (seen : List ℕ) → length seen ≡ 32768 → Seen t 0 seen
+pub seen-start : (t : Tree) (seen : List ℕ) → 16384 ≤ length seen → Seen t 0 seen
 seen-start t seen e = record { room = e; keys = λ j h. absurd (omega arith) }
 
 module _ {t : Tree} {i : ℕ} {seen : List ℕ} (s : Seen t i seen) {key : ℕ} (e : key ≡ keyAt t i) where

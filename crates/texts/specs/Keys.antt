@@ -1,5 +1,5 @@
 -- Keys of names, and the filter of the keys met so far.
-use Prim.Native.Nat.{ℕ, _+_, _*_, _/_, _%_, _<_}
+use Prim.Native.Nat.{ℕ, _+_, _*_, _/_, _%_, _≤_, _<_}
 use mathlib.Core.Path.{_≡_}
 use mathlib.Core.Bool.{Bool, true, cond, _||_}
 use mathlib.Core.List.{List}
@@ -25,14 +25,14 @@ keyAt t i = nameKey (parent t i) (name t i)
 
 -- a key's place in the filter, and its mark there
 abbrev pub placeOf : ℕ → ℕ
-placeOf key = key / 128
+placeOf key = key / 256
 
 abbrev pub markOf : ℕ → ℕ
-markOf key = key % 128 + 1
+markOf key = key % 256 + 1
 
--- what a place holds: 0 where nothing was marked, else the mark, or 255 where two marks differ
+-- what a mark leaves of a place that held x: the mark where x was 0 or that mark, else 65535
 abbrev pub marked : ℕ → ℕ → ℕ
-marked x m = cond (eqb x 0) m (cond (eqb x m) m 255)
+marked x m = cond (eqb x 0) m (cond (eqb x m) m 65535)
 
 -- the filter with a key more
 unfoldable pub withKey : List ℕ → ℕ → List ℕ
@@ -40,9 +40,9 @@ withKey seen key = set seen (placeOf key) (marked (getD seen (placeOf key) 0) (m
 
 -- the key may have been marked
 unfoldable pub met : List ℕ → ℕ → Bool
-met seen key = eqb (getD seen (placeOf key) 0) 255 || eqb (getD seen (placeOf key) 0) (markOf key)
+met seen key = eqb (getD seen (placeOf key) 0) 65535 || eqb (getD seen (placeOf key) 0) (markOf key)
 
 -- the keys of the nodes before i are marked
 pub record Seen (t : Tree) (i : ℕ) (seen : List ℕ) : Type 0 where
-  pub room : length seen ≡ 32768
+  pub room : 16384 ≤ length seen
   pub keys : (j : ℕ) → j < i → met seen (keyAt t j) ≡ true

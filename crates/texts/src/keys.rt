@@ -12,10 +12,10 @@ use records::Record;
 const KEYS: u64 = 4100011;
 
 // So many keys share a place of the filter.
-const SHARE: usize = 128;
+const SHARE: usize = 256;
 
-// What a place holds where keys that differ were marked at it.
-const MANY: u8 = 255;
+// What a place holds where marks that differ met.
+const MANY: u16 = 65535;
 
 // The four words of the text at `at`, each by its factor.
 fn text_sum(image: &[u8], at: usize) -> u64
@@ -40,7 +40,7 @@ pub fn name_key(image: &[u8], i: usize) -> usize
 }
 
 // What a place holds after a mark, where it held x: the mark, or that there are many.
-fn joined(x: u8, mark: u8) -> u8
+fn joined(x: u16, mark: u16) -> u16
     ensures { λ r. ⌜ r ≡ marked x mark ⌝ }
 {
     if x == 0 {
@@ -53,22 +53,22 @@ fn joined(x: u8, mark: u8) -> u8
 }
 
 // Marks a key in the filter.
-pub fn add_key(seen: &mut [u8], key: usize)
-    requires { ⌜ (length (now seen) ≡ 32768) × (key < 4194304) ⌝ }
+pub fn add_key(seen: &mut [u16], key: usize)
+    requires { ⌜ (16384 ≤ length (now seen)) × (key < 4194304) ⌝ }
     ensures { λ r. ⌜ now (seen .exit) ≡ withKey (now (seen .entry)) key ⌝ }
 {
     let at = key / SHARE;
-    seen[at] = joined(seen[at], (key % SHARE + 1) as u8);
+    seen[at] = joined(seen[at], (key % SHARE + 1) as u16);
 }
 
 // Whether the key may have been marked. It answers true for each key that was.
-pub fn is_met(seen: &[u8], key: usize) -> bool
-    requires { ⌜ (length (now seen) ≡ 32768) × (key < 4194304) ⌝ }
+pub fn is_met(seen: &[u16], key: usize) -> bool
+    requires { ⌜ (16384 ≤ length (now seen)) × (key < 4194304) ⌝ }
     ensures { λ r. ⌜ r ≡ met (now (seen .entry)) key ⌝ }
 {
     let x = seen[key / SHARE];
     if x == MANY {
         return true;
     }
-    x == (key % SHARE + 1) as u8
+    x == (key % SHARE + 1) as u16
 }

@@ -101,7 +101,7 @@ fn is_namesake(image: &[u8], i: usize, up: usize, j: usize) -> bool
 
 // Rule 11: whether an earlier sibling of node i has its name. It would have the key too, so most nodes need no search. Siblings
 // stand after the parent, so the search starts there.
-pub fn name_taken(image: &[u8], i: usize, key: usize, seen: &[u8]) -> bool
+pub fn name_taken(image: &[u8], i: usize, key: usize, seen: &[u16]) -> bool
     requires { ⌜ RecordsTo (now image) i × (parentLawful (treeOf (now image)) i ≡ true) ⌝ }
     requires { ⌜ (key ≡ keyAt (treeOf (now image)) i) × Seen (treeOf (now image)) i (now seen) ⌝ }
     ensures { λ r. ⌜ r ≡ nameTaken (treeOf (now (image .entry))) i ⌝ }

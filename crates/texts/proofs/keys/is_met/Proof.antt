@@ -14,4 +14,4 @@ unfolding met
 returns-2 c = rw (ne-eqb _ _ (c .if1 .left)) refl
 
 pub is-met-spec : {M : Type 1} → statement M
-is-met-spec = tie.close (tie.spec (search needs) returns (search needs) (search needs) returns-2)
+is-met-spec = tie.close (tie.spec (search needs) (search needs) returns (search needs) (search needs) returns-2)
