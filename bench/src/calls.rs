@@ -62,7 +62,7 @@ pub fn validate(image: &[u8]) -> Validation {
 
 /// The library's sections of a zone, nine numbers each.
 pub fn sections(image: &[u8], zone: u64) -> Vec<u64> {
-    const ROOM: usize = 16;
+    const ROOM: usize = 4_096;
     let mut out = vec![0; 9 * ROOM];
     // SAFETY: writes up to the room lent.
     let answer = unsafe { bench_sections(image.as_ptr(), image.len(), zone, out.as_mut_ptr(), ROOM) };

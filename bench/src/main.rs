@@ -1,16 +1,22 @@
 //! `bench [REPETITIONS]`: prints tables of times and ratios, all from one run: validation against the reference and against
 //! one pass over the bytes, the walk against C with no check and with the same checks, face usage against the reference, peak memory.
+//!
+//! `bench images FOLDER`: writes the odd images of the tables as files.
 
 mod calls;
 mod measure;
+mod odd;
+mod parts;
 
 use std::path::Path;
 use std::process::Command;
 use std::{env, fs};
 
 use calls::{face_count, face_usage, sections, sum, validate, walk_checked, walk_corners, walk_elements, walk_plain};
-use measure::{medians, peak_growth, processor};
+use measure::{medians, peak_growth, processor, TURN};
+use odd::Odd;
 use reference::mesh::mesh;
+use reference::Counts;
 
 /// The number of the zone's node in a mesh of one zone.
 const ZONE: u64 = 3;
@@ -24,8 +30,8 @@ struct Subject {
     faces: bool,
 }
 
-/// The images, each near the largest that there may be.
-fn subjects() -> Vec<Subject> {
+/// The meshes, each near the largest that there may be.
+fn meshes() -> Vec<Subject> {
     let subject = |name, kind, n, width| {
         let image = mesh(kind, n, width).expect("a lawful mesh");
         Subject { name, image, walked: kind != "zones", faces: kind == "poly" }
@@ -38,36 +44,60 @@ fn subjects() -> Vec<Subject> {
     ]
 }
 
+/// The odd images.
+fn odd_images() -> Vec<Subject> {
+    let subject = |Odd { name, image, usage, .. }| Subject { name, image, walked: false, faces: usage };
+    odd::images().into_iter().map(subject).collect()
+}
+
 fn main() {
     let words: Vec<String> = env::args().skip(1).collect();
     let words: Vec<&str> = words.iter().map(String::as_str).collect();
     match words[..] {
         ["memory", what, call, file] => println!("{}", memory_of(what, call, file)),
+        ["images", folder] => write_images(Path::new(folder)),
         [] => tables(15),
         [repetitions] => tables(repetitions.parse().expect("a number of repetitions")),
-        _ => panic!("bench [REPETITIONS]"),
+        _ => panic!("bench [REPETITIONS], or bench images FOLDER"),
+    }
+}
+
+/// Writes the odd images into a folder.
+fn write_images(folder: &Path) {
+    fs::create_dir_all(folder).expect("a folder");
+    for Odd { name, file, image, .. } in odd::images() {
+        assert_accepted(name, &image);
+        fs::write(folder.join(file).with_extension("img"), image).expect("a file in the folder");
     }
 }
 
 fn tables(repetitions: usize) {
-    let subjects = subjects();
+    let (meshes, odd_images) = (meshes(), odd_images());
+    let all: Vec<&Subject> = meshes.iter().chain(&odd_images).collect();
     println!("Processor: {}. C is compiled with -O2.", processor());
-    println!("Times are processor time in milliseconds, medians of {repetitions} turns; a ratio is the quotient of two medians in its row.\n");
-    validation_table(&subjects, repetitions);
-    walk_table(&subjects, repetitions);
-    usage_table(&subjects, repetitions);
-    memory_table(&subjects);
+    println!("Times are processor time in milliseconds, medians of {repetitions} turns; a turn repeats what takes under {TURN} ms. A ratio is the quotient of two medians in its row.\n");
+    validation_table(&all, repetitions);
+    walk_table(&meshes, repetitions);
+    usage_table(&all, repetitions);
+    memory_table(&meshes);
 }
 
 fn megabytes(image: &[u8]) -> f64 {
     image.len() as f64 / 1e6
 }
 
-fn validation_table(subjects: &[Subject], repetitions: usize) {
+/// Library and reference accept the image, with the same counts.
+fn assert_accepted(name: &str, image: &[u8]) {
+    let Counts { validated, skipped, zones, sections } = reference::validate(image).expect(name);
+    let verdict = validate(image);
+    assert_eq!((verdict.rule, verdict.counts), (0, [validated, skipped, zones, sections]), "{name}");
+}
+
+fn validation_table(subjects: &[&Subject], repetitions: usize) {
     println!("| validation | MB | library | reference | sum of words | library / reference | library / sum |");
     println!("|---|---|---|---|---|---|---|");
     for Subject { name, image, .. } in subjects {
-        assert_eq!(validate(image).rule, 0, "{name}");
+        assert_accepted(name, image);
         let [library, reference, words] = medians(
             repetitions,
             [&mut || validate(image).rule, &mut || u64::from(reference::validate(image).is_ok()), &mut || {
@@ -109,7 +139,7 @@ fn walk_table(subjects: &[Subject], repetitions: usize) {
     println!();
 }
 
-fn usage_table(subjects: &[Subject], repetitions: usize) {
+fn usage_table(subjects: &[&Subject], repetitions: usize) {
     println!("| face usage, validation included | faces | library | reference | library / reference |");
     println!("|---|---|---|---|---|");
     for Subject { name, image, .. } in subjects.iter().filter(|subject| subject.faces) {

@@ -22,19 +22,28 @@ fn now() -> f64 {
     time.seconds as f64 * 1e3 + time.nanoseconds as f64 / 1e6
 }
 
+/// Milliseconds that a turn of short work takes at least, about.
+pub const TURN: f64 = 2.0;
+
+/// Milliseconds of one of several runs of a piece of work.
+fn time_of(runs: usize, piece: &mut dyn FnMut() -> u64) -> f64 {
+    let start = now();
+    for _ in 0..runs {
+        black_box(piece());
+    }
+    (now() - start) / runs as f64
+}
+
 /// Runs several pieces of work in turn, `repetitions` times after one turn that does not count, and answers the median time of
-/// each in milliseconds, rounded to the three decimals that are printed.
+/// each in milliseconds, rounded to the three decimals that are printed. In a turn a short piece is run several times.
 pub fn medians<const N: usize>(repetitions: usize, mut work: [&mut dyn FnMut() -> u64; N]) -> [f64; N] {
-    let mut turns = Vec::with_capacity(repetitions + 1);
-    for _ in 0..=repetitions {
-        turns.push(work.each_mut().map(|piece| {
-            let start = now();
-            black_box(piece());
-            now() - start
-        }));
+    let runs = work.each_mut().map(|piece| (TURN / time_of(1, piece)).clamp(1.0, 10_000.0).ceil() as usize);
+    let mut turns = Vec::with_capacity(repetitions);
+    for _ in 0..repetitions {
+        turns.push(std::array::from_fn::<f64, N, _>(|piece| time_of(runs[piece], &mut *work[piece])));
     }
     std::array::from_fn(|piece| {
-        let mut times: Vec<f64> = turns[1..].iter().map(|turn| turn[piece]).collect();
+        let mut times: Vec<f64> = turns.iter().map(|turn| turn[piece]).collect();
         times.sort_by(f64::total_cmp);
         (times[times.len() / 2] * 1e3).round() / 1e3
     })

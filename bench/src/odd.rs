@@ -1,0 +1,220 @@
+//! Lawful images unlike meshes, each near a limit of the format: many sections, ranges that do not touch, children far from
+//! their parents, many siblings. The times of meshes tell nothing of them.
+
+use reference::build::{Image, Node};
+use reference::random::Random;
+
+use crate::parts::{
+    add_bare_zone, add_triangles, add_zone, add_zone_type, at_random, children_last, falling, in_turn, rising,
+    with_base, with_zone, Section, APART, MAX_NODES, NFACE_N, NGON_N, TRI_3,
+};
+
+/// Face references of an image with one cell section, and of each cell section where there are many.
+const REFERENCES: usize = 3_000_000;
+const FEW_REFERENCES: usize = 6_000;
+
+/// An image, its name in the tables and that of its file.
+pub struct Odd {
+    pub name: &'static str,
+    pub file: &'static str,
+    pub image: Vec<u8>,
+    /// Whether it is one zone that uses no face twice with one sign.
+    pub usage: bool,
+}
+
+fn odd(name: &'static str, file: &'static str, image: Image) -> Odd {
+    Odd { name, file, image: image.to_bytes(), usage: false }
+}
+
+/// All odd images: many references to faces in many sections, then many nodes with few data.
+pub fn images() -> Vec<Odd> {
+    let mut images = of_faces();
+    images.extend(of_nodes());
+    images
+}
+
+fn of_faces() -> Vec<Odd> {
+    let apart = rising(1_000, APART);
+    let touching = rising(1_000, 1);
+    let tenth: Vec<i64> = apart.iter().copied().step_by(10).collect();
+    let few = &apart[..100];
+    let random = &mut Random::new(0, 0);
+    vec![
+        odd(
+            "1,000 face sections apart, references jump between the last two",
+            "apart_last_two",
+            one_cell(&apart, &in_turn(REFERENCES, [apart[998], apart[999]])),
+        ),
+        odd(
+            "1,000 face sections apart, references at random among all",
+            "apart_random",
+            one_cell(&apart, &at_random(random, REFERENCES, &apart)),
+        ),
+        odd(
+            "1,000 face sections apart, references at random among 100",
+            "apart_random_100",
+            one_cell(&apart, &at_random(random, REFERENCES, &tenth)),
+        ),
+        odd(
+            "100 face sections apart, references at random among all",
+            "few_apart_random",
+            one_cell(few, &at_random(random, REFERENCES, few)),
+        ),
+        odd(
+            "1,000 face sections that touch, references jump between the last two",
+            "touching_last_two",
+            one_cell(&touching, &in_turn(REFERENCES, [touching[998], touching[999]])),
+        ),
+        Odd {
+            usage: true,
+            ..odd(
+                "1,000 face sections apart, each face used from both sides, in random order",
+                "apart_both_sides",
+                both_sides(random, &apart),
+            )
+        },
+        odd(
+            "500 face sections apart, 500 cell sections, references at random among all",
+            "many_cells",
+            many_cells(random, 500),
+        ),
+        odd("two zones in turn, 256 face and 255 cell sections each, falling ranges", "two_zones", two_zones(random)),
+        odd(
+            "the same two zones, all children at the end of the table",
+            "two_zones_children_last",
+            children_last(two_zones(random)),
+        ),
+    ]
+}
+
+fn of_nodes() -> Vec<Odd> {
+    let up = rising(1_020, APART);
+    let down = falling(1_020);
+    vec![
+        odd(
+            "1,020 face sections, all children at the end of the table",
+            "children_last",
+            children_last(triangles(NGON_N, &up)),
+        ),
+        odd("4,070 arrays of a flow solution", "flow_arrays", flow_arrays(4_070)),
+        odd("1,020 sections of a triangle, rising ranges", "triangles_rising", triangles(TRI_3, &up)),
+        odd("1,020 sections of a triangle, falling ranges", "triangles_falling", triangles(TRI_3, &down)),
+        odd("4,088 arrays of a section, named ElementX..", "named_7", named(|k| format!("ElementX{k:04}"))),
+        odd(
+            "4,088 arrays of a section, names that share 28 bytes with ElementConnectivity",
+            "named_28",
+            named(|k| format!("{:<28}{k:04}", "ElementConnectivity")),
+        ),
+        odd("2,046 zones, ZoneType at the end of the table", "zone_types_last", zone_types_last()),
+        odd("1,020 sections of a triangle, Rind at the end of the table", "rinds_last", rinds_last(&up)),
+    ]
+}
+
+/// A section of one face for each number, and one of a cell with these references.
+fn one_cell(faces: &[i64], references: &[i64]) -> Image {
+    let (mut image, zone) = with_zone();
+    add_triangles(&mut image, zone, NGON_N, faces);
+    Section::of_one(NFACE_N, faces[faces.len() - 1] + 1, references).add(&mut image, zone);
+    image
+}
+
+/// A section of 900 faces from each number on, and cells that use each face once with either sign.
+fn both_sides(random: &mut Random, firsts: &[i64]) -> Image {
+    const FACES: usize = 900;
+    let (mut image, zone) = with_zone();
+    for &first in firsts {
+        Section { element_type: NGON_N, first, size: 1, references: &[1; FACES] }.add(&mut image, zone);
+    }
+    let faces = firsts.iter().flat_map(|&first| first..first + FACES as i64);
+    let mut references: Vec<i64> = faces.flat_map(|face| [face, -face]).collect();
+    random.shuffle(&mut references);
+    let first = firsts[firsts.len() - 1] + FACES as i64;
+    Section { element_type: NFACE_N, first, size: 6, references: &references }.add(&mut image, zone);
+    image
+}
+
+/// So many face sections, and behind them as many cell sections.
+fn many_cells(random: &mut Random, count: i64) -> Image {
+    let (mut image, zone) = with_zone();
+    let numbers = rising(2 * count, APART);
+    let (faces, cells) = numbers.split_at(count as usize);
+    add_triangles(&mut image, zone, NGON_N, faces);
+    for &cell in cells {
+        Section::of_one(NFACE_N, cell, &at_random(random, FEW_REFERENCES, faces)).add(&mut image, zone);
+    }
+    image
+}
+
+/// Two zones with as many sections as there may be, which stand in turn: a face section of either zone, then a cell section of
+/// either. Those of faces have falling numbers, and those of cells too, all above those of faces.
+fn two_zones(random: &mut Random) -> Image {
+    let (mut image, base) = with_base();
+    let zones = [add_zone(&mut image, base), add_zone(&mut image, base)];
+    let numbers = falling(511);
+    let (cells, faces) = numbers.split_at(255);
+    for (k, &face) in faces.iter().enumerate() {
+        for zone in zones {
+            Section::triangle(NGON_N, face).add(&mut image, zone);
+        }
+        let Some(&cell) = cells.get(k) else { break };
+        for zone in zones {
+            Section::of_one(NFACE_N, cell, &at_random(random, FEW_REFERENCES, faces)).add(&mut image, zone);
+        }
+    }
+    image
+}
+
+/// A section of one triangle for each number.
+fn triangles(element_type: i64, numbers: &[i64]) -> Image {
+    let (mut image, zone) = with_zone();
+    add_triangles(&mut image, zone, element_type, numbers);
+    image
+}
+
+/// A flow solution of a structured zone with arrays at cell centres, and behind them what tells their size.
+fn flow_arrays(count: usize) -> Image {
+    let (mut image, base) = with_base();
+    let zone = image.add(base, Node::integers("Zone", "Zone_t", 4, &[3, 3], &[2, 2, 2, 1, 1, 1, 0, 0, 0]));
+    let flow = image.add(zone, Node::empty("FlowSolution", "FlowSolution_t"));
+    for k in 0..count {
+        let mut array = Node::new(&format!("Array{k}"), "DataArray_t", "R4", &[], Vec::new());
+        array.reshape(&[1, 1, 2]);
+        image.add(flow, array);
+    }
+    image.add(flow, Node::text("GridLocation", "GridLocation_t", "CellCenter"));
+    image.add(flow, Node::integers("Rind", "Rind_t", 4, &[6], &[0, 0, 0, 0, 0, 1]));
+    add_zone_type(&mut image, zone, "Structured");
+    image
+}
+
+/// A section with as many arrays as there may be, and behind them those that it needs.
+fn named(name: impl Fn(usize) -> String) -> Image {
+    let (mut image, zone) = with_zone();
+    let own = Section::triangle(TRI_3, 1);
+    let section = own.add_bare(&mut image, zone);
+    for k in 0..MAX_NODES - image.nodes.len() - 2 {
+        image.add(section, Node::list(&name(k), 4, &[0]));
+    }
+    own.add_children(&mut image, section);
+    image
+}
+
+/// As many zones as there may be, and behind the last the ZoneType of each.
+fn zone_types_last() -> Image {
+    let (mut image, base) = with_base();
+    let room = (MAX_NODES - image.nodes.len()) / 2;
+    let zones: Vec<usize> = (0..room).map(|_| add_bare_zone(&mut image, base)).collect();
+    for zone in zones {
+        add_zone_type(&mut image, zone, "Unstructured");
+    }
+    image
+}
+
+/// A section of one triangle for each number, and behind the last the Rind of each.
+fn rinds_last(numbers: &[i64]) -> Image {
+    let (mut image, zone) = with_zone();
+    for section in add_triangles(&mut image, zone, TRI_3, numbers) {
+        image.add(section, Node::integers("Rind", "Rind_t", 4, &[2], &[0, 0]));
+    }
+    image
+}
