@@ -1,14 +1,14 @@
 -- Rows of numbers in bytes, and what rules 31, 34 and 35 ask of each number of a row.
 use Prim.Native.Nat.{ℕ, suc, _+_, _*_, _≤_}
 use mathlib.Core.Path.{_≡_}
-use mathlib.Core.Bool.{Bool, _&&_, _||_}
+use mathlib.Core.Bool.{Bool, _&&_}
 use mathlib.Core.List.{List, [], _∷_}
-use lib.ListN.{length, getD}
+use lib.ListN.{length}
 use lib.Dec.{T, eqb, leb}
 use Rattle.words.specs.Width.{isWidth}
-use Rattle.model.specs.Lists.{someFrom, everyFrom}
+use Rattle.model.specs.Lists.{everyFrom}
 use Rattle.model.specs.Rules.{Rule, _unless_}
-use Rattle.model.specs.Bytes.{below, magnitude}
+use Rattle.model.specs.Bytes.{below}
 use Rattle.model.specs.Corner.{numberAt}
 
 -- n numbers of 4 or 8 bytes from a place on lie inside the bytes
@@ -31,20 +31,3 @@ offsetRules b at w n size =
 -- 34: number k lies in 1 to limit
 unfoldable pub isWithin : List ℕ → ℕ → ℕ → ℕ → ℕ → Bool
 isWithin b at w limit k = leb 1 (numberAt b at w k) && leb (numberAt b at w k) limit
-
--- 35: range j holds f; one of the first n ranges does; the magnitude of number k is in one of them
-unfoldable pub holds : List ℕ → List ℕ → ℕ → ℕ → Bool
-holds firsts lasts f j = leb (getD firsts j 0) f && leb f (getD lasts j 0)
-
-unfoldable pub inRanges : List ℕ → List ℕ → ℕ → ℕ → Bool
-inRanges firsts lasts n f = someFrom (holds firsts lasts f) n 0
-
-unfoldable pub refersTo : List ℕ → List ℕ → ℕ → List ℕ → ℕ → ℕ → ℕ → Bool
-refersTo firsts lasts m b at w k = inRanges firsts lasts m (magnitude w (numberAt b at w k))
-
--- one range more among the first n: r ranges hold what n held, and the numbers from first to last
-pub record Pushed (firsts lasts : List ℕ) (n first last : ℕ) (firsts′ lasts′ : List ℕ) (r : ℕ) : Type 0 where
-  pub few : r ≤ n + 1
-  pub firsts-long : length firsts′ ≡ length firsts
-  pub lasts-long : length lasts′ ≡ length lasts
-  pub in-ranges : (f : ℕ) → inRanges firsts′ lasts′ r f ≡ (inRanges firsts lasts n f || (leb first f && leb f last))

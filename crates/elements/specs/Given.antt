@@ -1,19 +1,18 @@
 -- What the functions here are given, in place of tests that were made before them.
 use Prim.Native.Nat.{ℕ, _+_, _*_, _≤_, _<_}
 use mathlib.Core.Path.{_≡_}
-use mathlib.Core.Bool.{Bool, true, cond, _&&_, _||_}
+use mathlib.Core.Bool.{Bool, true}
 use mathlib.Core.List.{List}
-use lib.Dec.{T, eqb}
-use lib.ListN.{length}
+use lib.Dec.{T}
 use Rattle.model.specs.Image.{Tree, treeOf, nodeCount, node, parent, width}
 use Rattle.model.specs.Bytes.{magnitude}
 use Rattle.model.specs.Corner.{numberAt}
-use Rattle.model.specs.Containment.{role, found, sectionOf, Elements}
-use Rattle.model.specs.Values.{flat, typeLawful, valueLawful, rangeOf, offsetsOf, connectivityOf, size, maxNumber}
-use Rattle.model.specs.Elements.{NGON, elementType, firstElement, lastElement, hasFace, faceOf}
+use Rattle.model.specs.Containment.{role, found, Elements}
+use Rattle.model.specs.Values.{flat, rangeOf, offsetsOf, connectivityOf, size, maxNumber}
+use Rattle.model.specs.Elements.{firstElement, lastElement, faceOf}
 use Rattle.words.specs.Width.{isWidth}
+use Rattle.index.specs.Index.{kind}
 use Rattle.types.specs.Given.{Has}
-use Rattle.elements.specs.Arrays.{inRanges}
 
 -- node j stores n numbers of 4 or 8 bytes
 pub record Stores (b : List ℕ) (j n : ℕ) : Type 0 where
@@ -37,30 +36,13 @@ pub record Ranged (b : List ℕ) (s : ℕ) : Type 0 where
 pub record SectionReady (b : List ℕ) (s : ℕ) : Type 0 where
   pub inside : s < nodeCount b
   pub elements : role (treeOf b) s ≡ Elements
+  pub kind-is : kind (treeOf b) s ≡ Elements
   pub own : Stores b s 2
   pub below : parent (treeOf b) s < s
   pub zone : Has b (parent (treeOf b) s) 0
   pub ranged : Ranged b s
   pub connectivity : Indexed b (connectivityOf (treeOf b) s)
   pub offsets : found (treeOf b) (offsetsOf (treeOf b) s) ≡ true → Indexed b (offsetsOf (treeOf b) s)
-
--- the ElementRange of node i where it is a face section of zone z; the node count where it is none
-unfoldable pub faceRange : Tree → ℕ → ℕ → ℕ
-faceRange t z i =
-    cond (sectionOf t z i) (cond (typeLawful t i && valueLawful t i && eqb (elementType t i) NGON) (rangeOf t i) (t .count)) (t .count)
-
--- node i was asked for faces: r ranges hold what n held, and the faces that the node brings to zone z
-pub record Gathered (t : Tree) (z i : ℕ) (firsts lasts : List ℕ) (n : ℕ) (firsts′ lasts′ : List ℕ) (r : ℕ) : Type 0 where
-  pub few : r ≤ n + 1
-  pub firsts-long : length firsts′ ≡ length firsts
-  pub lasts-long : length lasts′ ≡ length lasts
-  pub in-ranges : (f : ℕ) → inRanges firsts′ lasts′ r f ≡ (inRanges firsts lasts n f || hasFace t z f i)
-
--- r ranges hold the faces of zone z
-pub record Faces (t : Tree) (z : ℕ) (firsts lasts : List ℕ) (r : ℕ) : Type 0 where
-  pub firsts-room : r ≤ length firsts
-  pub lasts-room : r ≤ length lasts
-  pub in-ranges : (f : ℕ) → inRanges firsts lasts r f ≡ faceOf t z f
 
 -- the magnitude of number k of a row is a face of zone z
 unfoldable pub refersFace : Tree → ℕ → List ℕ → ℕ → ℕ → ℕ → Bool

@@ -8,6 +8,7 @@ ghost use Rattle.model.specs.Values.{size};
 ghost use Rattle.model.specs.Elements.{hasOffsets, elementType, elementCount, connectivityLength};
 ghost use Rattle.model.specs.Rules.{check};
 ghost use Rattle.model.specs.Answers.{stageTells};
+ghost use Rattle.index.specs.Index.{Index};
 ghost use Rattle.elements.specs.Given.{Indexed, SectionReady};
 ghost use Rattle.elements.specs.Groups.{shapeRules};
 use super::offsets::offsets_stage;
@@ -31,13 +32,13 @@ pub fn size_of(image: &[u8], j: usize) -> u64
 }
 
 // Rules 29 to 32 at section s, whose n elements are found by start offsets.
-fn offset_shape(image: &[u8], s: usize, n: u64, length: u64) -> Stage
-    requires { ⌜ Sound (now image) × SectionReady (now image) s ⌝ }
+fn offset_shape(image: &[u8], index: &[u16], s: usize, n: u64, length: u64) -> Stage
+    requires { ⌜ Index (now image) (now index) × SectionReady (now image) s ⌝ }
     requires { ⌜ (n ≡ elementCount (treeOf (now image)) s) × (length ≡ connectivityLength (treeOf (now image)) s) ⌝ }
     requires { ⌜ hasOffsets (elementType (treeOf (now image)) s) ≡ true ⌝ }
     ensures { λ r. ⌜ stageTells r ≡ check s (shapeRules (treeOf (now (image .entry))) s) ⌝ }
 {
-    let offsets = offsets_of(image, s);
+    let offsets = offsets_of(image, index, s);
     if size_of(image, offsets) != n + 1 {
         return Stage::Rejected(Rejection::at(29, s as u64));
     }
@@ -47,14 +48,14 @@ fn offset_shape(image: &[u8], s: usize, n: u64, length: u64) -> Stage
 }
 
 // Rules 29 to 32 at section s of type `kind`, with n elements.
-pub fn shape_stage(image: &[u8], s: usize, kind: u64, n: u64, length: u64) -> Stage
-    requires { ⌜ Sound (now image) × SectionReady (now image) s ⌝ }
+pub fn shape_stage(image: &[u8], index: &[u16], s: usize, kind: u64, n: u64, length: u64) -> Stage
+    requires { ⌜ Index (now image) (now index) × SectionReady (now image) s ⌝ }
     requires { ⌜ (n ≡ elementCount (treeOf (now image)) s) × (length ≡ connectivityLength (treeOf (now image)) s) ⌝ }
     requires { ⌜ kind ≡ elementType (treeOf (now image)) s ⌝ }
     ensures { λ r. ⌜ stageTells r ≡ check s (shapeRules (treeOf (now (image .entry))) s) ⌝ }
 {
     if has_offsets(kind) {
-        return offset_shape(image, s, n, length);
+        return offset_shape(image, index, s, n, length);
     }
     if length == n * nodes_per(kind) {
         return Stage::Pass;

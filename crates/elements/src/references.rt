@@ -9,6 +9,8 @@ ghost use Rattle.model.specs.Elements.{elementType, connectivityLength, allNode
 ghost use Rattle.model.specs.Rules.{check};
 ghost use Rattle.model.specs.Answers.{stageTells};
 ghost use Rattle.elements.specs.Given.{SectionReady};
+ghost use Rattle.elements.specs.Ranges.{Faces};
+ghost use lib.ListN as ListN;
 ghost use Rattle.elements.specs.Groups.{referenceRules};
 ghost use Prim.Native.Nat.{_≤_, _<_};
 use super::arrays::all_within;
@@ -38,9 +40,19 @@ fn nodes_lawful(image: &[u8], s: usize, connectivity: usize, length: u64) -> boo
 }
 
 // Rule 35: every reference of section s is a face of its zone.
-fn faces_lawful(image: &[u8], s: usize, connectivity: usize, length: u64) -> bool
+fn faces_lawful(
+    image: &[u8],
+    s: usize,
+    connectivity: usize,
+    length: u64,
+    firsts: &[u64],
+    reach: &[u64],
+    faces: usize,
+    hints: &mut [u16],
+) -> bool
     requires { ⌜ Sound (now image) × SectionReady (now image) s ⌝ }
     requires { ⌜ (connectivity ≡ connectivityOf (treeOf (now image)) s) × (length ≡ connectivityLength (treeOf (now image)) s) ⌝ }
+    requires { ⌜ Faces (treeOf (now image)) (now firsts) (now reach) faces × (4096 ≤ ListN.length (now hints)) ⌝ }
     ensures { λ r. ⌜ r ≡ allFaces (treeOf (now (image .entry))) s ⌝ }
 {
     let at = records::data_start(image, connectivity);
@@ -51,18 +63,33 @@ fn faces_lawful(image: &[u8], s: usize, connectivity: usize, length: u64) -> boo
         at,
         width,
         length as usize,
+        firsts,
+        reach,
+        faces,
+        hints,
     )
 }
 
 // Rules 34 and 35 at section s of type `kind`.
-pub fn reference_stage(image: &[u8], s: usize, kind: u64, connectivity: usize, length: u64) -> Stage
+pub fn reference_stage(
+    image: &[u8],
+    s: usize,
+    kind: u64,
+    connectivity: usize,
+    length: u64,
+    firsts: &[u64],
+    reach: &[u64],
+    faces: usize,
+    hints: &mut [u16],
+) -> Stage
     requires { ⌜ Sound (now image) × SectionReady (now image) s ⌝ }
     requires { ⌜ (connectivity ≡ connectivityOf (treeOf (now image)) s) × (length ≡ connectivityLength (treeOf (now image)) s) ⌝ }
     requires { ⌜ kind ≡ elementType (treeOf (now image)) s ⌝ }
+    requires { ⌜ Faces (treeOf (now image)) (now firsts) (now reach) faces × (4096 ≤ ListN.length (now hints)) ⌝ }
     ensures { λ r. ⌜ stageTells r ≡ check s (referenceRules (treeOf (now (image .entry))) s) ⌝ }
 {
     if kind == NFACE {
-        if faces_lawful(image, s, connectivity, length) {
+        if faces_lawful(image, s, connectivity, length, firsts, reach, faces, hints) {
             return Stage::Pass;
         }
         return Stage::Rejected(Rejection::at(35, s as u64));

@@ -135,6 +135,17 @@ pub fn find(firsts: &[u64], reach: &[u64], n: usize, hint: usize, f: u64) -> usi
     meeting(firsts, reach, n, f, f)
 }
 
+// The greatest number of a zone's ranges, where it has some: it says how far the hints reach, and no answer depends on it.
+pub fn top_of(firsts: &[u64], reach: &[u64], n: usize, zone: usize) -> u64
+    requires { ⌜ Ordered (now firsts) (now reach) n × (zone < 4096) ⌝ }
+{
+    let r = begun(firsts, n, key(zone, 4294967295));
+    if r == 0 {
+        return 0;
+    }
+    reach[r - 1] % 4294967296
+}
+
 // How many hints a table of hints has.
 pub const HINTS: usize = 4096;
 

@@ -2,24 +2,24 @@
 ghost use mathlib.Core.Path.{_≡_};
 ghost use mathlib.Core.Bool.{true, cond};
 ghost use mathlib.Core.List.{[]};
+ghost use Prim.Native.Nat.{_≤_};
 ghost use lib.Dec.{eqb};
+ghost use lib.ListN.{length};
+ghost use Rattle.model.specs.Lists.{seekFrom};
 ghost use Rattle.model.specs.Rules.{answer, check, passed};
 ghost use Rattle.model.specs.Image.{treeOf, nodeCount};
 ghost use Rattle.model.specs.Containment.{role, Elements, validated};
 ghost use Rattle.model.specs.Values.{sidsRules};
 ghost use Rattle.model.specs.Elements.{elementRules};
 ghost use Rattle.model.specs.Validation.{nodeCheckAt, nodeCheck, imageCheck, counts, validation};
-ghost use Rattle.model.specs.Given.{Sound, NodesTo};
+ghost use Rattle.model.specs.Given.{NodesTo};
 ghost use Rattle.model.specs.Answers.{stageTells, validationTells};
-ghost use Rattle.labels.specs.Ends.{Ends};
-ghost use Rattle.validation.specs.Kinds.{Kinds};
+ghost use Rattle.index.specs.Index.{Index};
+ghost use Rattle.elements.specs.Ranges.{overlapAt, Faces};
 
 mod counting; // counting.rt: how many nodes are validated
-mod kinds; // kinds.rt: what each node is taken for
 mod sizes; // sizes.rt: the DataSize of an array
 
-use kinds::is_validated;
-use kinds::mark_kinds;
 use labels::roles::ELEMENTS;
 use labels::roles::ZONE;
 use model::Stage;
@@ -27,43 +27,74 @@ use model::Validation;
 pub use sizes::data_size;
 
 // Rules 27 to 35 where node i is a section.
-fn section_stage(image: &[u8], i: usize) -> Stage
-    requires { ⌜ NodesTo (now image) i × (validated (treeOf (now image)) i ≡ true) ⌝ }
+fn section_stage(
+    image: &[u8],
+    index: &[u16],
+    i: usize,
+    overlap: usize,
+    firsts: &[u64],
+    reach: &[u64],
+    faces: usize,
+    hints: &mut [u16],
+) -> Stage
+    requires { ⌜ NodesTo (now image) i × Index (now image) (now index) ⌝ }
+    requires { ⌜ validated (treeOf (now image)) i ≡ true ⌝ }
     requires { ⌜ check i (sidsRules (treeOf (now image)) i) ≡ passed ⌝ }
+    requires { ⌜ overlap ≡ seekFrom (overlapAt (treeOf (now image))) (nodeCount (now image)) 0 ⌝ }
+    requires { ⌜ Faces (treeOf (now image)) (now firsts) (now reach) faces × (4096 ≤ length (now hints)) ⌝ }
     ensures { λ r. ⌜ stageTells r ≡ check i (cond (eqb (role (treeOf (now (image .entry))) i) Elements) (elementRules (treeOf (now (image .entry))) i) []) ⌝ }
 {
-    if labels::role_of(image, i) == ELEMENTS {
-        return elements::element_stage(image, i);
+    if index::role_of(image, index, i) == ELEMENTS {
+        return elements::element_stage(image, index, i, overlap, firsts, reach, faces, hints);
     }
     Stage::Pass
 }
 
 // Rules 20 to 35 at node i, to which validation has come; a node that is not validated is skipped.
-fn node_stage(image: &[u8], ends: &[u16], kinds: &[u8], i: usize) -> Stage
-    requires { ⌜ NodesTo (now image) i × Ends (now image) (now ends) (nodeCount (now image)) ⌝ }
-    requires { ⌜ Kinds (now image) (now kinds) (nodeCount (now image)) ⌝ }
+fn node_stage(
+    image: &[u8],
+    index: &[u16],
+    i: usize,
+    overlap: usize,
+    firsts: &[u64],
+    reach: &[u64],
+    faces: usize,
+    hints: &mut [u16],
+) -> Stage
+    requires { ⌜ NodesTo (now image) i × Index (now image) (now index) ⌝ }
+    requires { ⌜ overlap ≡ seekFrom (overlapAt (treeOf (now image))) (nodeCount (now image)) 0 ⌝ }
+    requires { ⌜ Faces (treeOf (now image)) (now firsts) (now reach) faces × (4096 ≤ length (now hints)) ⌝ }
     ensures { λ r. ⌜ stageTells r ≡ nodeCheckAt (treeOf (now (image .entry))) i ⌝ }
 {
-    if !is_validated(image, kinds, i) {
+    if !index::is_validated(image, index, i) {
         return Stage::Pass;
     }
-    let s = sids::sids_stage(image, ends, i);
+    let s = sids::sids_stage(image, index, i);
     let Stage::Pass = s else {
         return s;
     };
-    section_stage(image, i)
+    section_stage(image, index, i, overlap, firsts, reach, faces, hints)
 }
 
-// Rules 20 to 35 at every node, the lowest first. `ends` tells where the children of each node end, `kinds` what each node is taken for.
-fn every_node(image: &[u8], ends: &[u16], kinds: &[u8]) -> Stage
-    requires { ⌜ Sound (now image) × Ends (now image) (now ends) (nodeCount (now image)) ⌝ }
-    requires { ⌜ Kinds (now image) (now kinds) (nodeCount (now image)) ⌝ }
+// Rules 20 to 35 at every node, the lowest first. `overlap` is the first node that breaks rule 28; the tables hold the faces of all zones.
+fn every_node(
+    image: &[u8],
+    index: &[u16],
+    overlap: usize,
+    firsts: &[u64],
+    reach: &[u64],
+    faces: usize,
+    hints: &mut [u16],
+) -> Stage
+    requires { ⌜ Index (now image) (now index) ⌝ }
+    requires { ⌜ overlap ≡ seekFrom (overlapAt (treeOf (now image))) (nodeCount (now image)) 0 ⌝ }
+    requires { ⌜ Faces (treeOf (now image)) (now firsts) (now reach) faces × (4096 ≤ length (now hints)) ⌝ }
     ensures { λ r. ⌜ stageTells r ≡ nodeCheck (treeOf (now (image .entry))) ⌝ }
 {
     let n = labels::node_count(image);
     let mut i = 0;
     while i < n {
-        let s = node_stage(image, ends, kinds, i);
+        let s = node_stage(image, index, i, overlap, firsts, reach, faces, hints);
         let Stage::Pass = s else {
             return s;
         };
@@ -72,39 +103,41 @@ fn every_node(image: &[u8], ends: &[u16], kinds: &[u8]) -> Stage
     Stage::Pass
 }
 
-// The same, where both tables are not there yet. Found once, the ends spare each search for a child that is missing the way to the last node,
-// and the kinds spare each node the way up to the root.
-fn nodes_stage(image: &[u8]) -> Stage
-    requires { ⌜ Sound (now image) ⌝ }
+// The same, where the element ranges are not gathered yet.
+fn nodes_stage(image: &[u8], index: &[u16]) -> Stage
+    requires { ⌜ Index (now image) (now index) ⌝ }
     ensures { λ r. ⌜ stageTells r ≡ nodeCheck (treeOf (now (image .entry))) ⌝ }
 {
-    let mut ends: [u16; 4096] = [0; 4096];
-    let mut kinds: [u8; 4096] = [0; 4096];
-    labels::mark_ends(image, &mut ends);
-    mark_kinds(image, &mut kinds);
-    every_node(image, &ends, &kinds)
+    let mut firsts: [u64; 2048] = [0; 2048];
+    let mut reach: [u64; 2048] = [0; 2048];
+    let mut hints: [u16; 4096] = [0; 4096];
+    let overlap = elements::first_overlap(image, index, &mut firsts, &mut reach);
+    let faces = elements::gather_faces(image, index, &mut firsts, &mut reach);
+    every_node(image, index, overlap, &firsts, &reach, faces, &mut hints)
 }
 
-// Every rule, 1 to 35, as one stage.
-pub fn image_stage(image: &[u8]) -> Stage
-    ensures { λ r. ⌜ stageTells r ≡ imageCheck (now (image .entry)) ⌝ }
+// Every rule, 1 to 35, as one stage. The index is that of the image where rules 1 to 18 hold.
+pub fn image_stage(image: &[u8], index: &mut [u16]) -> Stage
+    requires { ⌜ 16384 ≤ length (now index) ⌝ }
+    ensures { λ r. ⌜ (stageTells r ≡ imageCheck (now (image .entry))) × (stageTells r ≡ passed → Index (now (image .entry)) (now (index .exit))) ⌝ }
 {
-    let s = table::table_stage(image);
+    let s = table::table_stage_with(image, index);
     let Stage::Pass = s else {
         return s;
     };
-    nodes_stage(image)
+    index::build(image, index);
+    nodes_stage(image, index)
 }
 
-// The four counts of an image in which rules 1 to 18 hold, by the table of kinds.
-fn counted(image: &[u8], kinds: &[u8]) -> Validation
-    requires { ⌜ Sound (now image) × Kinds (now image) (now kinds) (nodeCount (now image)) ⌝ }
+// The four counts of an image in which rules 1 to 18 hold.
+fn counted(image: &[u8], index: &[u16]) -> Validation
+    requires { ⌜ Index (now image) (now index) ⌝ }
     ensures { λ r. ⌜ validationTells r ≡ answer (counts (treeOf (now (image .entry)))) ⌝ }
 {
     let n = labels::node_count(image) as u64;
-    let validated = counting::count_validated(image, kinds);
-    let zones = counting::count_as(image, kinds, ZONE);
-    let sections = counting::count_as(image, kinds, ELEMENTS);
+    let validated = counting::count_validated(image, index);
+    let zones = counting::count_as(image, index, ZONE);
+    let sections = counting::count_as(image, index, ELEMENTS);
     Validation::Accepted {
         validated,
         skipped: n - validated,
@@ -113,23 +146,14 @@ fn counted(image: &[u8], kinds: &[u8]) -> Validation
     }
 }
 
-// The same, where the table is not there yet.
-fn accepted(image: &[u8]) -> Validation
-    requires { ⌜ Sound (now image) ⌝ }
-    ensures { λ r. ⌜ validationTells r ≡ answer (counts (treeOf (now (image .entry)))) ⌝ }
-{
-    let mut kinds: [u8; 4096] = [0; 4096];
-    mark_kinds(image, &mut kinds);
-    counted(image, &kinds)
-}
-
 // Whether the image meets every rule: the counts of validated nodes, skipped nodes, zones and sections; otherwise the first broken rule and its node.
 pub fn validate(image: &[u8]) -> Validation
     ensures { λ r. ⌜ validationTells r ≡ validation (now (image .entry)) ⌝ }
 {
-    let s = image_stage(image);
+    let mut index: [u16; 16384] = [0; 16384];
+    let s = image_stage(image, &mut index);
     let Stage::Pass = s else {
         return Validation::Rejected(s.rejection());
     };
-    accepted(image)
+    counted(image, &index)
 }

@@ -7,15 +7,16 @@ ghost use Rattle.model.specs.Image.{treeOf, nodeCount, parent};
 ghost use Rattle.model.specs.Containment.{validated};
 ghost use Rattle.model.specs.Values.{sizedArray, dataSizes};
 ghost use Rattle.model.specs.DataSize.{isSizedArray, sizesOf, dataSizeAnswer};
-ghost use Rattle.model.specs.Given.{Sound, Accepted};
+ghost use Rattle.model.specs.Given.{Accepted};
+ghost use Rattle.index.specs.Index.{Index};
 ghost use Rattle.model.specs.Answers.{dataSizeTells};
 use model::DataSize;
 use model::Rejection;
 use model::Stage;
 
 // Whether a number is that of a validated coordinate or flow array.
-fn is_sized_array(image: &[u8], node: u64) -> bool
-    requires { ⌜ Sound (now image) ⌝ }
+fn is_sized_array(image: &[u8], index: &[u16], node: u64) -> bool
+    requires { ⌜ Index (now image) (now index) ⌝ }
     ensures { λ r. ⌜ r ≡ isSizedArray (treeOf (now (image .entry))) node ⌝ }
 {
     let n = labels::node_count(image) as u64;
@@ -23,21 +24,22 @@ fn is_sized_array(image: &[u8], node: u64) -> bool
         return false;
     }
     let i = node as usize;
-    if !sids::sized_array(image, i) {
+    if !index::is_validated(image, index, i) {
         return false;
     }
-    labels::validated(image, i)
+    sids::sized_array(image, index, i)
 }
 
 // The sizes of a coordinate or flow array of an accepted image.
-fn array_sizes(image: &[u8], i: usize) -> DataSize
-    requires { ⌜ Accepted (now image) × (i < nodeCount (now image)) ⌝ }
+fn array_sizes(image: &[u8], index: &[u16], i: usize) -> DataSize
+    requires { ⌜ Accepted (now image) × Index (now image) (now index) ⌝ }
+    requires { ⌜ i < nodeCount (now image) ⌝ }
     requires { ⌜ (sizedArray (treeOf (now image)) i ≡ true) × (validated (treeOf (now image)) i ≡ true) ⌝ }
     ensures { λ r. ⌜ dataSizeTells r ≡ answer (sizesOf (dataSizes (treeOf (now (image .entry))) (parent (treeOf (now (image .entry))) i))) ⌝ }
 {
     let up = records::parent_of(image, i);
-    let n = types::index_dimension(image, records::parent_of(image, up));
-    let sizes = sids::data_sizes(image, up, labels::node_count(image));
+    let n = types::index_dimension(image, index, records::parent_of(image, up));
+    let sizes = sids::data_sizes(image, index, up);
     DataSize::Sizes {
         directions: n,
         i: sizes[0],
@@ -50,12 +52,13 @@ fn array_sizes(image: &[u8], i: usize) -> DataSize
 pub fn data_size(image: &[u8], node: u64) -> DataSize
     ensures { λ r. ⌜ dataSizeTells r ≡ dataSizeAnswer (now (image .entry)) node ⌝ }
 {
-    let s = crate::image_stage(image);
+    let mut index: [u16; 16384] = [0; 16384];
+    let s = crate::image_stage(image, &mut index);
     let Stage::Pass = s else {
         return DataSize::Rejected(s.rejection());
     };
-    if !is_sized_array(image, node) {
+    if !is_sized_array(image, &index, node) {
         return DataSize::Rejected(Rejection::at(40, 0));
     }
-    array_sizes(image, node as usize)
+    array_sizes(image, &index, node as usize)
 }

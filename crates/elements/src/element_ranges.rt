@@ -1,0 +1,140 @@
+// The element ranges of sections, of all zones in one pair of tables: rule 28, and the faces of rule 35.
+ghost use mathlib.Core.Path.{_≡_};
+ghost use mathlib.Core.Bool.{false, _&&_};
+ghost use Prim.Native.Nat.{_≤_, _<_, _+_};
+ghost use lib.Dec.{eqb};
+ghost use lib.ListN.{length};
+ghost use Rattle.model.specs.Lists.{seekFrom};
+ghost use Rattle.model.specs.Image.{treeOf, nodeCount};
+ghost use Rattle.model.specs.Given.{Sound};
+ghost use Rattle.model.specs.Containment.{role, Elements};
+ghost use Rattle.model.specs.Values.{typeLawful, valueLawful};
+ghost use Rattle.model.specs.Elements.{NGON, elementType};
+ghost use Rattle.index.specs.Index.{Index};
+ghost use Rattle.ranges.specs.Tables.{Gathered};
+ghost use Rattle.elements.specs.Ranges.{isRanged, firstKey, lastKey, overlapAt, RangeOf, Faces};
+use element_types::NGON;
+use labels::roles::ELEMENTS;
+use sids::range_of;
+
+const I4_TYPE: u64 = 4;
+
+// How many entries the tables have room for: a section that counts has a child of its own, so that an image has no more.
+pub const ROOM: usize = 2048;
+
+// Does section i meet rules 24 and 25, and have the type NGON_n?
+fn is_ngon(image: &[u8], i: usize) -> bool
+    requires { ⌜ (Sound (now image) × (i < nodeCount (now image))) × (role (treeOf (now image)) i ≡ Elements) ⌝ }
+    ensures { λ r. ⌜ r ≡ (typeLawful (treeOf (now (image .entry))) i && valueLawful (treeOf (now (image .entry))) i && eqb (elementType (treeOf (now (image .entry))) i) NGON) ⌝ }
+{
+    if !types::typed(image, i, I4_TYPE) {
+        return false;
+    }
+    if !types::shaped(image, i, 1, [2, 0, 0]) {
+        return false;
+    }
+    if !types::not_negative(image, i, 1) {
+        return false;
+    }
+    types::whole(image, i, 0) == NGON
+}
+
+// The ElementRange of node i where it is a section, of faces where only these are wanted; else the node count.
+fn range_if(image: &[u8], index: &[u16], faces: bool, i: usize) -> usize
+    requires { ⌜ Index (now image) (now index) × (i < nodeCount (now image)) ⌝ }
+    ensures { λ r. ⌜ RangeOf (now (image .entry)) faces i r ⌝ }
+{
+    if index::kind_of(image, index, i) != ELEMENTS {
+        return labels::node_count(image);
+    }
+    if faces {
+        if !is_ngon(image, i) {
+            return labels::node_count(image);
+        }
+    }
+    range_of(image, index, i)
+}
+
+// Puts the range of node i among the n of the nodes before it, where it is such a section. It answers how many there are.
+fn gather_node(
+    image: &[u8],
+    index: &[u16],
+    faces: bool,
+    i: usize,
+    firsts: &mut [u64],
+    reach: &mut [u64],
+    n: usize,
+) -> usize
+    requires { ⌜ Index (now image) (now index) × (i < nodeCount (now image)) ⌝ }
+    requires { ⌜ Gathered (isRanged (treeOf (now image)) faces) (firstKey (treeOf (now image))) (lastKey (treeOf (now image))) (now firsts) (now reach) n i ⌝ }
+    requires { ⌜ (2048 ≤ length (now firsts)) × (2048 ≤ length (now reach)) ⌝ }
+    ensures { λ r. ⌜ Gathered (isRanged (treeOf (now (image .entry))) faces) (firstKey (treeOf (now (image .entry)))) (lastKey (treeOf (now (image .entry)))) (now (firsts .exit)) (now (reach .exit)) r (i + 1) ⌝ }
+{
+    let range = range_if(image, index, faces, i);
+    if labels::node_count(image) <= range {
+        return n;
+    }
+    let zone = records::parent_of(image, i);
+    let first = ranges::key(zone, types::whole(image, range, 0));
+    let last = ranges::key(zone, types::whole(image, range, 1));
+    ranges::insert(firsts, reach, n, first, last);
+    n + 1
+}
+
+// Does the range of node i meet that of an earlier section of its zone? The n ranges are those of the nodes before it.
+fn meets_earlier(
+    image: &[u8],
+    index: &[u16],
+    i: usize,
+    firsts: &[u64],
+    reach: &[u64],
+    n: usize,
+) -> bool
+    requires { ⌜ Index (now image) (now index) × (i < nodeCount (now image)) ⌝ }
+    requires { ⌜ Gathered (isRanged (treeOf (now image)) false) (firstKey (treeOf (now image))) (lastKey (treeOf (now image))) (now firsts) (now reach) n i ⌝ }
+    ensures { λ r. ⌜ r ≡ overlapAt (treeOf (now (image .entry))) i ⌝ }
+{
+    let range = range_if(image, index, false, i);
+    if labels::node_count(image) <= range {
+        return false;
+    }
+    let zone = records::parent_of(image, i);
+    let first = ranges::key(zone, types::whole(image, range, 0));
+    let last = ranges::key(zone, types::whole(image, range, 1));
+    ranges::meets(firsts, reach, n, first, last)
+}
+
+// The first node whose range meets that of an earlier section of its zone; the node count where there is none.
+pub fn first_overlap(image: &[u8], index: &[u16], firsts: &mut [u64], reach: &mut [u64]) -> usize
+    requires { ⌜ Index (now image) (now index) ⌝ }
+    requires { ⌜ (2048 ≤ length (now firsts)) × (2048 ≤ length (now reach)) ⌝ }
+    ensures { λ r. ⌜ r ≡ seekFrom (overlapAt (treeOf (now (image .entry)))) (nodeCount (now (image .entry))) 0 ⌝ }
+{
+    let nodes = labels::node_count(image);
+    let mut n: usize = 0;
+    let mut i: usize = 0;
+    while i < nodes {
+        if meets_earlier(image, index, i, firsts, reach, n) {
+            return i;
+        }
+        n = gather_node(image, index, false, i, firsts, reach, n);
+        i += 1;
+    }
+    i
+}
+
+// The ranges of the faces of all zones. It answers how many there are.
+pub fn gather_faces(image: &[u8], index: &[u16], firsts: &mut [u64], reach: &mut [u64]) -> usize
+    requires { ⌜ Index (now image) (now index) ⌝ }
+    requires { ⌜ (2048 ≤ length (now firsts)) × (2048 ≤ length (now reach)) ⌝ }
+    ensures { λ r. ⌜ Faces (treeOf (now (image .entry))) (now (firsts .exit)) (now (reach .exit)) r ⌝ }
+{
+    let nodes = labels::node_count(image);
+    let mut n: usize = 0;
+    let mut i: usize = 0;
+    while i < nodes {
+        n = gather_node(image, index, true, i, firsts, reach, n);
+        i += 1;
+    }
+    n
+}
