@@ -1,14 +1,12 @@
 -- The element ranges of sections by their keys: what is gathered, rule 28, and the faces of a zone.
-use Prim.Native.Nat.{ℕ, zero, suc, _+_, _*_, _≤_, _<_}
-use mathlib.Core.Path.{_≡_, refl, sym, ap, _∙_}
+use Prim.Native.Nat.{ℕ, _≤_, _<_}
+use mathlib.Core.Path.{_≡_, refl, sym, _∙_}
 use mathlib.Core.Bool.{Bool, true, false, _&&_}
 use mathlib.Core.List.{List, [], _∷_}
 use native.Mathlib.Omega.{arith}
-use native.Mathlib.Decide.{ℕ-discrete}
 use lib.Dec.{eqb, leb, ltb}
-use lib.ListN.{length}
 use borrow.Author.Tests.{eq-eqb, ne-eqb, eqb-true, lt-ltb, le-ltb, leb-true, not-true}
-use Rattle.model.specs.Lists.{_⊃_, row, someFrom, everyFrom, countFrom, seekFrom}
+use Rattle.model.specs.Lists.{_⊃_, row, someFrom, countFrom, seekFrom}
 use Rattle.model.specs.Bytes.{magnitude}
 use Rattle.model.specs.Corner.{numberAt}
 use Rattle.model.specs.Image.{Tree, treeOf, nodeCount, parent, number, I4}
@@ -18,10 +16,10 @@ use Rattle.model.specs.Values.{typed, shaped, notNegative, typeLawful, valueLaw
 use Rattle.model.specs.Validation.{nodeRules, nodeCheckAt}
 use Rattle.model.specs.Elements.{NGON, elementType, firstElement, lastElement, inRange, meets, overlap, overlaps, faceSection, hasFace, faceOf, elementRules}
 use Rattle.model.proofs.Logic.{untrue, and-first, and-second}
-use Rattle.model.proofs.Loops.{SeekLeft, seek-start, seek-more, seek-stop}
+use Rattle.model.proofs.Loops.{SeekLeft, seek-start, seek-stop}
 use Rattle.model.proofs.Walks.{some-at, seek-holds}
 use Rattle.model.proofs.Passed.{check-pass, hold-right, claim}
-use Rattle.model.proofs.Conforming.{conforming-inside, conforming-parent, conforming-role, section-is}
+use Rattle.model.proofs.Conforming.{conforming-inside, conforming-parent, conforming-role}
 use Rattle.model.proofs.Above.{earlier-rule}
 use Rattle.types.proofs.Roles.{held-inside}
 use Rattle.ranges.specs.Tables.{key, meetsAt, meetsSection, inRanges, Gathered}

@@ -1,5 +1,4 @@
 -- A section that counts is put in; the tables have room for all of them.
-use Prim.Native.Nat.{_≤_}
 use mathlib.Core.Path.{_≡_}
 use mathlib.Core.Bool.{true}
 use Rattle.model.specs.Image.{treeOf}

@@ -1,5 +1,4 @@
 -- The range stores its two numbers.
-use Rattle.model.specs.Image.{treeOf}
 use Rattle.elements.proofs.Stored.{stores-has}
 use Rattle.elements.proofs.Searches.{first-by, last-by}
 use Rattle.elements.proofs.RangeLaws.{first-key, last-key}

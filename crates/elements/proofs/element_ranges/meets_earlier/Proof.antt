@@ -1,5 +1,4 @@
 -- The ranges gathered are those of the earlier sections.
-use Prim.Native.Nat.{_≤_}
 use mathlib.Core.Path.{_≡_}
 use mathlib.Core.Bool.{true, false}
 use Rattle.model.specs.Image.{treeOf}

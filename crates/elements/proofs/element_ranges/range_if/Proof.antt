@@ -3,7 +3,6 @@ use mathlib.Core.Path.{_≡_, sym, _∙_}
 use mathlib.Core.Bool.{true}
 use borrow.Author.Tests.{eq-eqb, ne-eqb, not-true, not-false}
 use Rattle.model.specs.Image.{treeOf}
-use Rattle.model.specs.Lists.{_⊃_}
 use Rattle.model.specs.Containment.{role, validatedAs, Elements}
 use Rattle.index.proofs.Marking.{kind-as, kind-parts}
 use Rattle.elements.proofs.RangeLaws.{range-none, not-section, not-wanted, range-by}

@@ -1,5 +1,5 @@
 -- Each test leaves the rules after it; rule 28 is broken at one node at most that validation comes to.
-use mathlib.Core.Path.{ap, sym, _∙_}
+use mathlib.Core.Path.{ap, _∙_}
 use borrow.Author.Tests.{eq-eqb, ne-eqb, not-true, not-false}
 use Rattle.model.specs.Rules.{rejected}
 use Rattle.elements.proofs.Stored.{stores-has}

@@ -2,7 +2,8 @@
 use mathlib.Core.Path.{ap, _∙_}
 use borrow.Author.Needs.{needs}
 use Rattle.model.specs.Image.{treeOf}
-use Rattle.model.specs.Values.{indexDimension}
+use Rattle.model.specs.Values.{indexDimension, dataSize}
+use Rattle.sids.specs.Sizes.{directions}
 use Rattle.validation.proofs.Laws.{sizes-told}
 use Rattle.sids.proofs.Context.{accepted-sized}
 use Rattle.validation.proofs.sizes.array_sizes.Statement.{statement}
@@ -24,7 +25,8 @@ data-sizes-requires : tie.Need-data-sizes-requires
 data-sizes-requires c κs =
     let u = c .before .before in
     let p = u .before .before .before .pre in
-    (p .0 .1, rw (u .parent-of .ensures .0) (accepted-sized _ (p .0 .0) _ (p .1 .0) (p .1 .1 .1) (p .1 .1 .0)))
+    let n = c .index-dimension .ensures in
+    ((p .0 .1, rw (u .parent-of .ensures .0) (accepted-sized _ (p .0 .0) _ (p .1 .0) (p .1 .1 .1) (p .1 .1 .0))), (n .0 ∙ ap (indexDimension _) (c .before .parent-of2 .ensures .0), n .2))
 
 returns : tie.Need-returns
 returns c =
@@ -34,7 +36,7 @@ returns c =
     let t = treeOf (q .before .before .before .before .args .image .now) in
     let e = n .ensures .0 ∙ ap (indexDimension t) (q .parent-of2 .ensures .0) in
     rw (← u .ensures .0)
-    (sizes-told t (u .result) (n .result) (c .data-sizes .result) e (n .ensures .1) (n .ensures .2) (c .data-sizes .ensures))
+    (sizes-told t (u .result) (n .result) (c .data-sizes .result) e (n .ensures .1) (n .ensures .2) (c .data-sizes .ensures ∙ ap (directions (dataSize t (u .result))) e))
 
 pub array-sizes-spec : {M : Type 1} → statement M
 array-sizes-spec =

@@ -4,8 +4,8 @@ use Rattle.model.specs.Image.{nodeCount}
 use Rattle.labels.proofs.Kin.{count-at}
 use native.Mathlib.Omega.{arith}
 use borrow.Author.Needs.{needs}
-use Rattle.labels.proofs.tree.node_count.Statement.{statement}
-use Rattle.labels.proofs.tree.node_count.Tie as tie
+use Rattle.labels.proofs.node_count.Statement.{statement}
+use Rattle.labels.proofs.node_count.Tie as tie
 
 returns : tie.Need-returns
 returns c =
