@@ -1,48 +1,74 @@
--- The sections of a zone of an accepted image: what rules 20 to 28 say of their type and range.
-use Prim.Native.Nat.{ℕ, zero, suc, _+_, _*_, _-_, _≤_, _<_}
+-- The sections of a zone of an accepted image: what rules 20 to 28 say of their type and range, and what their faces' places are.
+use Prim.Native.Nat.{ℕ, zero, suc, _+_, _*_, _-_, _≤_, _<_, max}
 use mathlib.Core.Path.{_≡_, refl, sym, ap, subst, _∙_}
 use mathlib.Core.Bool.{Bool, true, false, cond, _&&_}
 use mathlib.Core.List.{List, [], _∷_}
 use native.Mathlib.Omega.{arith}
 use lib.Dec.{eqb, leb}
-use borrow.Author.Tests.{leb-true}
-use Rattle.model.specs.Lists.{seekFrom, sumBefore}
-use Rattle.model.specs.Image.{treeOf, nodeCount, number, I4}
+use borrow.Author.Tests.{leb-true, eqb-true}
+use Rattle.model.specs.Lists.{seekFrom, sumBefore, countFrom}
+use Rattle.model.specs.Bytes.{text}
+use Rattle.model.specs.Image.{Tree, treeOf, nodeCount, parent, number, I4}
 use Rattle.model.specs.Given.{Accepted}
-use Rattle.model.specs.Containment.{sectionOf, found}
+use Rattle.model.specs.Containment.{role, sectionOf, found, Elements, IndexRange}
 use Rattle.model.specs.Values.{sidsRules, typed, typeLawful, valueLawful, rangeOf}
-use Rattle.model.specs.Elements.{NGON, elementType, firstElement, lastElement, elementCount, inRange, faceSection, hasFace}
-use Rattle.model.specs.FaceUsage.{facesIn, faceCount, facePlace, usesIn}
-use Rattle.model.proofs.Logic.{and-first, and-second}
-use Rattle.model.proofs.Walks.{seek-holds, seek-before, sum-part}
+use Rattle.model.specs.Elements.{NGON, NFACE, elementType, firstElement, lastElement, elementCount, inRange, connectivityLength, faceSection, hasFace, faceOf, faceNumber, isFace, allFaces, elementRules}
+use Rattle.model.specs.FaceUsage.{facesIn, faceCount, facePlace}
+use Rattle.model.proofs.Logic.{untrue, and-first, and-second, when}
+use Rattle.model.proofs.Walks.{every-at, some-at, seek-holds, seek-before, sum-part}
 use Rattle.model.proofs.Accepted.{sids-rule}
-use Rattle.model.proofs.Children.{no-child}
-use Rattle.model.proofs.InZone.{InZone, parts, role-is, range-found}
+use Rattle.model.proofs.Conforming.{section-is, conforming-inside, conforming-parent, conforming-role}
+use Rattle.model.proofs.InZone.{InZone, parts, role-is, section-rule, range-found}
 use Rattle.model.proofs.References.{InRange, one-section}
+use Rattle.index.specs.Index.{Index, kind}
+use Rattle.index.proofs.Marking.{kind-role}
 use Rattle.types.specs.Given.{Has}
 use Rattle.types.proofs.Held.{whole-four, has-pair, has-less}
+use Rattle.ranges.proofs.Cases.{both}
+use Rattle.ranges.proofs.Half.{half}
 use Rattle.elements.specs.Given.{Ranged}
 use Rattle.elements.proofs.Stored.{type-section, range-ready, stores-has}
+use Rattle.faces.specs.declared.sections.Span.{Span}
+use Rattle.faces.specs.Sections.{Section, Spans}
 
 and-true : (a : Bool) → (a && true) ≡ a
 and-true true = refl
 and-true false = refl
 
--- the range of section s, as it was read
-pub record RangeRead (b : List ℕ) (s first last : ℕ) : Type 0 where
-  pub is-first : first ≡ firstElement (treeOf b) s
-  pub is-last : last ≡ lastElement (treeOf b) s
-  pub one : 1 ≤ first
-  pub up : first ≤ last
-  pub most : last ≤ 2147483647
-
-pub count-read : {b : List ℕ} {s first last : ℕ} → RangeRead b s first last → elementCount (treeOf b) s ≡ last - first + 1
+pub count-read : {b : List ℕ} {s : ℕ} {r : Span} → Spans b s r → elementCount (treeOf b) s ≡ r .last - r .first + 1
 unfolding elementCount
 count-read g = rw (g .is-first, g .is-last)
 
-module _ {b : List ℕ} (a : Accepted b) where
-  module _ (z s : ℕ) (h : s < nodeCount b) (e : sectionOf (treeOf b) z s ≡ true) where
-    pub in-zone : InZone b z s
+-- a section, by its zone
+pub section-by : {b index : List ℕ} → Accepted b → Index b index → (z s : ℕ) → s < nodeCount b → sectionOf (treeOf b) z s ≡ true → Section b index s
+section-by {b} a i z s h e = record { accepted = a; indexed = i; inside = h; is-section = rw (section-is (treeOf b) z s e .parent-is) e }
+
+module _ {b index : List ℕ} {s : ℕ} (n : Section b index s) where
+  pub own-zone : InZone b (parent (treeOf b) s) s
+  own-zone = record { accepted = n .accepted .image; listed = n .inside; is-section = n .is-section }
+
+  pub section-kind : kind (treeOf b) s ≡ Elements
+  section-kind = kind-role (treeOf b) s (parts own-zone .is-validated) (role-is own-zone)
+
+  section-ranged : Ranged b s
+  section-ranged = range-ready (n .accepted .sound) s (range-found own-zone)
+
+  -- its range, as it is read
+  module _ {r : ℕ} (q : r ≡ rangeOf (treeOf b) s) where
+    pub range-has : (k : ℕ) → k < 2 → Has b r k
+    range-has k l = subst (λ (r : ℕ). Has b r k) (sym q) (stores-has (n .accepted .sound) (section-ranged .range) k l)
+
+    pub spans : {x y : ℕ} → x ≡ number (treeOf b) r 0 → y ≡ number (treeOf b) r 1 → Spans b s (record { first = x; last = y })
+    unfolding firstElement lastElement
+    spans {x} {y} f l =
+        let g = section-ranged in
+        let p : x ≡ number (treeOf b) (rangeOf (treeOf b) s) 0 = f ∙ ap (λ (r : ℕ). number (treeOf b) r 0) q in
+        let m : y ≡ number (treeOf b) (rangeOf (treeOf b) s) 1 = l ∙ ap (λ (r : ℕ). number (treeOf b) r 1) q in
+        record { is-first = p; is-last = m; one = omega (arith, g .one, p); up = omega (arith, g .up, p, m); most = omega (arith, g .most, m) }
+
+module _ {b : List ℕ} (a : Accepted b) (z : ℕ) where
+  module _ (s : ℕ) (h : s < nodeCount b) (e : sectionOf (treeOf b) z s ≡ true) where
+    in-zone : InZone b z s
     in-zone = record { accepted = a .image; listed = h; is-section = e }
 
     -- 24, 25
@@ -54,7 +80,7 @@ module _ {b : List ℕ} (a : Accepted b) where
     unfolding sidsRules
     value-lawful = sids-rule b (a .image) 25 s h (parts in-zone .is-validated)
 
-    -- its type can be read, and its range
+    -- its type can be read
     pub section-has : Has b s 0
     section-has =
         let l = sym (type-section (treeOf b) s (role-is in-zone)) ∙ type-lawful in
@@ -62,34 +88,20 @@ module _ {b : List ℕ} (a : Accepted b) where
         (has-pair b (a .sound) s h (whole-four (treeOf b) s (and-first (typed (treeOf b) s (I4 ∷ [])) _ l)) (and-second (typed (treeOf b) s (I4 ∷ [])) _ l))
         (omega arith)
 
-    pub section-ranged : Ranged b s
-    section-ranged = range-ready (a .sound) s (range-found in-zone)
-
-    pub range-has : {r : ℕ} → r ≡ rangeOf (treeOf b) s → (k : ℕ) → k < 2 → Has b r k
-    range-has q k l = subst (λ (r : ℕ). Has b r k) (sym q) (stores-has (a .sound) (section-ranged .range) k l)
-
-    pub range-read : {r first last : ℕ} → r ≡ rangeOf (treeOf b) s → first ≡ number (treeOf b) r 0 → last ≡ number (treeOf b) r 1 → RangeRead b s first last
-    unfolding firstElement lastElement
-    range-read {r} {first} {last} q f l =
-        let g = section-ranged in
-        let p : first ≡ number (treeOf b) (rangeOf (treeOf b) s) 0 = f ∙ ap (λ (r : ℕ). number (treeOf b) r 0) q in
-        let m : last ≡ number (treeOf b) (rangeOf (treeOf b) s) 1 = l ∙ ap (λ (r : ℕ). number (treeOf b) r 1) q in
-        record { is-first = p; is-last = m; one = omega (arith, g .one, p); up = omega (arith, g .up, p, m); most = omega (arith, g .most, m) }
-
   -- a face section: a section of type 22
-  pub face-section-is : (z s : ℕ) → s < nodeCount b → faceSection (treeOf b) z s ≡ (sectionOf (treeOf b) z s && eqb (elementType (treeOf b) s) NGON)
+  pub face-section-is : (s : ℕ) → s < nodeCount b → faceSection (treeOf b) z s ≡ (sectionOf (treeOf b) z s && eqb (elementType (treeOf b) s) NGON)
   unfolding faceSection
-  face-section-is z s h = by-test (sectionOf (treeOf b) z s) refl
+  face-section-is s h = by-test (sectionOf (treeOf b) z s) refl
     where
       by-test : (u : Bool) → sectionOf (treeOf b) z s ≡ u
           → (u && typeLawful (treeOf b) s && valueLawful (treeOf b) s && eqb (elementType (treeOf b) s) NGON && found (treeOf b) (rangeOf (treeOf b) s))
           ≡ (u && eqb (elementType (treeOf b) s) NGON)
-      by-test true e = rw (type-lawful z s h e, value-lawful z s h e, range-found (in-zone z s h e)) (and-true _)
+      by-test true e = rw (type-lawful s h e, value-lawful s h e, range-found (in-zone s h e)) (and-true _)
       by-test false e = refl
 
-  module _ (z s : ℕ) (h : s < nodeCount b) (e : faceSection (treeOf b) z s ≡ true) where
-    pub face-in-zone : InZone b z s
-    face-in-zone = in-zone z s h (and-first (sectionOf (treeOf b) z s) _ (sym (face-section-is z s h) ∙ e))
+  module _ (s : ℕ) (h : s < nodeCount b) (e : faceSection (treeOf b) z s ≡ true) where
+    face-in-zone : InZone b z s
+    face-in-zone = in-zone s h (and-first (sectionOf (treeOf b) z s) _ (sym (face-section-is s h) ∙ e))
 
     pub face-ranged : Ranged b s
     face-ranged = range-ready (a .sound) s (range-found face-in-zone)
@@ -99,8 +111,34 @@ module _ {b : List ℕ} (a : Accepted b) where
     unfolding facesIn
     faces-are = rw e
 
+  -- its ElementRange is a child of its own, and no section
+  own : (s : ℕ) → s < nodeCount b → faceSection (treeOf b) z s ≡ true
+      → (rangeOf (treeOf b) s < nodeCount b) × (parent (treeOf b) (rangeOf (treeOf b) s) ≡ s) × (faceSection (treeOf b) z (rangeOf (treeOf b) s) ≡ false)
+  unfolding rangeOf treeOf
+  own s h e =
+      let n = text "ElementRange" in
+      let f = range-found (face-in-zone s h e) in
+      let l = conforming-inside (treeOf b) s IndexRange n f in (
+        l,
+        conforming-parent (treeOf b) s IndexRange n f,
+        both _ _ (λ g. absurd (omega (arith, role-is (face-in-zone (rangeOf (treeOf b) s) l g), conforming-role (treeOf b) s IndexRange n f))) untrue,
+      )
+
+  -- so there are no more than 2,048
+  pub few-sections : countFrom (faceSection (treeOf b) z) (nodeCount b) 0 ≤ 2048
+  few-sections = omega (arith, half (faceSection (treeOf b) z) (rangeOf (treeOf b)) (parent (treeOf b)) (nodeCount b) own, a .sound .laid .few)
+
+  -- 28: no two of them meet
+  pub apart : (s q : ℕ) → s < nodeCount b → q < nodeCount b → faceSection (treeOf b) z s ≡ true → faceSection (treeOf b) z q ≡ true
+      → firstElement (treeOf b) s ≤ lastElement (treeOf b) q → firstElement (treeOf b) q ≤ lastElement (treeOf b) s → s ≡ q
+  apart s q h l e g i j =
+      let x = face-ranged s h e .up in
+      let y = face-ranged q l g .up in
+      one-section (face-in-zone s h e) (face-in-zone q l g) (max (firstElement (treeOf b) s) (firstElement (treeOf b) q))
+      (record { from = omega arith; to = omega arith }) (record { from = omega arith; to = omega arith })
+
   -- a face of a face section: its place
-  module _ (z s f : ℕ) (h : s < nodeCount b) (e : hasFace (treeOf b) z f s ≡ true) where
+  module _ (s f : ℕ) (h : s < nodeCount b) (e : hasFace (treeOf b) z f s ≡ true) where
     in-range : InRange (treeOf b) s f
     unfolding hasFace inRange
     in-range =
@@ -114,58 +152,52 @@ module _ {b : List ℕ} (a : Accepted b) where
     unfolding hasFace
     face-holds = and-first (faceSection (treeOf b) z s) _ e
 
-  found-is : (z s f : ℕ) → s < nodeCount b → hasFace (treeOf b) z f s ≡ true → seekFrom (hasFace (treeOf b) z f) (nodeCount b) 0 ≡ s
-  found-is z s f h e =
+  found-is : (s f : ℕ) → s < nodeCount b → hasFace (treeOf b) z f s ≡ true → seekFrom (hasFace (treeOf b) z f) (nodeCount b) 0 ≡ s
+  found-is s f h e =
       let q = seekFrom (hasFace (treeOf b) z f) (nodeCount b) 0 in
       let l = seek-before (hasFace (treeOf b) z f) (nodeCount b) 0 s e (omega arith) (omega arith) in
       let m : q < nodeCount b = omega arith in
       let g = seek-holds (hasFace (treeOf b) z f) (nodeCount b) 0 (omega arith) in
-      one-section (face-in-zone z q m (face-holds z q f m g)) (face-in-zone z s h (face-holds z s f h e)) f (in-range z q f m g) (in-range z s f h e)
+      one-section (face-in-zone q m (face-holds q f m g)) (face-in-zone s h (face-holds s f h e)) f (in-range q f m g) (in-range s f h e)
 
-  pub place-is : (z s f : ℕ) → s < nodeCount b → hasFace (treeOf b) z f s ≡ true
+  pub place-is : (s f : ℕ) → s < nodeCount b → hasFace (treeOf b) z f s ≡ true
       → (facePlace (treeOf b) z f ≡ sumBefore (facesIn (treeOf b) z) s + (f - firstElement (treeOf b) s)) × (facePlace (treeOf b) z f < faceCount (treeOf b) z)
   unfolding facePlace faceCount treeOf elementCount
-  place-is z s f h e =
-      let q = found-is z s f h e in
+  place-is s f h e =
+      let q = found-is s f h e in
       let p : facePlace (treeOf b) z f ≡ sumBefore (facesIn (treeOf b) z) s + (f - firstElement (treeOf b) s) = rw q in
-      let r = in-range z s f h e in
-      let c = faces-are z s h (face-holds z s f h e) in
+      let r = in-range s f h e in
+      let c = faces-are s h (face-holds s f h e) in
       let m = sum-part (facesIn (treeOf b) z) s (nodeCount b) h in
       (p, omega (arith, p, c, m, r .from, r .to))
 
-  -- how many faces a node brings
-  pub few-faces : (z s : ℕ) → s < nodeCount b → facesIn (treeOf b) z s ≤ 2147483647
+  pub place-below : (f : ℕ) → faceOf (treeOf b) z f ≡ true → facePlace (treeOf b) z f < faceCount (treeOf b) z
+  unfolding faceOf treeOf
+  place-below f e = let u = some-at (hasFace (treeOf b) z f) (nodeCount b) 0 e in place-is (u .at) f (omega (arith, u .to)) (u .holds) .1
+
+  -- 35: each reference of a cell section is to a face of the zone
+  pub cells-faces : (s : ℕ) → s < nodeCount b → (sectionOf (treeOf b) z s && eqb (elementType (treeOf b) s) NFACE) ≡ true
+      → (k : ℕ) → k < connectivityLength (treeOf b) s → faceOf (treeOf b) z (faceNumber (treeOf b) s k) ≡ true
+  unfolding elementRules allFaces isFace
+  cells-faces s h e k l =
+      let i = in-zone s h (and-first (sectionOf (treeOf b) z s) _ e) in
+      let faces = when (eqb (elementType (treeOf b) s) NFACE) (allFaces (treeOf b) s) (section-rule i 35) (and-second (sectionOf (treeOf b) z s) _ e) in
+      rw (parts i .parent-is) at (every-at (isFace (treeOf b) s) (connectivityLength (treeOf b) s) 0 k faces (omega arith) (omega arith))
+
+  -- how many faces a node brings, and the nodes before i together
+  few-faces : (s : ℕ) → s < nodeCount b → facesIn (treeOf b) z s ≤ 2147483647
   unfolding facesIn elementCount
-  few-faces z s h = by-test (faceSection (treeOf b) z s) refl
+  few-faces s h = by-test (faceSection (treeOf b) z s) refl
     where
       by-test : (u : Bool) → faceSection (treeOf b) z s ≡ u → cond u (elementCount (treeOf b) s) 0 ≤ 2147483647
-      by-test true e = let r = face-ranged z s h e in omega (arith, r .one, r .up, r .most)
+      by-test true e = let r = face-ranged s h e in omega (arith, r .one, r .up, r .most)
       by-test false e = omega arith
 
-  -- no node up to the zone is a section of it
-  module _ (z : ℕ) (h : z < nodeCount b) (s : ℕ) (l : s ≤ z) where
-    pub no-section : sectionOf (treeOf b) z s ≡ false
-    unfolding sectionOf
-    no-section = rw (no-child b (a .sound) z h s l)
-
-    pub no-face-section : faceSection (treeOf b) z s ≡ false
-    no-face-section = face-section-is z s (omega arith) ∙ rw no-section
-
-    pub no-uses : usesIn (treeOf b) z s ≡ 0
-    unfolding usesIn
-    no-uses = rw no-section
-
--- sums over nodes
-pub sum-none : (f : ℕ → ℕ) (i : ℕ) → ((j : ℕ) → j < i → f j ≡ 0) → sumBefore f i ≡ 0
-unfolding sumBefore
-sum-none f zero e = refl
-sum-none f (suc i) e = rw (sum-none f i (λ j l. e j (omega arith)), e i (omega arith))
-
-pub sum-bounded : (f : ℕ → ℕ) (m i : ℕ) → ((j : ℕ) → j < i → f j ≤ m) → sumBefore f i ≤ i * m
-unfolding sumBefore
-sum-bounded f m zero e = omega arith
-sum-bounded f m (suc i) e =
-    let h = sum-bounded f m i (λ j l. e j (omega arith)) in
-    let q = e i (omega arith) in
-    let r : suc i * m ≡ i * m + m = omega arith in
-    rw r (omega arith)
+  pub total-small : (i : ℕ) → i ≤ nodeCount b → sumBefore (facesIn (treeOf b) z) i ≤ i * 2147483647
+  unfolding sumBefore
+  total-small zero h = omega arith
+  total-small (suc i) h =
+      let l = total-small i (omega arith) in
+      let q = few-faces i (omega arith) in
+      let r : suc i * 2147483647 ≡ i * 2147483647 + 2147483647 = omega arith in
+      rw r (omega arith)

@@ -1,7 +1,7 @@
 pub mod Accepted
 pub mod Gathering
 pub mod Marks
-pub mod Rows
+pub mod Arrays
 pub mod Runs
 pub mod Whole
 pub mod Checks

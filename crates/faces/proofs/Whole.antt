@@ -20,10 +20,8 @@ use Rattle.model.specs.FaceUsage.{faceCount, facePlace, unused, elementHolding,
 use Rattle.model.proofs.Logic.{and-first}
 use Rattle.model.proofs.Passed.{refused, into-value}
 use Rattle.model.proofs.Conforming.{section-is}
-use Rattle.faces.specs.Ranges.{Ranges}
 use Rattle.faces.specs.Uses.{used, Used}
-use Rattle.faces.proofs.Gathering.{place-below}
-use Rattle.faces.proofs.Rows.{cells-by, cells-faces}
+use Rattle.faces.proofs.Accepted.{place-below, cells-faces}
 
 -- bytes behind those that a run left
 abbrev pub behind : List ℕ → Answer (List ℕ) → Answer (List ℕ)
@@ -95,69 +93,70 @@ module _ (t : Tree) where
       (into-behind ys (λ later. useNodes t z n (suc i) later) (useEntries t i (usesIn t z i) 0 xs)
       (λ zs e. nodes-behind ys z n (suc i) zs (λ s j l m o. rw (entries-long i (usesIn t z i) 0 xs e) (h s j (omega arith) (omega arith) o))))
 
-module _ {b : List ℕ} (a : Accepted b) {z n : ℕ} {firsts lasts bases : List ℕ} (g : Ranges (treeOf b) z (nodeCount b) firsts lasts bases n) where
+module _ {b : List ℕ} (a : Accepted b) (z : ℕ) where
+  abbrev F : ℕ
+  F = faceCount (treeOf b) z
+
+  abbrev run : List ℕ → Answer (List ℕ)
+  run = useNodes (treeOf b) z (nodeCount b) 0
+
   -- each use has a place below F
-  use-below : (s k : ℕ) → s < nodeCount b → k < usesIn (treeOf b) z s → usePlace (treeOf b) s k < faceCount (treeOf b) z
+  use-below : (s k : ℕ) → s < nodeCount b → k < usesIn (treeOf b) z s → usePlace (treeOf b) s k < F
   unfolding usesIn usePlace
   use-below s k l h = by-test (sectionOf (treeOf b) z s && eqb (elementType (treeOf b) s) NFACE) refl h
     where
       by-test : (u : Bool) → (sectionOf (treeOf b) z s && eqb (elementType (treeOf b) s) NFACE) ≡ u → k < cond u (connectivityLength (treeOf b) s) 0
-          → facePlace (treeOf b) (parent (treeOf b) s) (faceNumber (treeOf b) s k) < faceCount (treeOf b) z
+          → facePlace (treeOf b) (parent (treeOf b) s) (faceNumber (treeOf b) s k) < F
       by-test true e m =
           rw (section-is (treeOf b) z s (and-first (sectionOf (treeOf b) z s) _ e) .parent-is)
-          (place-below b g (faceNumber (treeOf b) s k) (cells-faces (cells-by a z s l e) k m))
+          (place-below a z (faceNumber (treeOf b) s k) (cells-faces a z s l e k m))
       by-test false e m = absurd (omega arith)
 
+  usage-long : {zs : List ℕ} → usage (treeOf b) z ≡ answer zs → length zs ≡ F
+  unfolding usage
+  usage-long e = nodes-long (treeOf b) z _ 0 _ e ∙ length-replicate F 0
+
   module _ (out : List ℕ) where
-    run-is : useNodes (treeOf b) z (nodeCount b) 0 (replicate (faceCount (treeOf b) z) 0 ++ drop (faceCount (treeOf b) z) out)
-        ≡ behind (drop (faceCount (treeOf b) z) out) (usage (treeOf b) z)
+    run-is : run (replicate F 0 ++ drop F out) ≡ behind (drop F out) (usage (treeOf b) z)
     unfolding usage treeOf
     run-is =
-        nodes-behind (treeOf b) (drop (faceCount (treeOf b) z) out) z (nodeCount b) 0 (replicate (faceCount (treeOf b) z) 0)
-        (λ s j l m o. rw (length-replicate {A = ℕ} (faceCount (treeOf b) z) 0) (use-below s j (omega arith) o))
+        nodes-behind (treeOf b) (drop F out) z (nodeCount b) 0 (replicate F 0)
+        (λ s j l m o. rw (length-replicate {A = ℕ} F 0) (use-below s j (omega arith) o))
 
-    usage-long : {zs : List ℕ} → usage (treeOf b) z ≡ answer zs → length zs ≡ faceCount (treeOf b) z
-    unfolding usage
-    usage-long e = nodes-long (treeOf b) z _ 0 _ e ∙ length-replicate (faceCount (treeOf b) z) 0
+    -- what is told of a usage: an answer, and the bytes that are left
+    Told : Answer ℕ → List ℕ → Answer (List ℕ) → Type 0
+    Told x last w = (x ≡ (w into λ bytes. answer F)) × (last ≡ over out (usageBytes F w))
 
-    -- what a run over the cleared bytes told and left, and its bytes cleared again
-    module _ {first : List ℕ} {r : Stage} {after : List ℕ} (p : first ≡ replicate (faceCount (treeOf b) z) 0 ++ drop (faceCount (treeOf b) z) out)
-        (u : Used (faceCount (treeOf b) z) (useNodes (treeOf b) z (nodeCount b) 0 first) first r after) where
-      told : behind (drop (faceCount (treeOf b) z) out) (usage (treeOf b) z) ≡ used r after
-      told = sym run-is ∙ ap (useNodes (treeOf b) z (nodeCount b) 0) (sym p) ∙ u .tells
+    -- a run over the n cleared bytes, and its bytes cleared again
+    module _ {n : ℕ} (f : n ≡ F) {first : List ℕ} {r : Stage} {after : List ℕ} (p : first ≡ replicate n 0 ++ drop n out) (u : Used F (run first) first r after) where
+      told : behind (drop F out) (usage (treeOf b) z) ≡ used r after
+      told = sym run-is ∙ ap run (sym (rw f at p)) ∙ u .tells
 
-      Passed : Answer (List ℕ) → Type 0
-      Passed x = ((x into λ bytes. answer (faceCount (treeOf b) z)) ≡ answer (faceCount (treeOf b) z)) × (after ≡ over out (usageBytes (faceCount (treeOf b) z) x))
-
-      by-answer : (x : Answer (List ℕ)) → usage (treeOf b) z ≡ x → behind (drop (faceCount (treeOf b) z) out) x ≡ answer after → Passed x
-      unfolding Passed _into_ over usageBytes
+      by-answer : (x : Answer (List ℕ)) → usage (treeOf b) z ≡ x → behind (drop F out) x ≡ answer after → Told (answer n) after x
+      unfolding Told _into_ over usageBytes
       by-answer (rejected q) e h = refused h
       by-answer (answer zs) e h =
-          let w : zs ++ drop (faceCount (treeOf b) z) out ≡ after = cc in
-          (refl, sym w ∙ ap (λ (k : ℕ). zs ++ drop k out) (sym (usage-long e)))
+          let w : zs ++ drop F out ≡ after = cc in
+          (ap answer f, sym w ∙ ap (λ (k : ℕ). zs ++ drop k out) (sym (usage-long e)))
 
       pub run-passed : r ≡ Stage.Pass
-          → ((usage (treeOf b) z into λ bytes. answer (faceCount (treeOf b) z)) ≡ answer (faceCount (treeOf b) z)) × (after ≡ over out (usageBytes (faceCount (treeOf b) z) (usage (treeOf b) z)))
-      unfolding Passed
+          → (answer n ≡ (usage (treeOf b) z into λ bytes. answer F)) × (after ≡ over out (usageBytes F (usage (treeOf b) z)))
+      unfolding Told
       run-passed q = by-answer (usage (treeOf b) z) refl (told ∙ ap (λ (x : Stage). used x after) q)
 
-      Refused : Rejection → List ℕ → Answer (List ℕ) → Type 0
-      Refused q last x = ((x into λ bytes. answer (faceCount (treeOf b) z)) ≡ rejected q) × (last ≡ over out (usageBytes (faceCount (treeOf b) z) x))
+      module _ {last : List ℕ} (e : last ≡ replicate n 0 ++ drop n after) where
+        cleared : last ≡ over out (replicate F 0)
+        unfolding over
+        cleared =
+            (rw f at e) ∙ ap (λ (ys : List ℕ). replicate F 0 ++ ys) (u .rest ∙ ap (drop F) (rw f at p) ∙ drop-at (replicate F 0) (drop F out) F (length-replicate F 0))
+            ∙ ap (λ (k : ℕ). replicate F 0 ++ drop k out) (sym (length-replicate F 0))
 
-      cleared : {last : List ℕ} → last ≡ replicate (faceCount (treeOf b) z) 0 ++ drop (faceCount (treeOf b) z) after → last ≡ over out (replicate (faceCount (treeOf b) z) 0)
-      unfolding over
-      cleared e =
-          let n = faceCount (treeOf b) z in
-          e ∙ ap (λ (ys : List ℕ). replicate n 0 ++ ys) (u .rest ∙ ap (drop n) p ∙ drop-at (replicate n 0) (drop n out) n (length-replicate n 0))
-          ∙ ap (λ (k : ℕ). replicate n 0 ++ drop k out) (sym (length-replicate n 0))
+        by-refusal : (q : Rejection) (x : Answer (List ℕ)) → behind (drop F out) x ≡ rejected q → Told (rejected q) last x
+        unfolding Told _into_ usageBytes
+        by-refusal q (rejected o) h = (ap (λ (y : Rejection). rejected y) (let w : q ≡ o = cc in w), cleared)
+        by-refusal q (answer zs) h = refused (sym h)
 
-      by-refusal : (q : Rejection) (last : List ℕ) (x : Answer (List ℕ)) → behind (drop (faceCount (treeOf b) z) out) x ≡ rejected q
-          → last ≡ replicate (faceCount (treeOf b) z) 0 ++ drop (faceCount (treeOf b) z) after → Refused q last x
-      unfolding Refused _into_ usageBytes
-      by-refusal q last (rejected o) h e = (ap (λ (y : Rejection). rejected y) (let w : o ≡ q = cc in w), cleared e)
-      by-refusal q last (answer zs) h e = refused (sym h)
-
-      pub run-refused : {q : Rejection} {last : List ℕ} → r ≡ Stage.Rejected q → last ≡ replicate (faceCount (treeOf b) z) 0 ++ drop (faceCount (treeOf b) z) after
-          → ((usage (treeOf b) z into λ bytes. answer (faceCount (treeOf b) z)) ≡ rejected q) × (last ≡ over out (usageBytes (faceCount (treeOf b) z) (usage (treeOf b) z)))
-      unfolding Refused
-      run-refused {q} {last} e h = by-refusal q last (usage (treeOf b) z) (told ∙ ap (λ (x : Stage). used x after) e) h
+        pub run-refused : {q : Rejection} → r ≡ Stage.Rejected q
+            → (rejected q ≡ (usage (treeOf b) z into λ bytes. answer F)) × (last ≡ over out (usageBytes F (usage (treeOf b) z)))
+        unfolding Told
+        run-refused {q} o = by-refusal q (usage (treeOf b) z) (told ∙ ap (λ (x : Stage). used x after) o)

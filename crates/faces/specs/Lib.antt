@@ -1,2 +1,4 @@
+pub mod Sections
+pub mod Rows
 pub mod Ranges
 pub mod Uses

@@ -1,14 +1,18 @@
 // Face usage of a zone (document 01: the face ledger): how often, and with which sign, cells refer to each face.
 ghost use mathlib.Core.Path.{_≡_};
 ghost use lib.ListN.{length};
+ghost use Rattle.model.specs.Rules.{passed};
 ghost use Rattle.model.specs.Answers.{stageTells, usageTells};
 ghost use Rattle.model.specs.FaceUsage.{usageAnswer, usageMemory};
 ghost use Rattle.model.specs.Validation.{imageCheck};
+ghost use Rattle.index.specs.Index.{Index};
 
+mod cells; // cells.rt: the references of the zone's cells
 mod ledger; // ledger.rt: the bytes that are lent
-mod ranges; // ranges.rt: the zone's faces by ranges, and their places
+mod places; // places.rt: the zone's faces by ranges, and their places
+mod rows; // rows.rt: rows of numbers
 mod sections; // sections.rt: the sections of a zone
-mod uses; // uses.rt: the references of the zone's cells, one after the other
+mod uses; // uses.rt: the references, one after the other
 mod zone; // zone.rt: a zone's usage
 
 use model::FaceUsage;
@@ -17,17 +21,17 @@ use model::Stage;
 
 // The usage of a zone's faces after the image's check: its rejection, then 40, 44, 45, or F with the first F bytes written. Bytes after them never
 // change; on 45 the first F are 0, and every other rejection leaves them all.
-fn usage_after(verdict: Stage, image: &[u8], zone: u64, out: &mut [u8]) -> FaceUsage
-    requires { ⌜ stageTells verdict ≡ imageCheck (now image) ⌝ }
+fn usage_after(verdict: Stage, image: &[u8], index: &[u16], zone: u64, out: &mut [u8]) -> FaceUsage
+    requires { ⌜ (stageTells verdict ≡ imageCheck (now image)) × (stageTells verdict ≡ passed → Index (now image) (now index)) ⌝ }
     ensures { λ r. ⌜ (usageTells r ≡ usageAnswer (now (image .entry)) zone (length (now (out .entry)))) × (now (out .exit) ≡ usageMemory (now (image .entry)) zone (now (out .entry))) ⌝ }
 {
     let Stage::Pass = verdict else {
         return FaceUsage::Rejected(verdict.rejection());
     };
-    if !labels::is_zone(image, zone) {
+    if !index::is_zone(image, index, zone) {
         return FaceUsage::Rejected(Rejection::at(40, 0));
     }
-    zone::zone_usage(image, zone as usize, out)
+    zone::zone_usage(image, index, zone as usize, out)
 }
 
 // The usage of a zone's faces: validation's rejection, then 40, 44, 45, or how many faces the zone has, a byte for each written in front of `out`. On 45
@@ -35,5 +39,7 @@ fn usage_after(verdict: Stage, image: &[u8], zone: u64, out: &mut [u8]) -> FaceU
 pub fn face_usage(image: &[u8], zone: u64, out: &mut [u8]) -> FaceUsage
     ensures { λ r. ⌜ (usageTells r ≡ usageAnswer (now (image .entry)) zone (length (now (out .entry)))) × (now (out .exit) ≡ usageMemory (now (image .entry)) zone (now (out .entry))) ⌝ }
 {
-    usage_after(validation::image_stage(image), image, zone, out)
+    let mut index: [u16; 16384] = [0; 16384];
+    let verdict = validation::image_stage(image, &mut index);
+    usage_after(verdict, image, &index, zone, out)
 }

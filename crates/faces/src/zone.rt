@@ -1,7 +1,7 @@
 // Face usage of a zone of an accepted image.
 ghost use mathlib.Core.Path.{_≡_};
 ghost use mathlib.Core.Bool.{true};
-ghost use Prim.Native.Nat.{_≤_, _<_};
+ghost use Prim.Native.Nat.{_≤_};
 ghost use lib.ListN.{length};
 ghost use Rattle.model.specs.Lists.{over};
 ghost use Rattle.model.specs.Rules.{answer, _into_};
@@ -10,9 +10,10 @@ ghost use Rattle.model.specs.Image.{treeOf, nodeCount};
 ghost use Rattle.model.specs.Given.{Accepted};
 ghost use Rattle.model.specs.Containment.{isZone};
 ghost use Rattle.model.specs.FaceUsage.{faceCount, usage, usageBytes, usageAnswer, usageMemory};
+ghost use Rattle.index.specs.Index.{Index};
 ghost use Rattle.faces.specs.Ranges.{Ranges};
 use super::ledger::clear;
-use super::ranges::gather;
+use super::places::gather;
 use super::uses::use_nodes;
 use model::FaceUsage;
 use model::Rejection;
@@ -21,22 +22,22 @@ use model::Stage;
 // Writes the usage of the zone's faces, whose ranges are at hand, into the first F bytes: 45, and F zeros, where one is used twice with one sign.
 fn fill(
     image: &[u8],
+    index: &[u16],
     z: usize,
     firsts: &[u64],
-    lasts: &[u64],
-    bases: &[u64],
+    reach: &[u64],
+    places: &[u64],
     count: usize,
     out: &mut [u8],
 ) -> FaceUsage
-    requires { ⌜ Accepted (now image) × (isZone (treeOf (now image)) z ≡ true) ⌝ }
-    requires { ⌜ Ranges (treeOf (now image)) z (nodeCount (now image)) (now firsts) (now lasts) (now bases) count ⌝ }
-    requires { ⌜ (count ≤ length (now firsts)) × (count ≤ length (now lasts)) × (count < length (now bases)) ⌝ }
+    requires { ⌜ Accepted (now image) × Index (now image) (now index) ⌝ }
+    requires { ⌜ Ranges (treeOf (now image)) z (nodeCount (now image)) (now firsts) (now reach) (now places) count ⌝ }
     requires { ⌜ faceCount (treeOf (now image)) z ≤ length (now out) ⌝ }
     ensures { λ r. ⌜ (usageTells r ≡ (usage (treeOf (now (image .entry))) z into λ bytes. answer (faceCount (treeOf (now (image .entry))) z))) × (now (out .exit) ≡ over (now (out .entry)) (usageBytes (faceCount (treeOf (now (image .entry))) z) (usage (treeOf (now (image .entry))) z))) ⌝ }
 {
-    let faces = bases[count];
+    let faces = places[count];
     clear(out, faces as usize);
-    let s = use_nodes(image, z, firsts, lasts, bases, count, out);
+    let s = use_nodes(image, index, z, firsts, reach, places, count, out);
     let Stage::Pass = s else {
         clear(out, faces as usize);
         return FaceUsage::Rejected(s.rejection());
@@ -45,16 +46,16 @@ fn fill(
 }
 
 // The usage of the faces of zone z: 44 where out is too short, 45 where a face is used twice with one sign. Bytes after the first F stay.
-pub fn zone_usage(image: &[u8], z: usize, out: &mut [u8]) -> FaceUsage
-    requires { ⌜ Accepted (now image) × (isZone (treeOf (now image)) z ≡ true) ⌝ }
+pub fn zone_usage(image: &[u8], index: &[u16], z: usize, out: &mut [u8]) -> FaceUsage
+    requires { ⌜ (Accepted (now image) × Index (now image) (now index)) × (isZone (treeOf (now image)) z ≡ true) ⌝ }
     ensures { λ r. ⌜ (usageTells r ≡ usageAnswer (now (image .entry)) z (length (now (out .entry)))) × (now (out .exit) ≡ usageMemory (now (image .entry)) z (now (out .entry))) ⌝ }
 {
-    let mut firsts: [u64; 4096] = [0; 4096];
-    let mut lasts: [u64; 4096] = [0; 4096];
-    let mut bases: [u64; 4097] = [0; 4097];
-    let count = gather(image, z, &mut firsts, &mut lasts, &mut bases);
-    if (out.len() as u64) < bases[count] {
+    let mut firsts: [u64; 2048] = [0; 2048];
+    let mut reach: [u64; 2048] = [0; 2048];
+    let mut places: [u64; 2049] = [0; 2049];
+    let count = gather(image, index, z, &mut firsts, &mut reach, &mut places);
+    if (out.len() as u64) < places[count] {
         return FaceUsage::Rejected(Rejection::at(44, 0));
     }
-    fill(image, z, &firsts, &lasts, &bases, count, out)
+    fill(image, index, z, &firsts, &reach, &places, count, out)
 }

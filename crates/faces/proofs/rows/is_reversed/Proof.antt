@@ -1,11 +1,9 @@
+-- A number of a width is negative from half of that width's patterns on.
 use borrow.Author.Needs.{needs}
 use Rattle.model.specs.Bytes.{negative, half}
 use Rattle.words.proofs.Signed.{eight}
-use Rattle.faces.proofs.uses.is_reversed.Statement.{statement}
-use Rattle.faces.proofs.uses.is_reversed.Tie as tie
-
-number-at-requires : tie.Need-number-at-requires
-number-at-requires c κs = search needs
+use Rattle.faces.proofs.rows.is_reversed.Statement.{statement}
+use Rattle.faces.proofs.rows.is_reversed.Tie as tie
 
 returns : tie.Need-returns
 unfolding negative half
@@ -16,4 +14,4 @@ unfolding negative half
 returns-2 c = rw (← c .before .number-at .ensures, eight _ (c .before .before .before .pre .0 .wide) (c .if1 .left))
 
 pub is-reversed-spec : {M : Type 1} → statement M
-is-reversed-spec = tie.close (tie.spec number-at-requires returns returns-2)
+is-reversed-spec = tie.close (tie.spec (λ c κs. search needs) returns returns-2)

@@ -1,0 +1,40 @@
+// The cell sections of a zone: the references that they bring, and which element holds one.
+ghost use mathlib.Core.Path.{_≡_};
+ghost use Prim.Native.Nat.{_<_};
+ghost use Rattle.model.specs.Image.{treeOf, nodeCount};
+ghost use Rattle.model.specs.Given.{Accepted};
+ghost use Rattle.model.specs.FaceUsage.{elementHolding};
+ghost use Rattle.index.specs.Index.{Index};
+ghost use Rattle.faces.specs.Sections.{Cells};
+ghost use Rattle.faces.specs.Uses.{References};
+use super::rows::Row;
+use super::rows::ends_after;
+use super::rows::row_of;
+use super::sections::has_type;
+use super::sections::span_of;
+use element_types::NFACE;
+
+// The references of node s, where it is a cell section of zone z; none where it is not.
+pub fn references_of(image: &[u8], index: &[u16], z: usize, s: usize) -> Row
+    requires { ⌜ Accepted (now image) × (Index (now image) (now index) × (s < nodeCount (now image))) ⌝ }
+    ensures { λ r. ⌜ References (now (image .entry)) (now (index .entry)) z s r ⌝ }
+{
+    if !has_type(image, index, z, s, NFACE) {
+        return Row { at: 0, width: 4, n: 0 };
+    }
+    let connectivity = sids::connectivity_of(image, index, s);
+    let n = records::dimension(image, connectivity, 0) as usize;
+    row_of(image, connectivity, n)
+}
+
+// The element of cell section s whose entries hold entry k.
+pub fn element_holding(image: &[u8], index: &[u16], s: usize, k: usize) -> u64
+    requires { ⌜ Cells (now image) (now index) s ⌝ }
+    ensures { λ r. ⌜ r ≡ elementHolding (treeOf (now (image .entry))) s k ⌝ }
+{
+    let span = span_of(image, index, s);
+    let first = span.first;
+    let n = (span.last - first) as usize + 2;
+    let offsets = row_of(image, sids::offsets_of(image, index, s), n);
+    first + ends_after(image, offsets, k as u64) as u64
+}
