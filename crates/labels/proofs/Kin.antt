@@ -1,20 +1,17 @@
 -- A node against what is asked of a child: its parent first, then its role, then its name.
 use Prim.Native.Nat.{ℕ, _+_, _≤_, _<_}
 use mathlib.Core.Path.{_≡_, refl, ap, sym, _∙_}
-use mathlib.Core.Bool.{Bool, true, false, _&&_, _||_}
-use mathlib.Core.List.{List, [], _∷_}
+use mathlib.Core.Bool.{Bool, true, false, _&&_}
+use mathlib.Core.List.{List}
 use native.Mathlib.Omega.{arith}
 use native.Mathlib.Nat.{add-zero}
 use lib.Dec.{eqb}
 use lib.ListN.{take, drop}
 use borrow.Author.Tests.{ne-eqb, eq-eqb, lt-ltb, le-ltb}
 use Rattle.model.specs.Bytes.{le, spells}
-use Rattle.model.specs.Image.{Tree, treeOf, nodeCount, headerWord, recordAt, parent, name}
-use Rattle.model.specs.Containment.{role, isChild, isZone, validatedAs, Zone, onceOnly, fixedName, fixedNames}
-use Rattle.model.specs.Lists.{among, someFrom}
-use Rattle.model.specs.Records.{sibling}
-use Rattle.model.specs.Values.{sameRole, second, named}
-use Rattle.model.proofs.Logic.{untrue}
+use Rattle.model.specs.Image.{treeOf, nodeCount, headerWord, recordAt, parent, name}
+use Rattle.model.specs.Containment.{role, isZone, validatedAs, Zone, fixedName, fixedNames}
+use Rattle.model.specs.Values.{named}
 use Rattle.model.specs.Given.{Sound}
 use Rattle.model.proofs.Parents.{parent-lower, lawful-at}
 use Rattle.labels.proofs.Grid.{spells-self, fixed-none}

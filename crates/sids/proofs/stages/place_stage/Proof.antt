@@ -1,7 +1,6 @@
 -- The root passes; below it the roles decide 20 and 21, and 22 is then not broken.
 use mathlib.Core.Path.{_≡_, sym, ap, _∙_}
 use mathlib.Core.Bool.{Bool, not}
-use native.Mathlib.Omega.{arith}
 use borrow.Author.Needs.{needs}
 use borrow.Author.Tests.{not-true, not-false}
 use Rattle.model.specs.Image.{treeOf}
