@@ -1,11 +1,10 @@
+pub mod Agree
 pub mod Rows
-pub mod Seeks
 pub mod Stages
-pub mod Pushes
 pub mod Stored
 pub mod Ready
 pub mod Searches
-pub mod FaceLaws
+pub mod RangeLaws
 pub mod RuleLaws
 pub mod ShapeLaws
 pub mod StageLaws

@@ -18,6 +18,7 @@ use Rattle.model.proofs.Passed.{check-pass}
 use Rattle.model.proofs.Accepted.{record-rule}
 use Rattle.model.proofs.Parents.{parent-lower, lawful-at}
 use Rattle.model.proofs.Above.{validated-above, earlier-rule, held-by}
+use Rattle.index.proofs.Marking.{kind-role}
 use Rattle.types.specs.Given.{Has}
 use Rattle.types.proofs.Held.{whole-wide, whole-four, shaped-is, has-by}
 use Rattle.elements.specs.Given.{SectionReady}
@@ -82,6 +83,7 @@ section-ready {b} {s} g v e c =
     record {
       inside = g .inside;
       elements = e;
+      kind-is = kind-role t s v e;
       own = stores-pair (g .sound) s (g .inside) (whole-four t s (and-first (typed t s (I4 ∷ [])) _ own)) (and-second (typed t s (I4 ∷ [])) _ own);
       below = low;
       zone = zone-has b (g .sound) (parent t s) (omega arith) z (earlier-rule b s g 24 (parent t s) low vz);

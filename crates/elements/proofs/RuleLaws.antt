@@ -16,7 +16,7 @@ use Rattle.elements.specs.Arrays.{Numbers, isWithin}
 use Rattle.elements.specs.Groups.{referenceRules}
 use Rattle.elements.specs.Given.{Indexed, SectionReady, refersFace}
 use Rattle.elements.proofs.Stored.{startOf, stores-row, stores-number}
-use Rattle.elements.proofs.Pushes.{every-same}
+use Rattle.elements.proofs.Agree.{every-same}
 
 -- the row of a node's numbers, by what was read of it
 module _ {b : List ℕ} (s : Sound b) {j at w n : ℕ} (a : Indexed b j) (p : at ≡ startOf b j) (q : w ≡ width (treeOf b) j) (r : n ≡ size (treeOf b) j) where

@@ -23,7 +23,7 @@ use Rattle.elements.specs.Groups.{shapeRules}
 use Rattle.elements.specs.Given.{Indexed, SectionReady}
 use Rattle.elements.proofs.Stored.{startOf}
 use Rattle.elements.proofs.RuleLaws.{row-of, number-of}
-use Rattle.elements.proofs.Pushes.{every-same}
+use Rattle.elements.proofs.Agree.{every-same}
 
 -- past the last node there are no dimensions
 nodes-past : (n : ℕ) (s : List ℕ) (i : ℕ) → n ≤ i → getD (nodesOf n s) i (nodeOf []) ≡ nodeOf []

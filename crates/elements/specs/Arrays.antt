@@ -1,6 +1,5 @@
 -- Rows of numbers in bytes, and what rules 31, 34 and 35 ask of each number of a row.
 use Prim.Native.Nat.{ℕ, suc, _+_, _*_, _≤_}
-use mathlib.Core.Path.{_≡_}
 use mathlib.Core.Bool.{Bool, _&&_}
 use mathlib.Core.List.{List, [], _∷_}
 use lib.ListN.{length}

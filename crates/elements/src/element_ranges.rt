@@ -4,14 +4,15 @@ ghost use mathlib.Core.Bool.{false, _&&_};
 ghost use Prim.Native.Nat.{_≤_, _<_, _+_};
 ghost use lib.Dec.{eqb};
 ghost use lib.ListN.{length};
-ghost use Rattle.model.specs.Lists.{seekFrom};
-ghost use Rattle.model.specs.Image.{treeOf, nodeCount};
+ghost use Rattle.model.specs.Lists.{_⊃_, seekFrom};
+ghost use Rattle.model.specs.Image.{treeOf, nodeCount, parent};
 ghost use Rattle.model.specs.Given.{Sound};
 ghost use Rattle.model.specs.Containment.{role, Elements};
-ghost use Rattle.model.specs.Values.{typeLawful, valueLawful};
+ghost use Rattle.model.specs.Values.{typeLawful, valueLawful, rangeOf};
 ghost use Rattle.model.specs.Elements.{NGON, elementType};
 ghost use Rattle.index.specs.Index.{Index};
 ghost use Rattle.ranges.specs.Tables.{Gathered};
+ghost use Rattle.elements.specs.Given.{Ranged};
 ghost use Rattle.elements.specs.Ranges.{isRanged, firstKey, lastKey, overlapAt, RangeOf, Faces};
 use element_types::NGON;
 use labels::roles::ELEMENTS;
@@ -39,6 +40,17 @@ fn is_ngon(image: &[u8], i: usize) -> bool
     types::whole(image, i, 0) == NGON
 }
 
+// Does section i count: where only sections of faces are wanted, is it one?
+fn is_wanted(image: &[u8], faces: bool, i: usize) -> bool
+    requires { ⌜ (Sound (now image) × (i < nodeCount (now image))) × (role (treeOf (now image)) i ≡ Elements) ⌝ }
+    ensures { λ r. ⌜ r ≡ (faces ⊃ (typeLawful (treeOf (now (image .entry))) i && valueLawful (treeOf (now (image .entry))) i && eqb (elementType (treeOf (now (image .entry))) i) NGON)) ⌝ }
+{
+    if faces {
+        return is_ngon(image, i);
+    }
+    true
+}
+
 // The ElementRange of node i where it is a section, of faces where only these are wanted; else the node count.
 fn range_if(image: &[u8], index: &[u16], faces: bool, i: usize) -> usize
     requires { ⌜ Index (now image) (now index) × (i < nodeCount (now image)) ⌝ }
@@ -47,12 +59,28 @@ fn range_if(image: &[u8], index: &[u16], faces: bool, i: usize) -> usize
     if index::kind_of(image, index, i) != ELEMENTS {
         return labels::node_count(image);
     }
-    if faces {
-        if !is_ngon(image, i) {
-            return labels::node_count(image);
-        }
+    if !is_wanted(image, faces, i) {
+        return labels::node_count(image);
     }
     range_of(image, index, i)
+}
+
+// The keys of a section's first and last element.
+struct Keys {
+    first: u64,
+    last: u64,
+}
+
+// The keys of section i, by its ElementRange.
+fn keys_of(image: &[u8], i: usize, range: usize) -> Keys
+    requires { ⌜ (Sound (now image) × (i < nodeCount (now image))) × (parent (treeOf (now image)) i < nodeCount (now image)) ⌝ }
+    requires { ⌜ (range ≡ rangeOf (treeOf (now image)) i) × Ranged (now image) i ⌝ }
+    ensures { λ r. ⌜ (r .first ≡ firstKey (treeOf (now (image .entry))) i) × (r .last ≡ lastKey (treeOf (now (image .entry))) i) ⌝ }
+{
+    let zone = records::parent_of(image, i);
+    let first = ranges::key(zone, types::whole(image, range, 0));
+    let last = ranges::key(zone, types::whole(image, range, 1));
+    Keys { first, last }
 }
 
 // Puts the range of node i among the n of the nodes before it, where it is such a section. It answers how many there are.
@@ -74,10 +102,8 @@ fn gather_node(
     if labels::node_count(image) <= range {
         return n;
     }
-    let zone = records::parent_of(image, i);
-    let first = ranges::key(zone, types::whole(image, range, 0));
-    let last = ranges::key(zone, types::whole(image, range, 1));
-    ranges::insert(firsts, reach, n, first, last);
+    let keys = keys_of(image, i, range);
+    ranges::insert(firsts, reach, n, keys.first, keys.last);
     n + 1
 }
 
@@ -98,10 +124,8 @@ fn meets_earlier(
     if labels::node_count(image) <= range {
         return false;
     }
-    let zone = records::parent_of(image, i);
-    let first = ranges::key(zone, types::whole(image, range, 0));
-    let last = ranges::key(zone, types::whole(image, range, 1));
-    ranges::meets(firsts, reach, n, first, last)
+    let keys = keys_of(image, i, range);
+    ranges::meets(firsts, reach, n, keys.first, keys.last)
 }
 
 // The first node whose range meets that of an earlier section of its zone; the node count where there is none.

@@ -1,12 +1,10 @@
 // Rule 35: references to the faces of a zone.
 ghost use mathlib.Core.Path.{_≡_};
 ghost use Prim.Native.Nat.{_≤_, _<_};
-ghost use lib.Dec.{ltb};
 ghost use lib.ListN.{length};
 ghost use Rattle.model.specs.Lists.{everyFrom};
-ghost use Rattle.model.specs.Image.{Tree, treeOf, nodeCount};
+ghost use Rattle.model.specs.Image.{treeOf, nodeCount};
 ghost use Rattle.model.specs.Given.{Sound};
-ghost use Rattle.model.specs.Elements.{faceOf};
 ghost use Rattle.elements.specs.Ranges.{Faces};
 ghost use Rattle.elements.specs.Given.{refersFace};
 ghost use Rattle.elements.specs.Arrays.{Numbers};

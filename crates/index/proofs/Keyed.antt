@@ -1,6 +1,6 @@
 -- The tables of keys, and that a node is for one slot at most.
 use Prim.Native.Nat.{ℕ, zero, suc, _+_, _*_, _/_, _%_, _≤_, _<_}
-use mathlib.Core.Path.{_≡_, refl, ap, sym, _∙_}
+use mathlib.Core.Path.{_≡_, refl, sym, _∙_}
 use mathlib.Core.Bool.{Bool, true, false, not, _&&_, _||_}
 use mathlib.Core.List.{List, [], _∷_}
 use native.Mathlib.Omega.{arith}
@@ -9,8 +9,8 @@ use native.Mathlib.Decide.{ℕ-discrete}
 use lib.Dec.{eqb, leb}
 use lib.ListN.{length, getD}
 use borrow.Author.Tests.{eq-eqb, ne-eqb, eqb-true, leb-true}
-use Rattle.model.specs.Lists.{row, everyFrom, seekFrom}
-use Rattle.model.specs.Bytes.{text, spells, blank}
+use Rattle.model.specs.Lists.{row, everyFrom}
+use Rattle.model.specs.Bytes.{text, spells}
 use Rattle.model.specs.Image.{Tree, name}
 use Rattle.model.specs.Containment.{role}
 use Rattle.model.proofs.Logic.{untrue, and-first, and-second}

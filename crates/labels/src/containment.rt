@@ -1,18 +1,14 @@
-// The placing table and the fixed names: the table's part of rule 20, and rules 21 and 22.
+// The placing table and the fixed names: the table's part of rule 20, and rule 21.
 ghost use mathlib.Core.Path.{_≡_};
 ghost use mathlib.Core.List.{[]};
 ghost use Prim.Native.Nat.{_+_, _≤_, _<_};
 ghost use lib.ListN.{length, take, drop, getD};
-ghost use Rattle.model.specs.Lists.{among};
 ghost use Rattle.model.specs.Bytes.{spells};
-ghost use Rattle.model.specs.Image.{treeOf, nodeCount};
-ghost use Rattle.model.specs.Given.{Sound};
-ghost use Rattle.model.specs.Containment.{mayHold, onceOnly};
-ghost use Rattle.model.specs.Values.{named, second};
+ghost use Rattle.model.specs.Image.{treeOf, nodeCount, parent};
+ghost use Rattle.model.specs.Bounds.{Laid};
+ghost use Rattle.model.specs.Containment.{role, mayHold};
+ghost use Rattle.model.specs.Values.{named};
 ghost use Rattle.labels.specs.Cells.{fixedTexts, cellOf};
-use super::roles;
-use super::roles::role_of;
-use super::tree::is_child_as;
 use records::Record;
 
 // The fixed names, each padded to 32 bytes.
@@ -68,16 +64,14 @@ fn name_is(image: &[u8], at: usize, k: usize) -> bool
     words::same_fields(image, at, &FIXED_NAMES, 32 * k)
 }
 
-// Rule 21: does node i have its fixed name, where it is to have one?
-pub fn named(image: &[u8], i: usize) -> bool
-    requires { ⌜ Sound (now image) × (i < nodeCount (now image)) ⌝ }
+// Rule 21: does node i have its fixed name, where it is to have one? Both roles are known; it is not the root.
+pub fn named(image: &[u8], above: u64, below: u64, i: usize) -> bool
+    requires { ⌜ Laid (now image) × (i < nodeCount (now image)) ⌝ }
+    requires { ⌜ (above ≡ role (treeOf (now image)) (parent (treeOf (now image)) i)) × (below ≡ role (treeOf (now image)) i) ⌝ }
+    requires { ⌜ (above < 15) × (below < 15) ⌝ }
     ensures { λ r. ⌜ r ≡ named (treeOf (now (image .entry))) i ⌝ }
 {
-    if i == 0 {
-        return true;
-    }
-    let up = records::parent_of(image, i);
-    let k = cell(role_of(image, up), role_of(image, i));
+    let k = cell(above, below);
     if k <= NO_FIXED_NAME {
         return true;
     }
@@ -86,40 +80,4 @@ pub fn named(image: &[u8], i: usize) -> bool
         Record::at(i) + Record::NAME,
         (k - NO_FIXED_NAME - 1) as usize,
     )
-}
-
-// May a node hold one child of this role only?
-fn once_only(role: u64) -> bool
-    ensures { λ r. ⌜ r ≡ among role onceOnly ⌝ }
-{
-    if role == roles::LIBRARY_VERSION {
-        return true;
-    }
-    if role == roles::ZONE_TYPE {
-        return true;
-    }
-    if role == roles::RIND {
-        return true;
-    }
-    role == roles::GRID_LOCATION
-}
-
-// Rule 22: is node i a second child of a role allowed once? Siblings stand after the parent, so the search starts there.
-pub fn second(image: &[u8], i: usize) -> bool
-    requires { ⌜ Sound (now image) × (i < nodeCount (now image)) ⌝ }
-    ensures { λ r. ⌜ r ≡ second (treeOf (now (image .entry))) i ⌝ }
-{
-    let role = role_of(image, i);
-    if !once_only(role) {
-        return false;
-    }
-    let up = records::parent_of(image, i);
-    let mut j = up + 1;
-    while j < i {
-        if is_child_as(image, up, role, j) {
-            return true;
-        }
-        j += 1;
-    }
-    false
 }

@@ -1,19 +1,24 @@
-// Labels and containment: what a node is validated as, which node holds which, the fixed names, and the search for a child.
-mod containment; // containment.rt: the placing table, the fixed names, once only
+// Labels and containment: the role of a node, which node holds which, the fixed names.
+ghost use mathlib.Core.Path.{_≡_};
+ghost use Prim.Native.Nat.{_≤_};
+ghost use Rattle.model.specs.Image.{nodeCount};
+ghost use Rattle.model.specs.Bounds.{Laid};
+
+mod containment; // containment.rt: the placing table, the fixed names
 pub mod roles; // roles.rt: the label's place among the known ones
 mod texts; // texts.rt: texts compared in place
-mod tree; // tree.rt: children, validated nodes, zones and sections
 
 pub use containment::may_hold;
 pub use containment::named;
-pub use containment::second;
+use records::Header;
 pub use roles::role_of;
 pub use texts::same_at;
 pub use texts::spells_at;
-pub use tree::child;
-pub use tree::child_before;
-pub use tree::is_zone;
-pub use tree::mark_ends;
-pub use tree::node_count;
-pub use tree::section_of;
-pub use tree::validated;
+
+// The node count.
+pub fn node_count(image: &[u8]) -> usize
+    requires { ⌜ Laid (now image) ⌝ }
+    ensures { λ r. ⌜ (r ≡ nodeCount (now (image .entry))) × (r ≤ 4096) ⌝ }
+{
+    words::u32_at(image, Header::NODE_COUNT) as usize
+}

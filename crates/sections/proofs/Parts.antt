@@ -10,7 +10,7 @@ use borrow.Author.Tests.{lt-ltb, le-ltb, eqb-true, eq-eqb}
 use Rattle.model.specs.Lists.{row}
 use Rattle.model.specs.Bytes.{text, spells, placeFrom}
 use Rattle.model.specs.Image.{treeOf, nodeCount, parent, node, nodeOf, nodesOf, wordCount, dimensions, dataTypes, dataType, width, widths, number, I4, I8}
-use Rattle.model.specs.Containment.{role, sectionOf, child, found, Root, IndexRange, DataArray, UserDefinedData}
+use Rattle.model.specs.Containment.{role, sectionOf, child, found, Root, Elements, IndexRange, DataArray, UserDefinedData}
 use Rattle.model.specs.Values.{sidsRules, typed, shaped, flat, size, indexArray, typeLawful, conforming, rangeOf, offsetsOf, connectivityOf}
 use Rattle.model.specs.Elements.{elementType, firstElement, lastElement, connectivityLength}
 use Rattle.model.specs.Given.{Sound}
@@ -22,6 +22,8 @@ use Rattle.model.proofs.Conforming.{conforming-inside, conforming-type, conform
 use Rattle.model.proofs.Arrays.{index-array}
 use Rattle.model.proofs.InZone.{InZone, parts, role-is, range-found, connectivity}
 use Rattle.model.proofs.LookedUp.{child-conforms}
+use Rattle.index.specs.Index.{kind}
+use Rattle.index.proofs.Marking.{kind-role}
 use Rattle.types.specs.Given.{Has}
 use Rattle.types.proofs.Held.{rank-is, whole-wide, whole-four, has-pair, has-less}
 use Rattle.sections.specs.After.{AcceptedSection}
@@ -62,6 +64,9 @@ module _ {b : List ℕ} {s : ℕ} (a : AcceptedSection b s) where
         listed = a .inside;
         is-section = and-both (eqb (parent (treeOf b) s) (parent (treeOf b) s)) _ (eq-eqb (parent (treeOf b) s) (parent (treeOf b) s) refl) (a .is-section);
       }
+
+  pub section-kind : kind (treeOf b) s ≡ Elements
+  section-kind = kind-role (treeOf b) s (parts in-zone .is-validated) (role-is in-zone)
 
   -- what is looked up under the section
   looked-up : (r : ℕ) (n : List ℕ) → 0 < r → (r ≡ Root → ⊥) → conforming (treeOf b) s r n ≡ child (treeOf b) s r n

@@ -22,19 +22,13 @@ use Rattle.model.proofs.Passed.{refused, check-pass, then-first, then-second, g
 use Rattle.model.proofs.Accepted.{table-passed}
 use Rattle.model.proofs.Bounds.{sound}
 use Rattle.model.proofs.Sections.{zone-is}
-use Rattle.sections.specs.After.{entriesTold}
+use Rattle.index.specs.Index.{Index}
+use Rattle.sections.specs.After.{Told, entriesTold}
 use Rattle.sections.proofs.Filling.{all-taken}
 
 -- an image that passed
 pub accepted : (b : List ℕ) → imageCheck b ≡ passed → Accepted b
 accepted b e = record { sound = sound b (table-passed b e); image = e }
-
--- n entries of the zone are written, in a list of room places
-pub record Told (b : List ℕ) (z room n : ℕ) : Type 0 where
-  pub few : n ≤ room
-  pub accepted-where : 0 < n → Accepted b
-  pub zone-where : 0 < n → z < nodeCount b
-  pub all-where : 0 < n → n ≡ length (sectionNodes (treeOf b) z)
 
 -- the check passed
 module _ (b : List ℕ) (z room : ℕ) (p : sectionsCheck b z room ≡ passed) where
@@ -71,12 +65,25 @@ counts b z room e =
       check-passed = p;
     }
 
-pub told : (b : List ℕ) (z room : ℕ) (r : Count) {n : ℕ} → countTells r ≡ sectionsAnswer b z room → n ≡ entriesTold r → Told b z room n
-told b z room (Count.Of m) e f =
+pub told : (b index : List ℕ) (z room : ℕ) (r : Count) {n : ℕ} → countTells r ≡ sectionsAnswer b z room → (imageCheck b ≡ passed → Index b index)
+    → n ≡ entriesTold r → Told b index z room n
+told b index z room (Count.Of m) e i f =
     let c = counts b z room e in
-    record { few = omega (arith, c .fits); accepted-where = λ h. c .is-accepted; zone-where = λ h. c .zone-inside; all-where = λ h. f ∙ c .all }
-told b z room (Count.Rejected x) e f =
-    record { few = omega arith; accepted-where = λ h. absurd (omega arith); zone-where = λ h. absurd (omega arith); all-where = λ h. absurd (omega arith) }
+    record {
+      few = omega (arith, c .fits);
+      index-where = λ h. i (c .is-accepted .image);
+      accepted-where = λ h. c .is-accepted;
+      zone-where = λ h. c .zone-inside;
+      all-where = λ h. f ∙ c .all;
+    }
+told b index z room (Count.Rejected x) e i f =
+    record {
+      few = omega arith;
+      index-where = λ h. absurd (omega arith);
+      accepted-where = λ h. absurd (omega arith);
+      zone-where = λ h. absurd (omega arith);
+      all-where = λ h. absurd (omega arith);
+    }
 
 left-alone : {A B : Type 0} (c : Check) {x : Rejection} (v : A) (out new : List B) → rejected x ≡ (c gives v) → leaves c out new ≡ out
 unfolding leaves _gives_ _then_

@@ -4,14 +4,11 @@ ghost use Prim.Native.Nat.{_≤_, _<_};
 ghost use Rattle.model.specs.Image.{treeOf, nodeCount, width};
 ghost use Rattle.model.specs.Values.{flat, size};
 ghost use Rattle.model.specs.Given.{Sound};
+ghost use Rattle.index.specs.Index.{Index};
 ghost use Rattle.model.specs.Sections.{dataStart, entry};
 ghost use Rattle.sections.specs.After.{AcceptedSection};
 ghost use mathlib.Core.Bool.{true};
 use model::Section;
-
-const INDEX_RANGE: u64 = 8;
-
-const DATA_ARRAY: u64 = 11;
 
 // Where the data of node j start, counted from the image's start; 0 for the node count, which stands for a missing node.
 fn start_of(image: &[u8], j: usize) -> u64
@@ -46,13 +43,13 @@ fn size_of(image: &[u8], j: usize) -> u64
 }
 
 // The entry of section s: its type, its range, and where its start offsets and its connectivity stand.
-pub fn entry_of(image: &[u8], s: usize) -> Section
-    requires { ⌜ AcceptedSection (now image) s ⌝ }
+pub fn entry_of(image: &[u8], index: &[u16], s: usize) -> Section
+    requires { ⌜ AcceptedSection (now image) s × Index (now image) (now index) ⌝ }
     ensures { λ r. ⌜ r ≡ entry (treeOf (now (image .entry))) s ⌝ }
 {
-    let range = labels::child(image, s, INDEX_RANGE, b"ElementRange");
-    let offsets = labels::child(image, s, DATA_ARRAY, b"ElementStartOffset");
-    let connectivity = labels::child(image, s, DATA_ARRAY, b"ElementConnectivity");
+    let range = index::range(image, index, s);
+    let offsets = index::offsets(image, index, s);
+    let connectivity = index::connectivity(image, index, s);
     Section {
         node: s as u64,
         element_type: types::whole(image, s, 0),

@@ -1,12 +1,12 @@
 -- What a search for a child found.
 use Prim.Native.Nat.{ℕ, _<_}
 use mathlib.Core.Path.{_≡_, sym, subst, _∙_}
-use mathlib.Core.Bool.{Bool, true, false, not, _&&_}
+use mathlib.Core.Bool.{Bool, true, not, _&&_}
 use mathlib.Core.List.{List}
 use lib.Dec.{eqb, ltb}
 use borrow.Author.Tests.{eqb-true, eq-eqb, ltb-true, not-true}
 use Rattle.model.specs.Image.{Tree, treeOf, nodeCount, parent}
-use Rattle.model.specs.Containment.{role, validated, Zone, Rind, Root, UserDefinedData, child, isChild, orMissing}
+use Rattle.model.specs.Containment.{role, Zone, Rind, Root, UserDefinedData, child, isChild, orMissing}
 use Rattle.model.specs.Given.{Sound}
 use Rattle.model.specs.Values.{zoneAbove, typeLawful, valueLawful, conforming}
 use Rattle.model.proofs.Logic.{untrue, and-first, and-second}

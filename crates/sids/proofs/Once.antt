@@ -1,12 +1,12 @@
 -- Rule 22 is never broken where 20 and 21 hold: a label allowed once has a fixed name under each parent that may hold it, and siblings differ in their names (rule 11).
 use Prim.Native.Nat.{ℕ, zero, suc, _<_}
-use mathlib.Core.Path.{_≡_, refl, ap, sym, _∙_}
-use mathlib.Core.Bool.{Bool, true, false, not, _&&_, _||_}
+use mathlib.Core.Path.{_≡_, refl, sym, _∙_}
+use mathlib.Core.Bool.{Bool, true, false, _&&_}
 use mathlib.Core.List.{List, [], _∷_}
 use native.Mathlib.Omega.{arith}
 use native.Mathlib.Decide.{ℕ-discrete}
 use lib.Dec.{eqb, ltb}
-use lib.ListN.{length, take, drop, length-drop}
+use lib.ListN.{length, drop, length-drop}
 use lib.Seq.{length-take-le}
 use borrow.Author.Tests.{eqb-true, eq-eqb, ne-eqb, lt-ltb, not-true}
 use Rattle.model.specs.Lists.{_⊃_, everyFrom, among, row, someFrom}
@@ -14,8 +14,8 @@ use Rattle.model.specs.Bytes.{same, spells, blank, text}
 use Rattle.model.specs.Image.{Tree, treeOf, nodeCount, recordAt, parent, name}
 use Rattle.model.specs.Records.{sibling, namesake, nameTaken, recordRules}
 use Rattle.model.specs.Given.{Sound, NodesTo}
-use Rattle.model.specs.Containment.{role, validated, mayHold, containment, fixedName, fixedNames, onceOnly, Root, UserDefinedData}
-use Rattle.model.specs.Values.{placed, named, second, sameRole, sidsRules}
+use Rattle.model.specs.Containment.{role, validated, mayHold, containment, fixedName, fixedNames, onceOnly, Root, Elements, UserDefinedData}
+use Rattle.model.specs.Values.{unstructured, placed, named, second, sameRole, sidsRules}
 use Rattle.model.proofs.Logic.{untrue, and-first, and-second}
 use Rattle.model.proofs.Walks.{every-at, some-at, some-by}
 use Rattle.model.proofs.Accepted.{record-rule}
@@ -23,9 +23,12 @@ use Rattle.model.proofs.Reading.{name-at}
 use Rattle.model.proofs.Validated.{validated-child}
 use Rattle.model.proofs.Sections.{not-root}
 use Rattle.model.proofs.Above.{validated-above, earlier-rule}
-use Rattle.labels.proofs.Kin.{parent-inside}
+use Rattle.model.specs.Rules.{check, passed}
+use Rattle.model.proofs.Staging.{kept}
+use Rattle.labels.proofs.Kin.{parent-inside, named-root}
+use Rattle.sids.specs.Groups.{placeRules}
 use Rattle.labels.proofs.Grid.{orElse, fixed-or}
-use Rattle.sids.proofs.Context.{placed-held}
+use Rattle.sids.proofs.Context.{placed-held, no-rule}
 use Rattle.index.specs.Index.{Index}
 use Rattle.index.proofs.Marking.{role-few}
 
@@ -136,3 +139,13 @@ module _ (b : List ℕ) (i : ℕ) (g : NodesTo b i) {index : List ℕ} (x : Inde
           absurd (untrue (sym (not-true _ (record-rule b (g .sound .table) 11 i (g .inside))) ∙ y))
       by-test true o false q = refl
       by-test false o d q = refl
+
+-- the root stands in its place, and has no fixed name
+pub root-place : (b : List ℕ) (i : ℕ) → i ≡ 0 → passed ≡ check i (placeRules (treeOf b) i)
+unfolding placed second role among onceOnly
+root-place b i z = rw z (sym (kept 0 20 _ refl ∙ kept 0 21 _ (sym (named-root b 0 refl)) ∙ kept 0 22 _ refl ∙ no-rule 0))
+
+pub placed-is : (t : Tree) (i : ℕ) {up above below : ℕ} {r : Bool} → (i ≡ 0 → ⊥) → up ≡ parent t i → above ≡ role t up → below ≡ role t i
+    → r ≡ (mayHold above below && (eqb below Elements ⊃ unstructured t up)) → placed t i ≡ r
+unfolding placed
+placed-is t i z e f g h = rw (ne-eqb i 0 z, ← e, ← f, ← g) (sym h)

@@ -8,7 +8,7 @@ use lib.ListN.{getD, take}
 use lib.Dec.{leb, eqb}
 use borrow.Author.Tests.{lt-ltb, leb-true, eqb-true}
 use Rattle.model.specs.Lists.{row, everyFrom}
-use Rattle.model.specs.Image.{Tree, treeOf, parent, I4, I8}
+use Rattle.model.specs.Image.{Tree, treeOf, parent, number, I4, I8}
 use Rattle.model.specs.Given.{Sound}
 use Rattle.model.specs.Records.{product}
 use Rattle.model.specs.Containment.{role, Zone}
@@ -82,12 +82,15 @@ module _ (t : Tree) (z : ℕ) (e : role t z ≡ Zone) (v : valueLawful t z ≡ t
   unfolding structuredSizes unstructuredSizes
   size-bounds = in-range (structured t z) (vertexSize t z d) (cellSize t z d) (boundarySize t z d) permitted
 
--- the row of VertexSize, or of CellSize for CellCenter
-pub row-first : (t : Tree) (p : ℕ) → cellCentred t p ≡ false → getD (zoneSizes t (parent t p)) 0 [] ≡ directions (innerSize t p) (indexDimension t (parent t p))
-row-first t p e = rw e
+-- VertexSize, or CellSize for CellCenter, as they are read
+module _ (t : Tree) (p : ℕ) {z n : ℕ} {r : List ℕ} (f : z ≡ parent t p) (g : n ≡ indexDimension t (parent t p)) where
+  pub inner-vertex : cellCentred t p ≡ false → r ≡ directions (λ k. number t z (0 + k)) n → r ≡ directions (innerSize t p) (indexDimension t (parent t p))
+  unfolding vertexSize
+  inner-vertex e h = h ∙ rw (f, g, e)
 
-pub row-second : (t : Tree) (p : ℕ) → cellCentred t p ≡ true → getD (zoneSizes t (parent t p)) 1 [] ≡ directions (innerSize t p) (indexDimension t (parent t p))
-row-second t p e = rw e
+  pub inner-cell : cellCentred t p ≡ true → r ≡ directions (λ k. number t z (n + k)) n → r ≡ directions (innerSize t p) (indexDimension t (parent t p))
+  unfolding cellSize
+  inner-cell e h = h ∙ rw (f, g, e)
 
 pub inner-small : (t : Tree) (p : ℕ) → role t (parent t p) ≡ Zone → valueLawful t (parent t p) ≡ true → (d : ℕ) → d < indexDimension t (parent t p) → innerSize t p d ≤ 2147483647
 inner-small t p e v d h = by-test (cellCentred t p) (size-bounds t (parent t p) e v d h)

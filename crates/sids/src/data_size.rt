@@ -10,7 +10,7 @@ ghost use Rattle.index.specs.Index.{Index};
 ghost use Rattle.sids.specs.Given.{Held, Sized};
 ghost use Rattle.sids.specs.Sizes.{direction, directions, innerSize};
 use super::children::conforming;
-use super::zone::zone_sizes;
+use super::zone::sizes_from;
 use labels::roles;
 
 // What a direction without rind adds.
@@ -31,16 +31,17 @@ fn cell_centred(image: &[u8], index: &[u16], p: usize) -> bool
     )
 }
 
-// VertexSize, or CellSize for CellCenter, in each direction.
-fn inner_sizes(image: &[u8], index: &[u16], p: usize) -> [u64; 3]
+// VertexSize, or CellSize for CellCenter, in each of n directions.
+fn inner_sizes(image: &[u8], index: &[u16], p: usize, n: usize) -> [u64; 3]
     requires { ⌜ Index (now image) (now index) × Sized (now image) p ⌝ }
+    requires { ⌜ (n ≡ indexDimension (treeOf (now image)) (parent (treeOf (now image)) p)) × (n ≤ 3) ⌝ }
     ensures { λ r. ⌜ r ≡ directions (innerSize (treeOf (now (image .entry))) p) (indexDimension (treeOf (now (image .entry))) (parent (treeOf (now (image .entry))) p)) ⌝ }
 {
-    let sizes = zone_sizes(image, index, records::parent_of(image, p));
+    let zone = records::parent_of(image, p);
     if cell_centred(image, index, p) {
-        return sizes[1];
+        return sizes_from(image, zone, n, n);
     }
-    sizes[0]
+    sizes_from(image, zone, n, 0)
 }
 
 // The two rind numbers of direction d, summed; 0 where no Rind conforms.
@@ -70,14 +71,14 @@ fn data_size_at(image: &[u8], p: usize, rind: usize, n: usize, inner: [u64; 3], 
     inner[d] + rind_sum(image, p, rind, d)
 }
 
-// DataSize under node p in each direction; 0 in a direction that the zone lacks.
-pub fn data_sizes(image: &[u8], index: &[u16], p: usize) -> [u64; 3]
+// DataSize under node p in each of n directions; 0 in a direction that the zone lacks.
+pub fn data_sizes(image: &[u8], index: &[u16], p: usize, n: usize) -> [u64; 3]
     requires { ⌜ Index (now image) (now index) × Sized (now image) p ⌝ }
-    ensures { λ r. ⌜ r ≡ directions (dataSize (treeOf (now (image .entry))) p) (indexDimension (treeOf (now (image .entry))) (parent (treeOf (now (image .entry))) p)) ⌝ }
+    requires { ⌜ (n ≡ indexDimension (treeOf (now image)) (parent (treeOf (now image)) p)) × (n ≤ 3) ⌝ }
+    ensures { λ r. ⌜ r ≡ directions (dataSize (treeOf (now (image .entry))) p) n ⌝ }
 {
-    let inner = inner_sizes(image, index, p);
+    let inner = inner_sizes(image, index, p, n);
     let rind = conforming(image, index, index::rind(image, index, p));
-    let n = types::index_dimension(image, index, records::parent_of(image, p)) as usize;
     let i = data_size_at(image, p, rind, n, inner, 0);
     let j = data_size_at(image, p, rind, n, inner, 1);
     let k = data_size_at(image, p, rind, n, inner, 2);

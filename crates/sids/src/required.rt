@@ -2,31 +2,28 @@
 ghost use mathlib.Core.Path.{_≡_};
 ghost use mathlib.Core.Bool.{true, _&&_};
 ghost use Prim.Native.Nat.{_<_};
-ghost use Rattle.model.specs.Lists.{someFrom};
+ghost use Rattle.model.specs.Lists.{_⊃_, someFrom};
+ghost use lib.Dec.{eqb};
 ghost use Rattle.model.specs.Image.{treeOf, nodeCount};
 ghost use Rattle.model.specs.Given.{Sound};
-ghost use Rattle.model.specs.Containment.{found, validated, Elements};
-ghost use Rattle.model.specs.Values.{placed, baseChild, complete, rangeOf, connectivityOf};
+ghost use Rattle.model.specs.Containment.{role, mayHold, found, validated, Elements};
+ghost use Rattle.model.specs.Values.{unstructured, baseChild, complete, rangeOf, connectivityOf};
 ghost use Rattle.index.specs.Index.{kind, Index};
 use super::children::connectivity_of;
 use super::children::range_of;
 use labels::roles;
 
-// Rule 20: the placing table has the label under this parent; Elements_t in an unstructured zone only.
-pub fn placed(image: &[u8], index: &[u16], i: usize) -> bool
-    requires { ⌜ Index (now image) (now index) × (i < nodeCount (now image)) ⌝ }
-    requires { ⌜ validated (treeOf (now image)) i ≡ true ⌝ }
-    ensures { λ r. ⌜ r ≡ placed (treeOf (now (image .entry))) i ⌝ }
+// Rule 20 below node up: the placing table has the label under this parent; Elements_t in an unstructured zone only. Both are roles.
+pub fn placed(image: &[u8], index: &[u16], up: usize, above: u64, below: u64) -> bool
+    requires { ⌜ Index (now image) (now index) × (up < nodeCount (now image)) ⌝ }
+    requires { ⌜ (validated (treeOf (now image)) up ≡ true) × (above ≡ role (treeOf (now image)) up) ⌝ }
+    requires { ⌜ (above < 15) × (below < 15) ⌝ }
+    ensures { λ r. ⌜ r ≡ (mayHold above below && (eqb below Elements ⊃ unstructured (treeOf (now (image .entry))) up)) ⌝ }
 {
-    if i == 0 {
-        return true;
-    }
-    let up = records::parent_of(image, i);
-    let role = index::role_of(image, index, i);
-    if !labels::may_hold(index::role_of(image, index, up), role) {
+    if !labels::may_hold(above, below) {
         return false;
     }
-    if role != roles::ELEMENTS {
+    if below != roles::ELEMENTS {
         return true;
     }
     types::unstructured(image, index, up)

@@ -33,10 +33,16 @@ fn place_stage(image: &[u8], index: &[u16], i: usize) -> Stage
     requires { ⌜ Index (now image) (now index) ⌝ }
     ensures { λ r. ⌜ stageTells r ≡ check i (placeRules (treeOf (now (image .entry))) i) ⌝ }
 {
-    if !placed(image, index, i) {
+    if i == 0 {
+        return Stage::Pass;
+    }
+    let up = records::parent_of(image, i);
+    let above = index::role_of(image, index, up);
+    let below = index::role_of(image, index, i);
+    if !placed(image, index, up, above, below) {
         return reject(20, i);
     }
-    if !labels::named(image, i) {
+    if !labels::named(image, above, below, i) {
         return reject(21, i);
     }
     Stage::Pass
@@ -84,7 +90,7 @@ fn sizes_lawful(image: &[u8], index: &[u16], i: usize) -> bool
     }
     let up = records::parent_of(image, i);
     let n = types::index_dimension(image, index, records::parent_of(image, up)) as usize;
-    types::shaped(image, i, n, data_sizes(image, index, up))
+    types::shaped(image, i, n, data_sizes(image, index, up, n))
 }
 
 // Rules 20 to 26 at a validated node that validation has come to.

@@ -22,7 +22,7 @@ fn size_at(image: &[u8], z: usize, n: usize, from: usize, d: usize) -> u64
 }
 
 // The sizes that stand from `from` on, direction by direction.
-fn sizes_from(image: &[u8], z: usize, n: usize, from: usize) -> [u64; 3]
+pub fn sizes_from(image: &[u8], z: usize, n: usize, from: usize) -> [u64; 3]
     requires { ⌜ Sound (now image) × Shaped (now image) z ⌝ }
     requires { ⌜ (n ≡ indexDimension (treeOf (now image)) z) × ((n ≤ 3) × (from + n ≤ 3 * n)) ⌝ }
     ensures { λ r. ⌜ r ≡ directions (λ k. number (treeOf (now (image .entry))) z (from + k)) n ⌝ }

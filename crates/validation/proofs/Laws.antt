@@ -99,6 +99,9 @@ counts-are t n v k z s en ev ek ez es =
     let w : k ≡ countFrom (skipped t) n 0 = omega (arith, count-both (validated t) (skipped t) n 0 (λ j. refl)) in
     rw (w, ev, ez, es, en)
 
+pub accepted-image : (b : List ℕ) → imageCheck b ≡ passed → Accepted b
+accepted-image b e = record { sound = sound b (table-passed b e); image = e }
+
 -- the data size call: the verdict's refusal, 40, or the sizes
 module _ (b : List ℕ) (i : ℕ) where
   pub size-refused : {r : Rejection} → imageCheck b ≡ rejected r → rejected r ≡ dataSizeAnswer b i
@@ -113,14 +116,12 @@ module _ (b : List ℕ) (i : ℕ) where
   unfolding dataSizeAnswer _gives_ _then_ check
   array-told e f = rw (e, f)
 
-  pub accepted-image : imageCheck b ≡ passed → Accepted b
-  accepted-image e = record { sound = sound b (table-passed b e); image = e }
-
   pub sized-parts : isSizedArray (treeOf b) i ≡ true → (i < nodeCount b) × ((sizedArray (treeOf b) i ≡ true) × (validated (treeOf b) i ≡ true))
   unfolding isSizedArray treeOf
   sized-parts e =
       let f = and-first (ltb i (nodeCount b) && sizedArray (treeOf b) i) _ e in
-      (ltb-true i (nodeCount b) (and-first (ltb i (nodeCount b)) _ f), (and-second (ltb i (nodeCount b)) _ f, and-second (ltb i (nodeCount b) && sizedArray (treeOf b) i) _ e))
+      let v = and-second (ltb i (nodeCount b) && sizedArray (treeOf b) i) _ e in
+      (ltb-true i (nodeCount b) (and-first (ltb i (nodeCount b)) _ f), (and-second (ltb i (nodeCount b)) _ f, v))
 
 -- the numbers of the answer are DataSize in each direction; a direction that the zone lacks is 0
 by-directions : (f : ℕ → ℕ) (n : ℕ) → 1 ≤ n → n ≤ 3
@@ -132,7 +133,10 @@ by-directions f (suc (suc zero)) l m = refl
 by-directions f (suc (suc (suc zero))) l m = refl
 by-directions f (suc (suc (suc (suc n)))) l m = absurd (omega arith)
 
-pub sizes-told : (t : Tree) (p n : ℕ) (s : List ℕ) → n ≡ indexDimension t (parent t p) → 1 ≤ n → n ≤ 3 → s ≡ directions (dataSize t p) (indexDimension t (parent t p))
+pub sizes-told : (t : Tree) (p n : ℕ) (s : List ℕ) → n ≡ indexDimension t (parent t p) → 1 ≤ n → n ≤ 3
+    → s ≡ directions (dataSize t p) (indexDimension t (parent t p))
     → answer (record { directions = n; i = getD s 0 0; j = getD s 1 0; k = getD s 2 0 }) ≡ answer (sizesOf (dataSizes t p))
 sizes-told t p n s e l m f =
-    rw (f, e) (ap (λ x. answer x) (by-directions (dataSize t p) (indexDimension t (parent t p)) (rw e at l) (rw e at m) ∙ ap sizesOf (data-sizes-are t p (rw e at m))))
+    let m = rw e at m in
+    let d = by-directions (dataSize t p) (indexDimension t (parent t p)) (rw e at l) m in
+    rw (f, e) (ap (λ x. answer x) (d ∙ ap sizesOf (data-sizes-are t p m)))

@@ -39,7 +39,7 @@ fn array_sizes(image: &[u8], index: &[u16], i: usize) -> DataSize
 {
     let up = records::parent_of(image, i);
     let n = types::index_dimension(image, index, records::parent_of(image, up));
-    let sizes = sids::data_sizes(image, index, up);
+    let sizes = sids::data_sizes(image, index, up, n as usize);
     DataSize::Sizes {
         directions: n,
         i: sizes[0],

@@ -8,40 +8,40 @@ use Rattle.elements.proofs.lengths.offset_shape.Statement.{statement}
 use Rattle.elements.proofs.lengths.offset_shape.Tie as tie
 
 offsets-of-requires : tie.Need-offsets-of-requires
-offsets-of-requires c κs = let p = c .before .pre in (p .0 .0, p .0 .1 .inside)
+offsets-of-requires c κs = let p = c .before .before .pre in ((p .0 .0, p .0 .1 .inside), p .0 .1 .kind-is)
 
 size-of-requires : tie.Need-size-of-requires
 size-of-requires c κs =
-    let p = c .before .before .pre in
-    ((p .0 .0, c .offsets-of .ensures .1), λ h. offsets-there (p .0 .1) (c .offsets-of .ensures .0) h)
+    let p = c .before .before .before .pre in
+    ((p .0 .0 .sound, c .offsets-of .ensures .1), λ h. offsets-there (p .0 .1) (c .offsets-of .ensures .0) h)
 
 add-if1 : tie.Need-add-if1
-add-if1 c = let p = c .before .before .before .pre in omega (arith, count-small (p .0 .1) (p .1 .0 .0))
+add-if1 c = let p = c .before .before .before .before .pre in omega (arith, count-small (p .0 .1) (p .1 .0 .0))
 
 returns : tie.Need-returns
 returns c =
     let z = c .before .before in
-    let p = z .before .before .before .pre in
+    let p = z .before .before .before .before .pre in
     ap rejected (c .at .ensures)
     ∙ offsets-short _ _ (p .1 .1) (p .1 .0 .0) (p .1 .0 .1) (z .before .offsets-of .ensures .0) (z .size-of .ensures) (c .before .if1 .taken)
 
 data-start-requires : tie.Need-data-start-requires
 data-start-requires c κs =
     let z = c .before in
-    (z .before .before .before .pre .0 .0, offsets-found _ _ _ _ (z .size-of .ensures) (c .if1 .left))
+    (z .before .before .before .before .pre .0 .0 .sound, offsets-found _ _ _ _ (z .size-of .ensures) (c .if1 .left))
 
 width-at-requires : tie.Need-width-at-requires
 width-at-requires c κs =
     let z = c .before .before in
-    (z .before .before .before .pre .0 .0 .laid, offsets-found _ _ _ _ (z .size-of .ensures) (c .before .if1 .left))
+    (z .before .before .before .before .pre .0 .0 .sound .laid, offsets-found _ _ _ _ (z .size-of .ensures) (c .before .if1 .left))
 
 offsets-stage-requires : tie.Need-offsets-stage-requires
 offsets-stage-requires c κs =
     let i = c .before .before in
     let z = i .before in
     let o = z .before in
-    let p = o .before .before .pre in (
-      offsets-row _ _ (p .1 .1) (p .1 .0 .0) (p .1 .0 .1) (o .offsets-of .ensures .0) (p .0 .0)
+    let p = o .before .before .before .pre in (
+      offsets-row _ _ (p .1 .1) (p .1 .0 .0) (p .1 .0 .1) (o .offsets-of .ensures .0) (p .0 .0 .sound)
           (offsets-there (p .0 .1) (o .offsets-of .ensures .0) (offsets-found _ _ _ _ (z .size-of .ensures) (i .if1 .left)))
           (c .before .data-start .ensures .0) (c .width-at .ensures .0) (sym (i .if1 .left) ∙ z .size-of .ensures),
       omega (arith, count-small (p .0 .1) (p .1 .0 .0)),
@@ -53,9 +53,9 @@ returns-2 c =
     let i = w .before .before in
     let z = i .before in
     let o = z .before in
-    let p = o .before .before .pre in
+    let p = o .before .before .before .pre in
     c .offsets-stage .ensures
-    ∙ offsets-fit _ _ (p .1 .1) (p .1 .0 .0) (p .1 .0 .1) (o .offsets-of .ensures .0) (p .0 .0)
+    ∙ offsets-fit _ _ (p .1 .1) (p .1 .0 .0) (p .1 .0 .1) (o .offsets-of .ensures .0) (p .0 .0 .sound)
     (offsets-there (p .0 .1) (o .offsets-of .ensures .0) (offsets-found _ _ _ _ (z .size-of .ensures) (i .if1 .left)))
     (w .before .data-start .ensures .0) (w .width-at .ensures .0) (sym (i .if1 .left) ∙ z .size-of .ensures)
 

@@ -1,7 +1,6 @@
 -- Four writes; nothing else changes.
-use Prim.Native.Nat.{_+_, _*_, _<_}
-use mathlib.Core.Path.{_∙_}
-use lib.ListN.{length, set, length-set}
+use Prim.Native.Nat.{_+_, _*_}
+use lib.ListN.{set, length-set}
 use Rattle.index.proofs.Marking.{row-begun}
 use native.Mathlib.Omega.{arith}
 use borrow.Author.Needs.{needs}

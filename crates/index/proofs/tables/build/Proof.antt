@@ -1,5 +1,5 @@
 -- The rows of the nodes before j are there.
-use Prim.Native.Nat.{_-_, _<_, _≤_, _+_}
+use Prim.Native.Nat.{_-_, _<_, _≤_}
 use mathlib.Core.Path.{_≡_, refl, _∙_}
 use lib.ListN.{length}
 use Rattle.model.specs.Image.{nodeCount}

@@ -1,3 +1,4 @@
+-- A node of one dimension stores as many numbers as its dimension word says.
 use Rattle.model.specs.Values.{size}
 use Rattle.sections.proofs.Parts.{one-word}
 use Rattle.sections.proofs.entries.size_of.Statement.{statement}

@@ -1,3 +1,4 @@
+-- A node that is there starts where its record says; one that is missing starts nowhere.
 use mathlib.Core.Path.{_∙_}
 use Rattle.sections.proofs.Parts.{present-start, absent-start}
 use native.Mathlib.Omega.{arith}

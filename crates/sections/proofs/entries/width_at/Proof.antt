@@ -1,3 +1,4 @@
+-- A node that is there has the width of its data type; one that is missing has none.
 use Prim.Native.Nat.{ℕ}
 use mathlib.Core.Path.{ap, _∙_}
 use lib.ListN.{getD}

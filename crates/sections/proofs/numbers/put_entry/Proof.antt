@@ -1,3 +1,4 @@
+-- Nine stores, one after the other, are the nine numbers.
 use Rattle.sections.proofs.Filling.{nine}
 use lib.ListN.{length-set}
 use native.Mathlib.Omega.{arith}

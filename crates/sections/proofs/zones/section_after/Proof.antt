@@ -1,3 +1,4 @@
+-- The nodes after i, one after the other: the first that is a section of the zone is the one.
 use Prim.Native.Nat.{_+_, _-_}
 use mathlib.Core.Path.{refl, sym, _∙_}
 use Rattle.model.specs.Lists.{seekFrom}
@@ -10,11 +11,11 @@ use Rattle.sections.proofs.zones.section_after.Statement.{statement}
 use Rattle.sections.proofs.zones.section_after.Tie as tie
 
 abbrev Inv-loop : tie.InvT-loop
-Inv-loop image zone i n j₀ j =
+Inv-loop image index zone i n j₀ j =
     SeekLeft (sectionOf (treeOf image) zone) (nodeCount image) j (seekFrom (sectionOf (treeOf image) zone) (nodeCount image - (i + 1)) (i + 1))
 
 abbrev μ-loop : tie.MeasureT-loop
-μ-loop image zone i n j₀ j = n - j
+μ-loop image index zone i n j₀ j = n - j
 
 loop-holds : tie.Need-loop-holds Inv-loop μ-loop
 loop-holds c = record { inside = omega arith; rest = refl }

@@ -1,3 +1,4 @@
+-- Each node after the zone counts as one section or as none.
 use Prim.Native.Nat.{_-_}
 use mathlib.Core.Path.{sym, _∙_}
 use mathlib.Core.Logic.{⊎-elim}
@@ -13,13 +14,13 @@ use Rattle.sections.proofs.zones.section_count.Statement.{statement}
 use Rattle.sections.proofs.zones.section_count.Tie as tie
 
 abbrev Inv-loop : tie.InvT-loop
-Inv-loop image zone n count₀ j₀ count j = Counted (sectionOf (treeOf image) zone) (nodeCount image) j count (length (sectionNodes (treeOf image) zone))
+Inv-loop image index zone n count₀ j₀ count j = Counted (sectionOf (treeOf image) zone) (nodeCount image) j count (length (sectionNodes (treeOf image) zone))
 
 abbrev μ-loop : tie.MeasureT-loop
-μ-loop image zone n count₀ j₀ count j = n - j
+μ-loop image index zone n count₀ j₀ count j = n - j
 
 loop-holds : tie.Need-loop-holds Inv-loop μ-loop
-loop-holds c = none-counted _ (c .before .before .pre .0) _ (omega arith)
+loop-holds c = none-counted _ (c .before .before .before .pre .0 .sound) _ (omega arith)
 
 add-count : tie.Need-add-count Inv-loop μ-loop
 add-count c = search needs

@@ -1,10 +1,9 @@
 -- The tests of rules 24 and 25, one after the other; a missing child stays missing.
-use Prim.Native.Nat.{_<_}
 use mathlib.Core.Path.{sym, _∙_}
 use native.Mathlib.Omega.{arith}
 use borrow.Author.Needs.{needs}
 use borrow.Author.Tests.{not-true, not-false}
-use Rattle.model.specs.Image.{treeOf, nodeCount}
+use Rattle.model.specs.Image.{treeOf}
 use Rattle.model.specs.Containment.{orMissing}
 use Rattle.types.proofs.Missing.{missing-none}
 use Rattle.sids.proofs.children.conforming.Statement.{statement}

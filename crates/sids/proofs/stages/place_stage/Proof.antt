@@ -1,29 +1,71 @@
-use mathlib.Core.Path.{sym, ap, _∙_}
-use mathlib.Core.Bool.{not}
+-- The root passes; below it the roles decide 20 and 21, and 22 is then not broken.
+use mathlib.Core.Path.{_≡_, sym, ap, _∙_}
+use mathlib.Core.Bool.{Bool, not}
 use borrow.Author.Needs.{needs}
 use borrow.Author.Tests.{not-true, not-false}
+use Rattle.model.specs.Image.{treeOf}
+use Rattle.model.specs.Values.{placed}
 use Rattle.model.proofs.Staging.{broken, kept}
+use Rattle.model.proofs.Above.{validated-above}
+use Rattle.labels.proofs.Kin.{parent-inside}
 use Rattle.sids.proofs.Context.{no-rule}
-use Rattle.sids.proofs.Once.{never-second}
+use Rattle.sids.proofs.Once.{never-second, root-place, placed-is}
 use Rattle.sids.proofs.stages.place_stage.Statement.{statement}
 use Rattle.sids.proofs.stages.place_stage.Tie as tie
 
+module _ (c : tie.After-placed) where
+  abbrev told : Bool
+  told = c .placed .result
+
+  place-is : placed (treeOf (c .before .before .before .before .before .before .before .args .image .now)) (c .before .before .before .before .before .before .before .args .i) ≡ told
+  place-is = placed-is _ _ (c .before .before .before .before .if1 .left) (c .before .before .before .parent-of .ensures .0) (c .before .before .role-of .ensures .0) (c .before .role-of2 .ensures .0) (c .placed .ensures)
+
 returns : tie.Need-returns
-returns c = c .reject .ensures ∙ sym (broken _ 20 _ (sym (c .before .before .placed .ensures) ∙ not-true _ (c .before .if1 .taken)))
+returns c = root-place _ _ (c .if1 .taken)
+
+role-of-requires : tie.Need-role-of-requires
+role-of-requires c κs =
+    let a = c .before .before .before .before in
+    let p = a .pre in
+    let b = a .args .image .now in
+    let e = c .parent-of .ensures .0 in
+    let n = c .before .if1 .left in
+    ((p .1, parent-inside b (a .args .i) (p .1 .sound) (p .0 .0 .inside) n e), rw e (validated-above b (p .1 .sound) (a .args .i) (p .0 .0 .inside) n (p .0 .1)))
+
+placed-requires : tie.Need-placed-requires
+placed-requires c κs =
+    let a = c .before .before .before .before .before .before in
+    let p = a .pre in
+    let b = a .args .image .now in
+    let e = c .before .before .parent-of .ensures .0 in
+    let n = c .before .before .before .if1 .left in
+    let r = c .before .role-of .ensures in
+    ((p .1, parent-inside b (a .args .i) (p .1 .sound) (p .0 .0 .inside) n e), ((rw e (validated-above b (p .1 .sound) (a .args .i) (p .0 .0 .inside) n (p .0 .1)), r .0), (r .1, c .role-of2 .ensures .1)))
 
 returns-2 : tie.Need-returns-2
-returns-2 c =
-    let g = c .before .before in
-    let p = sym (g .before .before .placed .ensures) ∙ not-false _ (g .before .if1 .left) in
-    c .reject2 .ensures ∙ sym (kept _ 20 _ p ∙ broken _ 21 _ (sym (g .named .ensures) ∙ not-true _ (c .before .if2 .taken)))
+returns-2 c = c .reject .ensures ∙ sym (broken _ 20 _ (place-is (c .before .before) ∙ not-true _ (c .before .if2 .taken)))
+
+named-requires : tie.Need-named-requires
+named-requires c κs =
+    let d = c .before in
+    let p = d .before .before .before .before .before .before .before .pre in
+    let r = d .before .before .role-of .ensures in
+    let q = d .before .role-of2 .ensures in
+    ((p .1 .sound .laid, p .0 .0 .inside), ((rw (← d .before .before .before .parent-of .ensures .0) (r .0), q .0), (r .1, q .1)))
 
 returns-3 : tie.Need-returns-3
 returns-3 c =
-    let g = c .before in
-    let a = g .before .before .before .before .before in
-    let p = sym (g .before .before .placed .ensures) ∙ not-false _ (g .before .if1 .left) in
-    let q = sym (g .named .ensures) ∙ not-false _ (c .if2 .left) in
+    let d = c .before .before .before .before in
+    c .reject2 .ensures ∙ sym (kept _ 20 _ (place-is d ∙ not-false _ (c .before .before .before .if2 .left)) ∙ broken _ 21 _ (sym (c .before .before .named .ensures) ∙ not-true _ (c .before .if3 .taken)))
+
+returns-4 : tie.Need-returns-4
+returns-4 c =
+    let d = c .before .before .before in
+    let a = d .before .before .before .before .before .before .before in
+    let p = place-is d ∙ not-false _ (c .before .before .if2 .left) in
+    let q = sym (c .before .named .ensures) ∙ not-false _ (c .if3 .left) in
     sym (kept _ 20 _ p ∙ kept _ 21 _ q ∙ kept _ 22 _ (ap not (never-second (a .args .image .now) (a .args .i) (a .pre .0 .0) (a .pre .1) (a .pre .0 .1) p q)) ∙ no-rule _)
 
 pub place-stage-spec : {M : Type 1} → statement M
-place-stage-spec = tie.close (tie.spec (λ c κs. let p = c .before .before .pre in ((p .1, p .0 .0 .inside), p .0 .1)) (search needs) returns (λ c κs. let p = c .before .before .before .before .pre in (p .1 .sound, p .0 .0 .inside)) (search needs) returns-2 returns-3)
+place-stage-spec =
+    tie.close (tie.spec returns (search needs) role-of-requires (λ c κs. search needs) placed-requires (search needs) returns-2 named-requires (search needs) returns-3 returns-4)

@@ -28,7 +28,8 @@ index-dimension-requires c κs =
 data-sizes-requires : tie.Need-data-sizes-requires
 data-sizes-requires c κs =
     let d = c .before .before in
-    (d .before .before .before .before .before .pre .0 .0, rw (d .parent-of .ensures .0) (size-known d))
+    let n = c .index-dimension .ensures in
+    ((d .before .before .before .before .before .pre .0 .0, rw (d .parent-of .ensures .0) (size-known d)), (n .0 ∙ ap (indexDimension _) (c .before .parent-of2 .ensures .0), n .2))
 
 returns-2 : tie.Need-returns-2
 unfolding sizesLawful _⊃_

@@ -10,16 +10,18 @@ use Rattle.validation.proofs.counting.count_validated.Statement.{statem
 use Rattle.validation.proofs.counting.count_validated.Tie as tie
 
 abbrev Inv-loop : tie.InvT-loop
-Inv-loop image kinds n count₀ i₀ count i = Counted (validated (treeOf image)) n i count
+Inv-loop image index n count₀ i₀ count i = Counted (validated (treeOf image)) n i count
 
 abbrev μ-loop : tie.MeasureT-loop
-μ-loop image kinds n count₀ i₀ count i = n - i
+μ-loop image index n count₀ i₀ count i = n - i
 
 loop-holds : tie.Need-loop-holds Inv-loop μ-loop
 loop-holds c = none-counted _ _
 
 add-count : tie.Need-add-count Inv-loop μ-loop
-add-count c = let l = c .before .before .before .loop .inv in omega (arith, c .unit .ensures .1, l .least, l .within, c .before .before .before .before .node-count .ensures .1)
+add-count c =
+    let l = c .before .before .before in
+    omega (arith, c .unit .ensures .1, l .loop .inv .least, l .loop .inv .within, l .before .node-count .ensures .1)
 
 loop-again : tie.Need-loop-again Inv-loop μ-loop
 loop-again c =
@@ -29,4 +31,6 @@ returns : tie.Need-returns Inv-loop μ-loop
 returns c = rw (sym (c .before .before .node-count .ensures .0)) (all-counted (c .before .loop .inv) (omega arith))
 
 pub count-validated-spec : {M : Type 1} → statement M
-count-validated-spec = tie.close (tie.spec Inv-loop μ-loop (search needs) loop-holds (λ c κs. search needs) (search needs) add-count (search needs) (search needs) loop-again returns)
+count-validated-spec =
+    tie.close (tie.spec Inv-loop μ-loop (search needs) loop-holds (λ c κs. search needs) (search needs) add-count (search needs) (search needs)
+    loop-again returns)
