@@ -5,14 +5,15 @@ use mathlib.Core.Bool.{Bool, true, false, cond, _&&_}
 use mathlib.Core.List.{List, [], _∷_}
 use native.Mathlib.Omega.{arith}
 use lib.Dec.{eqb, leb}
-use borrow.Author.Tests.{leb-true, eqb-true}
+use borrow.Author.Tests.{leb-true}
 use Rattle.model.specs.Lists.{seekFrom, sumBefore, countFrom}
 use Rattle.model.specs.Bytes.{text}
-use Rattle.model.specs.Image.{Tree, treeOf, nodeCount, parent, number, I4}
+use Rattle.model.specs.Image.{treeOf, nodeCount, parent, number, I4}
 use Rattle.model.specs.Given.{Accepted}
-use Rattle.model.specs.Containment.{role, sectionOf, found, Elements, IndexRange}
+use Rattle.model.specs.Containment.{sectionOf, found, Elements, IndexRange}
 use Rattle.model.specs.Values.{sidsRules, typed, typeLawful, valueLawful, rangeOf}
-use Rattle.model.specs.Elements.{NGON, NFACE, elementType, firstElement, lastElement, elementCount, inRange, connectivityLength, faceSection, hasFace, faceOf, faceNumber, isFace, allFaces, elementRules}
+use Rattle.model.specs.Elements.{NGON, NFACE, elementType, firstElement, lastElement, elementCount, inRange, connectivityLength, elementRules}
+use Rattle.model.specs.Elements.{faceSection, hasFace, faceOf, faceNumber, isFace, allFaces}
 use Rattle.model.specs.FaceUsage.{facesIn, faceCount, facePlace}
 use Rattle.model.proofs.Logic.{untrue, and-first, and-second, when}
 use Rattle.model.proofs.Walks.{every-at, some-at, seek-holds, seek-before, sum-part}

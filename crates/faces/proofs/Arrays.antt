@@ -1,6 +1,6 @@
 -- The arrays of a cell section of an accepted image: its start offsets and its connectivity.
 use Prim.Native.Nat.{ℕ, zero, suc, _+_, _-_, _≤_, _<_}
-use mathlib.Core.Path.{_≡_, refl, sym, ap, subst, _∙_}
+use mathlib.Core.Path.{_≡_, refl, sym, ap, _∙_}
 use mathlib.Core.Bool.{Bool, true, false, _&&_}
 use mathlib.Core.List.{List}
 use native.Mathlib.Omega.{arith}
@@ -8,12 +8,11 @@ use lib.ListN.{getD}
 use lib.Dec.{eqb}
 use borrow.Author.Tests.{eqb-true, lt-ltb}
 use Rattle.model.specs.Lists.{seekFrom}
-use Rattle.model.specs.Image.{treeOf, nodeCount, wordCount, node, dimensions, dataType, width, widths, number}
+use Rattle.model.specs.Image.{treeOf, nodeCount, wordCount, node, dimensions, dataType, width, widths}
 use Rattle.model.specs.Given.{Sound, Accepted}
 use Rattle.model.specs.Containment.{found, sectionOf}
 use Rattle.model.specs.Values.{flat, size, offsetsOf, connectivityOf}
 use Rattle.model.specs.Elements.{NFACE, hasOffsets, elementType, elementCount, startOffset, elementStart, connectivityLength, reference}
-use Rattle.model.specs.Corner.{numberAt}
 use Rattle.model.specs.FaceUsage.{endsAfter, elementHolding, usesIn}
 use Rattle.model.proofs.Logic.{and-first, and-second}
 use Rattle.model.proofs.Bounds.{node-placed}
@@ -21,7 +20,6 @@ use Rattle.model.proofs.Conforming.{section-is}
 use Rattle.model.proofs.InZone.{role-is, connectivity, offsets, offsets-size}
 use Rattle.index.specs.Index.{Index}
 use Rattle.types.proofs.Held.{rank-is}
-use Rattle.elements.specs.Arrays.{Numbers}
 use Rattle.elements.specs.Given.{Stores, Indexed}
 use Rattle.elements.proofs.Stored.{startOf, stores-row, stores-number, connectivity-stores, offsets-stores}
 use Rattle.faces.specs.declared.rows.Row.{Row}
@@ -46,8 +44,8 @@ seek-same p q zero i e = refl
 seek-same p q (suc k) i e = rw (e i (omega arith) (omega arith), seek-same p q k (suc i) (λ j l h. e j (omega arith) (omega arith)))
 
 -- a section of type 23
-pub cells-by : {b index : List ℕ} → Accepted b → Index b index → (z s : ℕ) → s < nodeCount b → (sectionOf (treeOf b) z s && eqb (elementType (treeOf b) s) NFACE) ≡ true
-    → Cells b index s
+pub cells-by : {b index : List ℕ} → Accepted b → Index b index → (z s : ℕ) → s < nodeCount b
+    → (sectionOf (treeOf b) z s && eqb (elementType (treeOf b) s) NFACE) ≡ true → Cells b index s
 cells-by {b} a i z s h e =
     record { section = section-by a i z s h (and-first (sectionOf (treeOf b) z s) _ e); cells = eqb-true _ _ (and-second (sectionOf (treeOf b) z s) _ e) }
 

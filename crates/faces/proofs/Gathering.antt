@@ -1,12 +1,12 @@
 -- The ranges of a zone's faces: none yet, one node more, all of them.
 use Prim.Native.Nat.{ℕ, _+_, _-_, _≤_, _<_}
-use mathlib.Core.Path.{_≡_, refl, sym, _∙_}
+use mathlib.Core.Path.{_≡_, sym, _∙_}
 use mathlib.Core.Bool.{true, false, _&&_}
 use mathlib.Core.List.{List}
 use native.Mathlib.Omega.{arith}
 use lib.Dec.{eqb, ltb}
 use lib.ListN.{length, getD, set}
-use lib.Seq.{getD-set-same, getD-set-other}
+use lib.Seq.{getD-set-other}
 use borrow.Author.Tests.{ltb-true}
 use Rattle.model.specs.Lists.{sumBefore}
 use Rattle.model.specs.Image.{Tree, treeOf, nodeCount}
@@ -46,7 +46,8 @@ module _ {b : List ℕ} (a : Accepted b) {z s n : ℕ} {firsts reach places : Li
   total-few h = omega (arith, g .total, total-small a z s h, a .sound .laid .few)
 
   -- a node that brings no faces
-  pub same-ranges : s < nodeCount b → (sectionOf (treeOf b) z s && eqb (elementType (treeOf b) s) NGON) ≡ false → Ranges (treeOf b) z (s + 1) firsts reach places n
+  pub same-ranges : s < nodeCount b → (sectionOf (treeOf b) z s && eqb (elementType (treeOf b) s) NGON) ≡ false
+      → Ranges (treeOf b) z (s + 1) firsts reach places n
   unfolding facesIn
   same-ranges h o =
       let e = face-section-is a z s h ∙ o in
@@ -65,9 +66,10 @@ module _ {b : List ℕ} (a : Accepted b) {z s n : ℕ} {firsts reach places : Li
     pub room-for : n < 2048
     room-for = omega (arith, gathered-room (g .gathered) (nodeCount b) h e, few-sections a z)
 
-    pub more-ranges : {r : Span} → Spans b s r → {firsts′ reach′ places′ : List ℕ} {place : ℕ} → Inserted firsts reach n (r .first) (r .last) firsts′ reach′ place
-        → Placed (getD places n 0) places places′ n place × (getD places′ (n + 1) 0 ≡ getD places n 0 + (r .last - r .first + 1)) → 2049 ≤ length places′
-        → Ranges (treeOf b) z (s + 1) firsts′ reach′ places′ (n + 1)
+    pub more-ranges : {r : Span} → Spans b s r → {firsts′ reach′ places′ : List ℕ} {place : ℕ}
+        → Inserted firsts reach n (r .first) (r .last) firsts′ reach′ place
+        → Placed (getD places n 0) places places′ n place × (getD places′ (n + 1) 0 ≡ getD places n 0 + (r .last - r .first + 1))
+        → 2049 ≤ length places′ → Ranges (treeOf b) z (s + 1) firsts′ reach′ places′ (n + 1)
     more-ranges q i w l =
         record {
           gathered = gathered-more (g .gathered) e (q .is-first) (q .is-last) i;

@@ -22,7 +22,8 @@ use Rattle.faces.specs.Uses.{signOf, afterUse, UsedAt, used, Used, Refer
 use Rattle.faces.proofs.Accepted.{place-below}
 
 -- one use, as it was made
-pub use-is : (t : Tree) (z w x : ℕ) (bytes : List ℕ) {f p : ℕ} {minus u free : Bool} {after : List ℕ} → f ≡ magnitude w x → p ≡ facePlace t z f → minus ≡ negative w x
+pub use-is : (t : Tree) (z w x : ℕ) (bytes : List ℕ) {f p : ℕ} {minus u free : Bool} {after : List ℕ}
+    → f ≡ magnitude w x → p ≡ facePlace t z f → minus ≡ negative w x
     → (u ≡ unused (signOf minus) (getD bytes p 0)) × (after ≡ afterUse u (signOf minus) p bytes) → free ≡ u → UsedAt t z w x bytes free after
 use-is t z w x bytes e q m h o =
     let p = q ∙ ap (facePlace t z) e in
@@ -36,7 +37,8 @@ pub record Left (faces : ℕ) (whole : Answer (List ℕ)) (start : List ℕ) (re
 
 module _ {faces : ℕ} {whole rest : Answer (List ℕ)} {start bytes : List ℕ} (l : Left faces whole start rest bytes) where
   -- one step, as a stage told it
-  module _ {one : Answer (List ℕ)} (f : List ℕ → Answer (List ℕ)) {s : Stage} {after : List ℕ} (e : rest ≡ (one into f)) (u : Used faces one bytes s after) where
+  module _ {one : Answer (List ℕ)} (f : List ℕ → Answer (List ℕ)) {s : Stage} {after : List ℕ} (e : rest ≡ (one into f))
+      (u : Used faces one bytes s after) where
     pub left-more : s ≡ Stage.Pass → length after ≡ length bytes → Left faces whole start (f after) after
     unfolding _into_
     left-more q n =

@@ -37,14 +37,19 @@ into-behind ys f (answer zs) e = e zs refl
 module _ (t : Tree) where
   -- one use
   module _ (s k : ℕ) (xs : List ℕ) where
+    abbrev after : List ℕ
+    after = set xs (usePlace t s k) (getD xs (usePlace t s k) 0 + useSign t s k)
+
+    abbrev again : Answer (List ℕ)
+    again = rejected (repetition s (elementHolding t s k))
+
     entry-behind : (ys : List ℕ) → usePlace t s k < length xs → useEntry t s k (xs ++ ys) ≡ behind ys (useEntry t s k xs)
     unfolding useEntry
     entry-behind ys h =
         rw (List·getD-append xs ys 0 (usePlace t s k) h, set-append-left xs ys (usePlace t s k) (getD xs (usePlace t s k) 0 + useSign t s k) h)
         (by-test (unused (useSign t s k) (getD xs (usePlace t s k) 0)))
       where
-        by-test : (u : Bool) → cond u (answer (set xs (usePlace t s k) (getD xs (usePlace t s k) 0 + useSign t s k) ++ ys)) (rejected (repetition s (elementHolding t s k)))
-            ≡ behind ys (cond u (answer (set xs (usePlace t s k) (getD xs (usePlace t s k) 0 + useSign t s k))) (rejected (repetition s (elementHolding t s k))))
+        by-test : (u : Bool) → cond u (answer (after ++ ys)) again ≡ behind ys (cond u (answer after) again)
         by-test true = refl
         by-test false = refl
 
@@ -52,11 +57,8 @@ module _ (t : Tree) where
     unfolding useEntry
     entry-long {zs} e = by-test (unused (useSign t s k) (getD xs (usePlace t s k) 0)) e
       where
-        by-test : (u : Bool) → cond u (answer (set xs (usePlace t s k) (getD xs (usePlace t s k) 0 + useSign t s k))) (rejected (repetition s (elementHolding t s k))) ≡ answer zs
-            → length zs ≡ length xs
-        by-test true q =
-            let p : set xs (usePlace t s k) (getD xs (usePlace t s k) 0 + useSign t s k) ≡ zs = cc in
-            rw (← p) (length-set xs (usePlace t s k) _)
+        by-test : (u : Bool) → cond u (answer after) again ≡ answer zs → length zs ≡ length xs
+        by-test true q = let p : after ≡ zs = cc in rw (← p) (length-set xs (usePlace t s k) _)
         by-test false q = refused q
 
   -- a section's entries
@@ -128,7 +130,8 @@ module _ {b : List ℕ} (a : Accepted b) (z : ℕ) where
     Told x last w = (x ≡ (w into λ bytes. answer F)) × (last ≡ over out (usageBytes F w))
 
     -- a run over the n cleared bytes, and its bytes cleared again
-    module _ {n : ℕ} (f : n ≡ F) {first : List ℕ} {r : Stage} {after : List ℕ} (p : first ≡ replicate n 0 ++ drop n out) (u : Used F (run first) first r after) where
+    module _ {n : ℕ} (f : n ≡ F) {first : List ℕ} {r : Stage} {after : List ℕ} (p : first ≡ replicate n 0 ++ drop n out)
+        (u : Used F (run first) first r after) where
       told : behind (drop F out) (usage (treeOf b) z) ≡ used r after
       told = sym run-is ∙ ap run (sym (rw f at p)) ∙ u .tells
 
@@ -148,7 +151,9 @@ module _ {b : List ℕ} (a : Accepted b) (z : ℕ) where
         cleared : last ≡ over out (replicate F 0)
         unfolding over
         cleared =
-            (rw f at e) ∙ ap (λ (ys : List ℕ). replicate F 0 ++ ys) (u .rest ∙ ap (drop F) (rw f at p) ∙ drop-at (replicate F 0) (drop F out) F (length-replicate F 0))
+            (rw f at e)
+            ∙ ap (λ (ys : List ℕ). replicate F 0 ++ ys)
+            (u .rest ∙ ap (drop F) (rw f at p) ∙ drop-at (replicate F 0) (drop F out) F (length-replicate F 0))
             ∙ ap (λ (k : ℕ). replicate F 0 ++ drop k out) (sym (length-replicate F 0))
 
         by-refusal : (q : Rejection) (x : Answer (List ℕ)) → behind (drop F out) x ≡ rejected q → Told (rejected q) last x

@@ -20,7 +20,11 @@ pub fn references_of(image: &[u8], index: &[u16], z: usize, s: usize) -> Row
     ensures { λ r. ⌜ References (now (image .entry)) (now (index .entry)) z s r ⌝ }
 {
     if !has_type(image, index, z, s, NFACE) {
-        return Row { at: 0, width: 4, n: 0 };
+        return Row {
+            at: 0,
+            width: 4,
+            n: 0,
+        };
     }
     let connectivity = sids::connectivity_of(image, index, s);
     let n = records::dimension(image, connectivity, 0) as usize;

@@ -23,7 +23,8 @@ use model::Stage;
 // change; on 45 the first F are 0, and every other rejection leaves them all.
 fn usage_after(verdict: Stage, image: &[u8], index: &[u16], zone: u64, out: &mut [u8]) -> FaceUsage
     requires { ⌜ (stageTells verdict ≡ imageCheck (now image)) × (stageTells verdict ≡ passed → Index (now image) (now index)) ⌝ }
-    ensures { λ r. ⌜ (usageTells r ≡ usageAnswer (now (image .entry)) zone (length (now (out .entry)))) × (now (out .exit) ≡ usageMemory (now (image .entry)) zone (now (out .entry))) ⌝ }
+    ensures { λ r. ⌜ (usageTells r ≡ usageAnswer (now (image .entry)) zone (length (now (out .entry))))
+        × (now (out .exit) ≡ usageMemory (now (image .entry)) zone (now (out .entry))) ⌝ }
 {
     let Stage::Pass = verdict else {
         return FaceUsage::Rejected(verdict.rejection());

@@ -15,7 +15,8 @@ use element_types::NGON;
 fn add_place(places: &mut [u64], n: usize, place: usize, faces: u64)
     requires { ⌜ (place ≤ n) × (n + 1 < length (now places)) ⌝ }
     requires { ⌜ (getD (now places) n 0 ≤ 8796093018112) × (faces ≤ 2147483647) ⌝ }
-    ensures { λ r. ⌜ Placed (getD (now (places .entry)) n 0) (now (places .entry)) (now (places .exit)) n place × (getD (now (places .exit)) (n + 1) 0 ≡ getD (now (places .entry)) n 0 + faces) ⌝ }
+    ensures { λ r. ⌜ Placed (getD (now (places .entry)) n 0) (now (places .entry)) (now (places .exit)) n place
+        × (getD (now (places .exit)) (n + 1) 0 ≡ getD (now (places .entry)) n 0 + faces) ⌝ }
 {
     let total = places[n];
     ranges::make_room(places, n, place);

@@ -53,9 +53,11 @@ fn use_entry(
 ) -> usize
     requires { ⌜ Numbers (now image) (row .at) (row .width) (row .n) × (k < row .n) ⌝ }
     requires { ⌜ faceOf (treeOf (now image)) (faces .zone) (magnitude (row .width) (numberAt (now image) (row .at) (row .width) k)) ≡ true ⌝ }
-    requires { ⌜ Accepted (now image) × Ranges (treeOf (now image)) (faces .zone) (nodeCount (now image)) (now firsts) (now reach) (now places) (faces .count) ⌝ }
+    requires { ⌜ Accepted (now image)
+        × Ranges (treeOf (now image)) (faces .zone) (nodeCount (now image)) (now firsts) (now reach) (now places) (faces .count) ⌝ }
     requires { ⌜ ((faces .shift ≤ 52) × (4096 ≤ length (now hints))) × (faceCount (treeOf (now image)) (faces .zone) ≤ length (now out)) ⌝ }
-    ensures { λ r. ⌜ UsedAt (treeOf (now (image .entry))) (faces .zone) (row .width) (numberAt (now (image .entry)) (row .at) (row .width) k) (now (out .entry)) (ltb r (faces .count)) (now (out .exit)) ⌝ }
+    ensures { λ r. ⌜ UsedAt (treeOf (now (image .entry))) (faces .zone) (row .width) (numberAt (now (image .entry)) (row .at) (row .width) k)
+        (now (out .entry)) (ltb r (faces .count)) (now (out .exit)) ⌝ }
 {
     let count = faces.count;
     let f = elements::arrays::magnitude_at(image, row.at, row.width, row.n, k);
@@ -81,15 +83,29 @@ fn use_entries(
     out: &mut [u8],
 ) -> Stage
     requires { ⌜ References (now image) (now index) (faces .zone) s row ⌝ }
-    requires { ⌜ Accepted (now image) × Ranges (treeOf (now image)) (faces .zone) (nodeCount (now image)) (now firsts) (now reach) (now places) (faces .count) ⌝ }
+    requires { ⌜ Accepted (now image)
+        × Ranges (treeOf (now image)) (faces .zone) (nodeCount (now image)) (now firsts) (now reach) (now places) (faces .count) ⌝ }
     requires { ⌜ ((faces .shift ≤ 52) × (4096 ≤ length (now hints))) × (faceCount (treeOf (now image)) (faces .zone) ≤ length (now out)) ⌝ }
-    ensures { λ r. ⌜ Used (faceCount (treeOf (now (image .entry))) (faces .zone)) (useEntries (treeOf (now (image .entry))) s (usesIn (treeOf (now (image .entry))) (faces .zone) s) 0 (now (out .entry))) (now (out .entry)) r (now (out .exit)) ⌝ }
+    ensures { λ r. ⌜ Used (faceCount (treeOf (now (image .entry))) (faces .zone))
+        (useEntries (treeOf (now (image .entry))) s (usesIn (treeOf (now (image .entry))) (faces .zone) s) 0 (now (out .entry)))
+        (now (out .entry)) r (now (out .exit)) ⌝ }
 {
     let count = faces.count;
     let mut last: usize = 0;
     let mut k: usize = 0;
     while k < row.n {
-        let j = use_entry(image, faces, row, k, firsts, reach, places, hints, last, out);
+        let j = use_entry(
+            image,
+            faces,
+            row,
+            k,
+            firsts,
+            reach,
+            places,
+            hints,
+            last,
+            out,
+        );
         if count <= j {
             let e = element_holding(image, index, s, k);
             return Stage::Rejected(Rejection::repeated(s as u64, e));
@@ -114,16 +130,32 @@ pub fn use_nodes(
     requires { ⌜ Accepted (now image) × Index (now image) (now index) ⌝ }
     requires { ⌜ Ranges (treeOf (now image)) z (nodeCount (now image)) (now firsts) (now reach) (now places) count ⌝ }
     requires { ⌜ faceCount (treeOf (now image)) z ≤ length (now out) ⌝ }
-    ensures { λ r. ⌜ Used (faceCount (treeOf (now (image .entry))) z) (useNodes (treeOf (now (image .entry))) z (nodeCount (now (image .entry))) 0 (now (out .entry))) (now (out .entry)) r (now (out .exit)) ⌝ }
+    ensures { λ r. ⌜ Used (faceCount (treeOf (now (image .entry))) z)
+        (useNodes (treeOf (now (image .entry))) z (nodeCount (now (image .entry))) 0 (now (out .entry))) (now (out .entry)) r (now (out .exit)) ⌝ }
 {
     let mut hints: [u16; 4096] = [0; 4096];
     let shift = ranges::shift_for(ranges::top_of(firsts, reach, count, 0));
-    let faces = Faces { zone: z, count, shift };
+    let faces = Faces {
+        zone: z,
+        count,
+        shift,
+    };
     let nodes = labels::node_count(image);
     let mut i: usize = 0;
     while i < nodes {
         let row = references_of(image, index, z, i);
-        let s = use_entries(image, index, faces, i, row, firsts, reach, places, &mut hints, out);
+        let s = use_entries(
+            image,
+            index,
+            faces,
+            i,
+            row,
+            firsts,
+            reach,
+            places,
+            &mut hints,
+            out,
+        );
         let Stage::Pass = s else {
             return s;
         };

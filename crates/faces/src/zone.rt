@@ -33,7 +33,8 @@ fn fill(
     requires { ⌜ Accepted (now image) × Index (now image) (now index) ⌝ }
     requires { ⌜ Ranges (treeOf (now image)) z (nodeCount (now image)) (now firsts) (now reach) (now places) count ⌝ }
     requires { ⌜ faceCount (treeOf (now image)) z ≤ length (now out) ⌝ }
-    ensures { λ r. ⌜ (usageTells r ≡ (usage (treeOf (now (image .entry))) z into λ bytes. answer (faceCount (treeOf (now (image .entry))) z))) × (now (out .exit) ≡ over (now (out .entry)) (usageBytes (faceCount (treeOf (now (image .entry))) z) (usage (treeOf (now (image .entry))) z))) ⌝ }
+    ensures { λ r. ⌜ (usageTells r ≡ (usage (treeOf (now (image .entry))) z into λ bytes. answer (faceCount (treeOf (now (image .entry))) z)))
+        × (now (out .exit) ≡ over (now (out .entry)) (usageBytes (faceCount (treeOf (now (image .entry))) z) (usage (treeOf (now (image .entry))) z))) ⌝ }
 {
     let faces = places[count];
     clear(out, faces as usize);
@@ -48,7 +49,8 @@ fn fill(
 // The usage of the faces of zone z: 44 where out is too short, 45 where a face is used twice with one sign. Bytes after the first F stay.
 pub fn zone_usage(image: &[u8], index: &[u16], z: usize, out: &mut [u8]) -> FaceUsage
     requires { ⌜ (Accepted (now image) × Index (now image) (now index)) × (isZone (treeOf (now image)) z ≡ true) ⌝ }
-    ensures { λ r. ⌜ (usageTells r ≡ usageAnswer (now (image .entry)) z (length (now (out .entry)))) × (now (out .exit) ≡ usageMemory (now (image .entry)) z (now (out .entry))) ⌝ }
+    ensures { λ r. ⌜ (usageTells r ≡ usageAnswer (now (image .entry)) z (length (now (out .entry))))
+        × (now (out .exit) ≡ usageMemory (now (image .entry)) z (now (out .entry))) ⌝ }
 {
     let mut firsts: [u64; 2048] = [0; 2048];
     let mut reach: [u64; 2048] = [0; 2048];

@@ -1,3 +1,4 @@
+-- A sign is 1 or 2, and its bit the last one of the byte divided by it.
 use Prim.Native.Nat.{_/_}
 use mathlib.Core.Path.{_≡_}
 use native.Mathlib.Omega.{arith}

@@ -1,3 +1,4 @@
+-- A bit that is free is set by adding it, and the byte has room for it.
 use mathlib.Core.Path.{refl, sym, _∙_}
 use native.Mathlib.Omega.{arith}
 use borrow.Author.Needs.{needs}
@@ -28,4 +29,5 @@ returns-3 : tie.Need-returns-3
 returns-3 c = (sym (sym (c .before .before .is-unused .ensures .0) ∙ not-false _ (c .before .if1 .left)), rw (c .if2 .left))
 
 pub use-face-spec : {M : Type 1} → statement M
-use-face-spec = tie.close (tie.spec (search needs) (search needs) returns add-out (search needs) (search needs) returns-2 add-out-2 (search needs) (search needs) returns-3)
+use-face-spec = tie.close (tie.spec (search needs) (search needs) returns add-out (search needs) (search needs) returns-2 add-out-2 (search needs)
+    (search needs) returns-3)

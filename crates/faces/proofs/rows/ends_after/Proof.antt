@@ -1,4 +1,4 @@
--- No element before j ends after the entry.
+-- The offsets are asked in order, and no element before j ends after the entry.
 use Prim.Native.Nat.{_-_}
 use mathlib.Core.Path.{_≡_, _∙_}
 use native.Mathlib.Omega.{arith}
@@ -26,10 +26,11 @@ loop-again : tie.Need-loop-again Inv-loop μ-loop
 loop-again c = seek-more (c .before .before .before .loop .inv) (omega arith) (ends-not _ _ _ _ (c .before .number-at .ensures) (c .if1 .left))
 
 returns-2 : tie.Need-returns-2 Inv-loop μ-loop
-returns-2 c = 
+returns-2 c =
     let l = c .before .loop in
     let e : c .before .before .before .before .args .row .n - 1 ≡ l .j = omega (arith, l .inv .inside) in (e ∙ seek-done (l .inv) (omega arith), omega arith)
 
 pub ends-after-spec : {M : Type 1} → statement M
 ends-after-spec =
-    tie.close (tie.spec Inv-loop μ-loop (search needs) loop-holds (search needs) (λ c κs. search needs) returns (search needs) (search needs) loop-again returns-2)
+    tie.close (tie.spec Inv-loop μ-loop (search needs) loop-holds (search needs) (λ c κs. search needs) returns (search needs) (search needs) loop-again
+    returns-2)

@@ -5,7 +5,10 @@ use Rattle.faces.proofs.rows.row_of.Statement.{statement}
 use Rattle.faces.proofs.rows.row_of.Tie as tie
 
 returns : tie.Need-returns
-returns c = let p = c .before .before .before .before .pre in row-read (p .0) (p .1) (c .before .before .data-start .ensures .0) (c .before .data-type-of .ensures .0) (c .width-of .ensures .0)
+returns c =
+    let t = c .before in
+    let s = t .before in
+    let p = s .before .before .pre in row-read (p .0) (p .1) (s .data-start .ensures .0) (t .data-type-of .ensures .0) (c .width-of .ensures .0)
 
 pub row-of-spec : {M : Type 1} → statement M
 row-of-spec = tie.close (tie.spec (λ c κs. search needs) (λ c κs. search needs) (search needs) returns)

@@ -22,7 +22,8 @@ returns-2 : tie.Need-returns-2
 unfolding elementType
 returns-2 c =
     let i = c .before in
-    and-on (i .before .section-of .ensures) (not-false _ (i .if1 .left)) (ap (λ (x : ℕ). eqb x (i .before .before .before .before .args .e)) (c .whole .ensures))
+    let s = i .before in
+    and-on (s .section-of .ensures) (not-false _ (i .if1 .left)) (ap (λ (x : ℕ). eqb x (s .before .before .before .args .e)) (c .whole .ensures))
 
 pub has-type-spec : {M : Type 1} → statement M
 has-type-spec = tie.close (tie.spec (λ c κs. search needs) returns whole-requires returns-2)

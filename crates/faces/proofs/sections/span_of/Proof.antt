@@ -1,6 +1,5 @@
 -- The range of a section of an accepted image conforms, so that its two numbers can be read.
 use native.Mathlib.Omega.{arith}
-use borrow.Author.Needs.{needs}
 use Rattle.faces.proofs.Accepted.{section-kind, range-has, spans}
 use Rattle.faces.proofs.sections.span_of.Statement.{statement}
 use Rattle.faces.proofs.sections.span_of.Tie as tie

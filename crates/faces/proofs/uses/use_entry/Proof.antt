@@ -9,37 +9,45 @@ use Rattle.faces.proofs.uses.use_entry.Statement.{statement}
 use Rattle.faces.proofs.uses.use_entry.Tie as tie
 
 find-near-requires : tie.Need-find-near-requires
-find-near-requires c κs = 
+find-near-requires c κs =
     let p = c .before .before .before .before .before .before .before .before .pre .1 .1 in
     ((p .0 .1 .gathered .ordered, omega (arith, few-ranges (p .0 .0) (p .0 .1))), (p .1 .0 .1, p .1 .0 .0))
 
 place-of-requires : tie.Need-place-of-requires
-place-of-requires c κs = 
+place-of-requires c κs =
     let p = c .before .before .before .before .before .before .before .before .before .before .before .pre .1 in
     let g = p .1 .0 .1 in
     let w = face-found (p .1 .0 .0) g (c .before .before .before .before .magnitude-at .ensures) (p .0) (c .before .before .find-near .ensures) in
     ((omega (arith, w .inside, g .gathered .ordered .firsts-rise .room), omega (arith, w .inside, g .room)), (w .from, w .small))
 
 use-face-requires : tie.Need-use-face-requires
-use-face-requires c κs = 
-    let p = c .before .before .before .before .before .before .before .before .before .before .before .before .before .before .pre .1 in
-    let w = face-found (p .1 .0 .0) (p .1 .0 .1) (c .before .before .before .before .before .before .before .magnitude-at .ensures) (p .0) (c .before .before .before .before .before .find-near .ensures) in
-    omega (arith, c .before .before .place-of .ensures, w .place, w .below, p .1 .1 .1)
+use-face-requires c κs =
+    let p = c .before .before in
+    let j = p .before .before .before in
+    let d = j .before .before .before .before .before .before .before .before .before .pre .1 in
+    let w = face-found (d .1 .0 .0) (d .1 .0 .1) (j .before .before .magnitude-at .ensures) (d .0) (j .find-near .ensures) in
+    omega (arith, p .place-of .ensures, w .place, w .below, d .1 .1 .1)
 
 returns : tie.Need-returns
-returns c = 
-    let p = c .before .before .before .before .before .before .before .before .before .before .before .before .before .before .before .before .before .before .pre .1 in
-    let m = c .before .before .before .before .before .before .before .before .before .before .before .magnitude-at .ensures in
-    let w = face-found (p .1 .0 .0) (p .1 .0 .1) m (p .0) (c .before .before .before .before .before .before .before .before .before .find-near .ensures) in
-    use-is _ _ _ _ _ m (c .before .before .before .before .before .before .place-of .ensures ∙ sym (w .place)) (c .before .before .before .before .is-reversed .ensures) (c .before .before .before .use-face .ensures)
-    (le-ltb (c .before .before .before .before .before .before .before .before .before .before .before .before .before .before .before .before .before .before .args .faces .count) _ (omega arith) ∙ sym (not-true _ (c .if1 .taken)))
+returns c =
+    let s = c .before .before .before in
+    let p = s .before .before .before in
+    let j = p .before .before .before in
+    let d = j .before .before .before .before .before .before .before .before .before in
+    let m = j .before .before .magnitude-at .ensures in
+    let w = face-found (d .pre .1 .1 .0 .0) (d .pre .1 .1 .0 .1) m (d .pre .1 .0) (j .find-near .ensures) in
+    use-is _ _ _ _ _ m (p .place-of .ensures ∙ sym (w .place)) (s .before .is-reversed .ensures) (s .use-face .ensures)
+    (le-ltb (d .args .faces .count) _ (omega arith) ∙ sym (not-true _ (c .if1 .taken)))
 
 returns-2 : tie.Need-returns-2
-returns-2 c = 
-    let p = c .before .before .before .before .before .before .before .before .before .before .before .before .before .before .before .before .before .before .pre .1 in
-    let m = c .before .before .before .before .before .before .before .before .before .before .before .magnitude-at .ensures in
-    let w = face-found (p .1 .0 .0) (p .1 .0 .1) m (p .0) (c .before .before .before .before .before .before .before .before .before .find-near .ensures) in
-    use-is _ _ _ _ _ m (c .before .before .before .before .before .before .place-of .ensures ∙ sym (w .place)) (c .before .before .before .before .is-reversed .ensures) (c .before .before .before .use-face .ensures)
+returns-2 c =
+    let s = c .before .before .before in
+    let p = s .before .before .before in
+    let j = p .before .before .before in
+    let d = j .before .before .before .before .before .before .before .before .before in
+    let m = j .before .before .magnitude-at .ensures in
+    let w = face-found (d .pre .1 .1 .0 .0) (d .pre .1 .1 .0 .1) m (d .pre .1 .0) (j .find-near .ensures) in
+    use-is _ _ _ _ _ m (p .place-of .ensures ∙ sym (w .place)) (s .before .is-reversed .ensures) (s .use-face .ensures)
     (lt-ltb _ _ (w .inside) ∙ sym (not-false _ (c .if1 .left)))
 
 pub use-entry-spec : {M : Type 1} → statement M

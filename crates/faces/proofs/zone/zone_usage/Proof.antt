@@ -1,4 +1,4 @@
--- 44, or the zone's faces gathered and their uses.
+-- The place behind the last entry is how many faces the zone has; where there is room for them, its usage is filled in.
 use mathlib.Core.Path.{refl, sym, ap, _∙_}
 use native.Mathlib.Omega.{arith}
 use borrow.Author.Needs.{needs}
@@ -8,8 +8,12 @@ use Rattle.faces.proofs.Checks.{refusal-told, usage-told, too-short, lo
 use Rattle.faces.proofs.zone.zone_usage.Statement.{statement}
 use Rattle.faces.proofs.zone.zone_usage.Tie as tie
 
+array-read-if1 : tie.Need-array-read-if1
+array-read-if1 c =
+    let g = c .before .before .before in omega (arith, few-ranges (g .before .before .before .before .before .before .before .pre .0 .0) (g .gather .ensures))
+
 returns : tie.Need-returns
-returns c = 
+returns c =
     let d = c .before .before .before .before .before .before .before .before .before .before .before .before in
     let g = c .before .before .before .before .before .gather .ensures in
     let w = refusal-told (d .args .image .now) (d .args .z) (d .args .out .now)
@@ -17,19 +21,21 @@ returns c =
     (ap rejected (c .at .ensures) ∙ w .0, w .1)
 
 fill-requires : tie.Need-fill-requires
-fill-requires c κs = 
+fill-requires c κs =
     let p = c .before .before .before .before .before .before .before .before .before .before .before .before .before .before .before .pre .0 in
     let g = c .before .before .before .before .before .before .before .before .gather .ensures in
     (p, (g, omega (arith, all-faces (p .0) g, c .before .before .before .before .if1 .left)))
 
 returns-2 : tie.Need-returns-2
-returns-2 c = 
-    let d = c .before .before .before .before .before .before .before .before .before .before .before .before .before .before .before .before .before .before in
+returns-2 c =
+    let i = c .before .before .before .before .before .before .before in
+    let g = i .before .before .before .before in
+    let d = g .before .before .before .before .before .before .before in
     let f = c .before .before .fill .ensures in
     let w = usage-told (d .args .image .now) (d .args .z) (d .args .out .now)
-    (long-enough _ _ _ (d .pre .0 .0 .image) (d .pre .1) (omega (arith, all-faces (d .pre .0 .0) (c .before .before .before .before .before .before .before .before .before .before .before .gather .ensures), c .before .before .before .before .before .before .before .if1 .left))) in
+    (long-enough _ _ _ (d .pre .0 .0 .image) (d .pre .1) (omega (arith, all-faces (d .pre .0 .0) (g .gather .ensures), i .if1 .left))) in
     (f .0 ∙ sym (w .0), f .1 ∙ sym (w .1))
 
 pub zone-usage-spec : {M : Type 1} → statement M
-zone-usage-spec = tie.close (tie.spec (λ c. refl) (λ c. refl) (λ c. refl) (λ c κs. search needs) (search needs) (λ c. omega (arith, few-ranges (c .before .before .before .before .before .before .before .before .before .before .pre .0 .0) (c .before .before .before .gather .ensures))) (search needs) returns (search needs) (search needs)
-    (search needs) fill-requires (search needs) returns-2)
+zone-usage-spec = tie.close (tie.spec (λ c. refl) (λ c. refl) (λ c. refl) (λ c κs. search needs) (search needs) array-read-if1 (search needs) returns
+    (search needs) (search needs) (search needs) fill-requires (search needs) returns-2)
