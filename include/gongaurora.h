@@ -20,12 +20,11 @@
  *   Pointers   A pointer to `length` bytes, or to `room` items, that can be read or written; with 0 of them any, also NULL.
  *   Alignment  None is needed: the image and a buffer of bytes may start at any address. Sections and lists of 64-bit numbers
  *              have the alignment of their C type.
- *   Stack      Measured, and the same for every image: gongaurora_face_usage takes under 220 kB; gongaurora_validate,
- *              gongaurora_sections and gongaurora_data_size under 120 kB; gongaurora_path and gongaurora_array_value under
- *              40 kB; gongaurora_read_corner and gongaurora_read_element under 1 kB.
+ *   Stack      Measured, and the same for every image: every call takes under 96,000 bytes; gongaurora_path and
+ *              gongaurora_array_value under 40,000; gongaurora_read_corner and gongaurora_read_element under 1,000.
  *   Threads    There is no state: any calls may run at the same time, as long as no other thread writes what they read.
  *   Cost       Measured, not proved. One validation of a usual mesh costs about one pass over the image's bytes; of an image
- *              made to be slow, with 1,000 face sections, it cost over 1,000 passes. Each call says whether it validates.
+ *              with up to 1,000 face sections and references in any order up to 20. Each call says whether it validates.
  *   Linking    The archive needs one symbol from outside, memset.
  *   Proof      What is proved is proved of the archive's exports. The calls of this header are C around them: tested, not
  *              proved.

@@ -1,5 +1,6 @@
 // Face usage of a zone (document 01: the face ledger): how often, and with which sign, cells refer to each face.
 ghost use mathlib.Core.Path.{_≡_};
+ghost use Prim.Native.Nat.{_≤_};
 ghost use lib.ListN.{length};
 ghost use Rattle.model.specs.Rules.{passed};
 ghost use Rattle.model.specs.Answers.{stageTells, usageTells};
@@ -21,8 +22,18 @@ use model::Stage;
 
 // The usage of a zone's faces after the image's check: its rejection, then 40, 44, 45, or F with the first F bytes written. Bytes after them never
 // change; on 45 the first F are 0, and every other rejection leaves them all.
-fn usage_after(verdict: Stage, image: &[u8], index: &[u16], zone: u64, out: &mut [u8]) -> FaceUsage
+fn usage_after(
+    verdict: Stage,
+    image: &[u8],
+    index: &[u16],
+    zone: u64,
+    firsts: &mut [u64],
+    reach: &mut [u64],
+    hints: &mut [u16],
+    out: &mut [u8],
+) -> FaceUsage
     requires { ⌜ (stageTells verdict ≡ imageCheck (now image)) × (stageTells verdict ≡ passed → Index (now image) (now index)) ⌝ }
+    requires { ⌜ (2048 ≤ length (now firsts)) × (2048 ≤ length (now reach)) × (4096 ≤ length (now hints)) ⌝ }
     ensures { λ r. ⌜ (usageTells r ≡ usageAnswer (now (image .entry)) zone (length (now (out .entry))))
         × (now (out .exit) ≡ usageMemory (now (image .entry)) zone (now (out .entry))) ⌝ }
 {
@@ -32,7 +43,7 @@ fn usage_after(verdict: Stage, image: &[u8], index: &[u16], zone: u64, out: &mut
     if !index::is_zone(image, index, zone) {
         return FaceUsage::Rejected(Rejection::at(40, 0));
     }
-    zone::zone_usage(image, index, zone as usize, out)
+    zone::zone_usage(image, index, zone as usize, firsts, reach, hints, out)
 }
 
 // The usage of a zone's faces: validation's rejection, then 40, 44, 45, or how many faces the zone has, a byte for each written in front of `out`. On 45
@@ -41,6 +52,24 @@ pub fn face_usage(image: &[u8], zone: u64, out: &mut [u8]) -> FaceUsage
     ensures { λ r. ⌜ (usageTells r ≡ usageAnswer (now (image .entry)) zone (length (now (out .entry)))) × (now (out .exit) ≡ usageMemory (now (image .entry)) zone (now (out .entry))) ⌝ }
 {
     let mut index: [u16; 16384] = [0; 16384];
-    let verdict = validation::image_stage(image, &mut index);
-    usage_after(verdict, image, &index, zone, out)
+    let mut firsts: [u64; 2048] = [0; 2048];
+    let mut reach: [u64; 2048] = [0; 2048];
+    let mut hints: [u16; 4096] = [0; 4096];
+    let verdict = validation::image_stage_with(
+        image,
+        &mut index,
+        &mut firsts,
+        &mut reach,
+        &mut hints,
+    );
+    usage_after(
+        verdict,
+        image,
+        &index,
+        zone,
+        &mut firsts,
+        &mut reach,
+        &mut hints,
+        out,
+    )
 }

@@ -125,15 +125,15 @@ pub fn use_nodes(
     reach: &[u64],
     places: &[u64],
     count: usize,
+    hints: &mut [u16],
     out: &mut [u8],
 ) -> Stage
-    requires { ⌜ Accepted (now image) × Index (now image) (now index) ⌝ }
+    requires { ⌜ (Accepted (now image) × Index (now image) (now index)) × (4096 ≤ length (now hints)) ⌝ }
     requires { ⌜ Ranges (treeOf (now image)) z (nodeCount (now image)) (now firsts) (now reach) (now places) count ⌝ }
     requires { ⌜ faceCount (treeOf (now image)) z ≤ length (now out) ⌝ }
     ensures { λ r. ⌜ Used (faceCount (treeOf (now (image .entry))) z)
         (useNodes (treeOf (now (image .entry))) z (nodeCount (now (image .entry))) 0 (now (out .entry))) (now (out .entry)) r (now (out .exit)) ⌝ }
 {
-    let mut hints: [u16; 4096] = [0; 4096];
     let shift = ranges::shift_for(ranges::top_of(firsts, reach, count, 0));
     let faces = Faces {
         zone: z,
@@ -153,7 +153,7 @@ pub fn use_nodes(
             firsts,
             reach,
             places,
-            &mut hints,
+            hints,
             out,
         );
         let Stage::Pass = s else {

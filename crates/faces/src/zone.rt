@@ -28,9 +28,10 @@ fn fill(
     reach: &[u64],
     places: &[u64],
     count: usize,
+    hints: &mut [u16],
     out: &mut [u8],
 ) -> FaceUsage
-    requires { ⌜ Accepted (now image) × Index (now image) (now index) ⌝ }
+    requires { ⌜ (Accepted (now image) × Index (now image) (now index)) × (4096 ≤ length (now hints)) ⌝ }
     requires { ⌜ Ranges (treeOf (now image)) z (nodeCount (now image)) (now firsts) (now reach) (now places) count ⌝ }
     requires { ⌜ faceCount (treeOf (now image)) z ≤ length (now out) ⌝ }
     ensures { λ r. ⌜ (usageTells r ≡ (usage (treeOf (now (image .entry))) z into λ bytes. answer (faceCount (treeOf (now (image .entry))) z)))
@@ -38,7 +39,7 @@ fn fill(
 {
     let faces = places[count];
     clear(out, faces as usize);
-    let s = use_nodes(image, index, z, firsts, reach, places, count, out);
+    let s = use_nodes(image, index, z, firsts, reach, places, count, hints, out);
     let Stage::Pass = s else {
         clear(out, faces as usize);
         return FaceUsage::Rejected(s.rejection());
@@ -47,17 +48,24 @@ fn fill(
 }
 
 // The usage of the faces of zone z: 44 where out is too short, 45 where a face is used twice with one sign. Bytes after the first F stay.
-pub fn zone_usage(image: &[u8], index: &[u16], z: usize, out: &mut [u8]) -> FaceUsage
+pub fn zone_usage(
+    image: &[u8],
+    index: &[u16],
+    z: usize,
+    firsts: &mut [u64],
+    reach: &mut [u64],
+    hints: &mut [u16],
+    out: &mut [u8],
+) -> FaceUsage
     requires { ⌜ (Accepted (now image) × Index (now image) (now index)) × (isZone (treeOf (now image)) z ≡ true) ⌝ }
+    requires { ⌜ (2048 ≤ length (now firsts)) × (2048 ≤ length (now reach)) × (4096 ≤ length (now hints)) ⌝ }
     ensures { λ r. ⌜ (usageTells r ≡ usageAnswer (now (image .entry)) z (length (now (out .entry))))
         × (now (out .exit) ≡ usageMemory (now (image .entry)) z (now (out .entry))) ⌝ }
 {
-    let mut firsts: [u64; 2048] = [0; 2048];
-    let mut reach: [u64; 2048] = [0; 2048];
     let mut places: [u64; 2049] = [0; 2049];
-    let count = gather(image, index, z, &mut firsts, &mut reach, &mut places);
+    let count = gather(image, index, z, firsts, reach, &mut places);
     if (out.len() as u64) < places[count] {
         return FaceUsage::Rejected(Rejection::at(44, 0));
     }
-    fill(image, index, z, &firsts, &reach, &places, count, out)
+    fill(image, index, z, firsts, reach, &places, count, hints, out)
 }

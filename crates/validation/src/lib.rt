@@ -104,21 +104,32 @@ fn every_node(
 }
 
 // The same, where the element ranges are not gathered yet.
-fn nodes_stage(image: &[u8], index: &[u16]) -> Stage
-    requires { ⌜ Index (now image) (now index) ⌝ }
+fn nodes_stage(
+    image: &[u8],
+    index: &[u16],
+    firsts: &mut [u64],
+    reach: &mut [u64],
+    hints: &mut [u16],
+) -> Stage
+    requires { ⌜ Index (now image) (now index) × (4096 ≤ length (now hints)) ⌝ }
+    requires { ⌜ (2048 ≤ length (now firsts)) × (2048 ≤ length (now reach)) ⌝ }
     ensures { λ r. ⌜ stageTells r ≡ nodeCheck (treeOf (now (image .entry))) ⌝ }
 {
-    let mut firsts: [u64; 2048] = [0; 2048];
-    let mut reach: [u64; 2048] = [0; 2048];
-    let mut hints: [u16; 4096] = [0; 4096];
-    let overlap = elements::first_overlap(image, index, &mut firsts, &mut reach);
-    let faces = elements::gather_faces(image, index, &mut firsts, &mut reach);
-    every_node(image, index, overlap, &firsts, &reach, faces, &mut hints)
+    let overlap = elements::first_overlap(image, index, firsts, reach);
+    let faces = elements::gather_faces(image, index, firsts, reach);
+    every_node(image, index, overlap, firsts, reach, faces, hints)
 }
 
-// Every rule, 1 to 35, as one stage. The index is that of the image where rules 1 to 18 hold.
-pub fn image_stage(image: &[u8], index: &mut [u16]) -> Stage
-    requires { ⌜ 16384 ≤ length (now index) ⌝ }
+// Every rule, 1 to 35, as one stage, in lent tables. The index is that of the image where rules 1 to 18 hold.
+pub fn image_stage_with(
+    image: &[u8],
+    index: &mut [u16],
+    firsts: &mut [u64],
+    reach: &mut [u64],
+    hints: &mut [u16],
+) -> Stage
+    requires { ⌜ (16384 ≤ length (now index)) × (4096 ≤ length (now hints)) ⌝ }
+    requires { ⌜ (2048 ≤ length (now firsts)) × (2048 ≤ length (now reach)) ⌝ }
     ensures { λ r. ⌜ (stageTells r ≡ imageCheck (now (image .entry))) × (stageTells r ≡ passed → Index (now (image .entry)) (now (index .exit))) ⌝ }
 {
     let s = table::table_stage_with(image, index);
@@ -126,7 +137,18 @@ pub fn image_stage(image: &[u8], index: &mut [u16]) -> Stage
         return s;
     };
     index::build(image, index);
-    nodes_stage(image, index)
+    nodes_stage(image, index, firsts, reach, hints)
+}
+
+// The same, where the index alone is lent.
+pub fn image_stage(image: &[u8], index: &mut [u16]) -> Stage
+    requires { ⌜ 16384 ≤ length (now index) ⌝ }
+    ensures { λ r. ⌜ (stageTells r ≡ imageCheck (now (image .entry))) × (stageTells r ≡ passed → Index (now (image .entry)) (now (index .exit))) ⌝ }
+{
+    let mut firsts: [u64; 2048] = [0; 2048];
+    let mut reach: [u64; 2048] = [0; 2048];
+    let mut hints: [u16; 4096] = [0; 4096];
+    image_stage_with(image, index, &mut firsts, &mut reach, &mut hints)
 }
 
 // The four counts of an image in which rules 1 to 18 hold.

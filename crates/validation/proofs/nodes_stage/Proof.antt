@@ -1,24 +1,24 @@
 -- The overlaps and then the faces, each gathered in the same tables, before the nodes.
-use mathlib.Core.Path.{refl}
+use mathlib.Core.Path.{_∙_}
+use native.Mathlib.Omega.{arith}
 use borrow.Author.Needs.{needs}
 use Rattle.validation.proofs.nodes_stage.Statement.{statement}
 use Rattle.validation.proofs.nodes_stage.Tie as tie
 
 first-overlap-requires : tie.Need-first-overlap-requires
-first-overlap-requires c κs = (c .before .before .before .before .pre, search needs)
+first-overlap-requires c κs = let p = c .before .before .before .before .before .before .before .pre in (p .0 .0, p .1)
 
 gather-faces-requires : tie.Need-gather-faces-requires
 gather-faces-requires c κs =
-    let o = c .before .before .before .before in
-    (o .before .before .before .before .before .pre, search needs)
+    let p = c .before .before .before .before .before .before .before .before .before .before .before .before .before .before .pre in
+    let o = c .before .before .before .before .before .before .first-overlap .kept in
+    (p .0 .0, (omega (arith, o .1 .1 .0, p .1), omega (arith, o .1 .1 .1 .0, p .1)))
 
 every-node-requires : tie.Need-every-node-requires
-every-node-requires c κs =
-    let g = c .before .before .before .before .before in
-    let o = g .before .before .before .before .before in
-    (o .before .before .before .before .before .pre, (o .first-overlap .ensures, (g .gather-faces .ensures, search needs)))
+every-node-requires c κs = let p = c .before .before .before .before .before .before .before .before .before .before .before .before .before .before .before .before .before .before .before .before .before .before .pre in (p .0 .0, (c .before .before .before .before .before .before .before .before .before .before .before .before .before .before .first-overlap .ensures, (c .before .before .before .before .before .before .before .gather-faces .ensures, p .0 .1)))
+
+returns : tie.Need-returns
+returns c = c .before .before .every-node .ensures
 
 pub nodes-stage-spec : {M : Type 1} → statement M
-nodes-stage-spec =
-    tie.close (tie.spec (λ c. refl) (λ c. refl) first-overlap-requires (search needs) (search needs) gather-faces-requires
-    (search needs) (search needs) (λ c. refl) every-node-requires (λ c. c .before .every-node .ensures))
+nodes-stage-spec = tie.close (tie.spec first-overlap-requires gather-faces-requires every-node-requires (λ c. c .before .before .before .before .before .before .before .before .before .before .gather-faces .kept .1 .1 .0 ∙ c .before .before .before .before .before .before .before .before .before .before .before .before .before .before .before .before .before .first-overlap .kept .1 .1 .0) (λ c. c .before .before .before .before .before .before .before .before .before .before .gather-faces .kept .1 .1 .1 .0 ∙ c .before .before .before .before .before .before .before .before .before .before .before .before .before .before .before .before .before .first-overlap .kept .1 .1 .1 .0) (λ c. c .before .before .every-node .kept .1 .1 .1 .1 .1 .1 .0) returns)

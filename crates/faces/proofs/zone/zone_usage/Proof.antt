@@ -9,33 +9,31 @@ use Rattle.faces.proofs.zone.zone_usage.Statement.{statement}
 use Rattle.faces.proofs.zone.zone_usage.Tie as tie
 
 array-read-if1 : tie.Need-array-read-if1
-array-read-if1 c =
-    let g = c .before .before .before in omega (arith, few-ranges (g .before .before .before .before .before .before .before .pre .0 .0) (g .gather .ensures))
+array-read-if1 c = omega (arith, few-ranges (c .before .before .before .before .before .before .before .before .before .before .before .before .before .before .before .pre .0 .0 .0) (c .before .before .before .before .before .gather .ensures))
 
 returns : tie.Need-returns
 returns c =
-    let d = c .before .before .before .before .before .before .before .before .before .before .before .before in
-    let g = c .before .before .before .before .before .gather .ensures in
+    let d = c .before .before .before .before .before .before .before .before .before .before .before .before .before .before .before .before .before in
+    let p = d .pre .0 in
     let w = refusal-told (d .args .image .now) (d .args .z) (d .args .out .now)
-    (too-short _ _ _ (d .pre .0 .0 .image) (d .pre .1) (omega (arith, all-faces (d .pre .0 .0) g, c .before .if1 .taken))) in
+    (too-short _ _ _ (p .0 .0 .image) (p .1) (omega (arith, all-faces (p .0 .0) (c .before .before .before .before .before .before .before .gather .ensures), c .before .if1 .taken))) in
     (ap rejected (c .at .ensures) ∙ w .0, w .1)
 
 fill-requires : tie.Need-fill-requires
 fill-requires c κs =
-    let p = c .before .before .before .before .before .before .before .before .before .before .before .before .before .before .before .pre .0 in
-    let g = c .before .before .before .before .before .before .before .before .gather .ensures in
-    (p, (g, omega (arith, all-faces (p .0) g, c .before .before .before .before .if1 .left)))
+    let p = c .before .before .before .before .before .before .before .before .before .before .before .before .before .before .before .before .before .before .before .before .before .pre in
+    let g = c .before .before .before .before .before .before .before .before .before .before .before .gather .ensures in
+    ((p .0 .0, p .1 .2), (g, omega (arith, all-faces (p .0 .0 .0) g, c .before .before .before .before .before .if1 .left)))
 
 returns-2 : tie.Need-returns-2
 returns-2 c =
-    let i = c .before .before .before .before .before .before .before in
-    let g = i .before .before .before .before in
-    let d = g .before .before .before .before .before .before .before in
-    let f = c .before .before .fill .ensures in
+    let d = c .before .before .before .before .before .before .before .before .before .before .before .before .before .before .before .before .before .before .before .before .before .before .before .before .before .before in
+    let p = d .pre .0 in
+    let f = c .before .before .before .before .fill .ensures in
     let w = usage-told (d .args .image .now) (d .args .z) (d .args .out .now)
-    (long-enough _ _ _ (d .pre .0 .0 .image) (d .pre .1) (omega (arith, all-faces (d .pre .0 .0) (g .gather .ensures), i .if1 .left))) in
+    (long-enough _ _ _ (p .0 .0 .image) (p .1) (omega (arith, all-faces (p .0 .0) (c .before .before .before .before .before .before .before .before .before .before .before .before .before .before .before .before .gather .ensures), c .before .before .before .before .before .before .before .before .before .before .if1 .left))) in
     (f .0 ∙ sym (w .0), f .1 ∙ sym (w .1))
 
 pub zone-usage-spec : {M : Type 1} → statement M
-zone-usage-spec = tie.close (tie.spec (λ c. refl) (λ c. refl) (λ c. refl) (λ c κs. search needs) (search needs) array-read-if1 (search needs) returns
-    (search needs) (search needs) (search needs) fill-requires (search needs) returns-2)
+zone-usage-spec = tie.close (tie.spec (λ c. refl) (λ c κs. search needs) (search needs) array-read-if1 (search needs) (search needs) (search needs) returns
+    (search needs) fill-requires (search needs) (search needs) (search needs) (search needs) returns-2)
