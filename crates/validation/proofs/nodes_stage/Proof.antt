@@ -1,7 +1,6 @@
 -- The overlaps and then the faces, each gathered in the same tables, before the nodes.
 use mathlib.Core.Path.{_∙_}
 use native.Mathlib.Omega.{arith}
-use borrow.Author.Needs.{needs}
 use Rattle.validation.proofs.nodes_stage.Statement.{statement}
 use Rattle.validation.proofs.nodes_stage.Tie as tie
 
