@@ -1,9 +1,11 @@
 -- Two tests that agree give one walk.
-use Prim.Native.Nat.{ℕ, zero, suc, _+_, _≤_, _<_}
-use mathlib.Core.Path.{_≡_, refl}
-use mathlib.Core.Bool.{Bool}
+use Prim.Native.Nat.{ℕ, zero, suc, _+_, _-_, _≤_, _<_}
+use mathlib.Core.Path.{_≡_, refl, _∙_}
+use mathlib.Core.Bool.{Bool, true, false, _&&_}
 use native.Mathlib.Omega.{arith}
 use Rattle.model.specs.Lists.{someFrom, everyFrom}
+use Rattle.model.proofs.Logic.{and-first, and-second}
+use Rattle.model.proofs.Loops.{EveryLeft, every-more, every-stop, every-done}
 
 module _ (p q : ℕ → Bool) where
   pub some-same : (k i : ℕ) → ((j : ℕ) → i ≤ j → j < i + k → p j ≡ q j) → someFrom p k i ≡ someFrom q k i
@@ -15,3 +17,24 @@ module _ (p q : ℕ → Bool) where
   unfolding everyFrom
   every-same zero i e = refl
   every-same (suc k) i e = rw (e i (omega arith) (omega arith), every-same k (suc i) (λ j l h. e j (omega arith) (omega arith)))
+
+-- a walk that takes two at a time, and the last by itself
+module _ {p : ℕ → Bool} {n k : ℕ} {w : Bool} (l : EveryLeft p n k w) where
+  pub two-more : 1 < n - k → (p k && p (k + 1)) ≡ true → EveryLeft p n (k + 2) w
+  two-more h e =
+      let q : k + 1 + 1 ≡ k + 2 = omega arith in
+      rw q at (every-more (every-more l (omega arith) (and-first (p k) _ e)) (omega arith) (and-second (p k) _ e))
+
+  pub two-stop : 1 < n - k → (p k && p (k + 1)) ≡ false → false ≡ w
+  two-stop h e = by-test (p k) refl e
+    where
+      by-test : (c : Bool) → p k ≡ c → (c && p (k + 1)) ≡ false → false ≡ w
+      by-test true q f = every-stop (every-more l (omega arith) q) (omega arith) f
+      by-test false q f = every-stop l (omega arith) q
+
+  pub last-one : {r : Bool} → k < n → n - k ≤ 1 → r ≡ p k → r ≡ w
+  last-one h o e = e ∙ by-test (p k) refl
+    where
+      by-test : (c : Bool) → p k ≡ c → c ≡ w
+      by-test true q = every-done (every-more l h q) (omega arith)
+      by-test false q = every-stop l h q

@@ -1,5 +1,6 @@
 // Rows of numbers of 4 or 8 bytes: n of them from the byte `at` on. Start offsets, and node references.
 ghost use mathlib.Core.Path.{_≡_};
+ghost use mathlib.Core.Bool.{_&&_};
 ghost use Prim.Native.Nat.{_+_, _^_, _<_};
 ghost use lib.Dec.{T};
 ghost use Rattle.words.specs.Width.{isWidth};
@@ -86,17 +87,31 @@ fn is_within(image: &[u8], at: usize, width: usize, n: usize, limit: u64, k: usi
     x <= limit
 }
 
-// Rule 34: does every number of a row lie in 1 to limit?
+// Do numbers k and k + 1 of a row lie in 1 to limit?
+fn two_within(image: &[u8], at: usize, width: usize, n: usize, limit: u64, k: usize) -> bool
+    requires { ⌜ Numbers (now image) at width n × (k + 1 < n) ⌝ }
+    ensures { λ r. ⌜ r ≡ (isWithin (now (image .entry)) at width limit k && isWithin (now (image .entry)) at width limit (k + 1)) ⌝ }
+{
+    if !is_within(image, at, width, n, limit, k) {
+        return false;
+    }
+    is_within(image, at, width, n, limit, k + 1)
+}
+
+// Rule 34: does every number of a row lie in 1 to limit? Two at a time: the loop takes as long wherever the linker puts it.
 pub fn all_within(image: &[u8], at: usize, width: usize, n: usize, limit: u64) -> bool
     requires { ⌜ Numbers (now image) at width n ⌝ }
     ensures { λ r. ⌜ r ≡ everyFrom (isWithin (now (image .entry)) at width limit) n 0 ⌝ }
 {
     let mut k: usize = 0;
-    while k < n {
-        if !is_within(image, at, width, n, limit, k) {
+    while 1 < n - k {
+        if !two_within(image, at, width, n, limit, k) {
             return false;
         }
-        k += 1;
+        k += 2;
+    }
+    if k < n {
+        return is_within(image, at, width, n, limit, k);
     }
     true
 }
