@@ -19,7 +19,7 @@ use model::Rejection;
 use model::Validation;
 
 // A rule, 0 for none, and up to five words: the node, and the values.
-pub struct Told {
+pub struct ExportAnswer {
     pub rule: u64,
     pub words: [u64; 5],
 }
@@ -37,21 +37,28 @@ fn put_words(out: &mut [u8], words: &[u64])
 }
 
 // Writes the first n words of an answer in front of lent bytes and answers its rule; the rest stays.
-pub fn put_answer(out: &mut [u8], told: Told, n: usize) -> u64
-    requires { ⌜ (length (take n (told .words)) ≡ n) × (8 * n ≤ length (now out)) ⌝ }
-    ensures { λ r. ⌜ (r ≡ told .rule) × (now (out .exit) ≡ over (now (out .entry)) (allBytes 8 (take n (told .words)))) ⌝ }
+pub fn put_answer(out: &mut [u8], answer: ExportAnswer, n: usize) -> u64
+    requires { ⌜ (length (take n (answer .words)) ≡ n) × (8 * n ≤ length (now out)) ⌝ }
+    ensures { λ r. ⌜ (r ≡ answer .rule) × (now (out .exit) ≡ over (now (out .entry)) (allBytes 8 (take n (answer .words)))) ⌝ }
 {
-    let words = told.words;
+    let words = answer.words;
     put_words(out, &words[..n]);
-    told.rule
+    answer.rule
 }
 
 // A rule, a node and four values.
-fn tell(rule: u64, node: u64, first: u64, second: u64, third: u64, fourth: u64) -> Told
+fn with_words(
+    rule: u64,
+    node: u64,
+    first: u64,
+    second: u64,
+    third: u64,
+    fourth: u64,
+) -> ExportAnswer
     ensures { λ r. ⌜ (r .rule ≡ rule) × (r .words ≡ node ∷ first ∷ second ∷ third ∷ fourth ∷ []) ⌝ }
 {
     let words = [node, first, second, third, fourth];
-    Told { rule, words }
+    ExportAnswer { rule, words }
 }
 
 // The two's complement of a whole number at 64 bits.
@@ -65,7 +72,7 @@ fn whole_bits(x: i64) -> u64
 }
 
 // Validation: node and the four counts.
-pub fn validation_told(v: Validation) -> Told
+pub fn validation_answer(v: Validation) -> ExportAnswer
     ensures { λ r. ⌜ (r .rule ≡ ruleOf (validationTells v)) × (take 5 (r .words) ≡ validationWords (validationTells v)) ⌝ }
 {
     match v {
@@ -74,55 +81,55 @@ pub fn validation_told(v: Validation) -> Told
             skipped,
             zones,
             sections,
-        } => tell(0, 0, validated, skipped, zones, sections),
-        Validation::Rejected(r) => tell(r.rule, r.node, 0, 0, 0, 0),
+        } => with_words(0, 0, validated, skipped, zones, sections),
+        Validation::Rejected(r) => with_words(r.rule, r.node, 0, 0, 0, 0),
     }
 }
 
 // A count: node and count.
-pub fn count_told(c: Count) -> Told
+pub fn count_answer(c: Count) -> ExportAnswer
     ensures { λ r. ⌜ (r .rule ≡ ruleOf (countTells c)) × (take 2 (r .words) ≡ countWords (countTells c)) ⌝ }
 {
     match c {
-        Count::Of(n) => tell(0, 0, n, 0, 0, 0),
-        Count::Rejected(r) => tell(r.rule, r.node, 0, 0, 0, 0),
+        Count::Of(n) => with_words(0, 0, n, 0, 0, 0),
+        Count::Rejected(r) => with_words(r.rule, r.node, 0, 0, 0, 0),
     }
 }
 
 // Face usage: node, element, count.
-pub fn usage_told(u: FaceUsage) -> Told
+pub fn usage_answer(u: FaceUsage) -> ExportAnswer
     ensures { λ r. ⌜ (r .rule ≡ ruleOf (usageTells u)) × (take 3 (r .words) ≡ usageWords (usageTells u)) ⌝ }
 {
     match u {
-        FaceUsage::Faces(n) => tell(0, 0, 0, n, 0, 0),
-        FaceUsage::Rejected(r) => tell(r.rule, r.node, r.element, 0, 0, 0),
+        FaceUsage::Faces(n) => with_words(0, 0, 0, n, 0, 0),
+        FaceUsage::Rejected(r) => with_words(r.rule, r.node, r.element, 0, 0, 0),
     }
 }
 
 // The bits of a single.
-fn single_told(bits: u32) -> Told
+fn single_answer(bits: u32) -> ExportAnswer
     ensures { λ r. ⌜ (r .rule ≡ 0) × (take 3 (r .words) ≡ 0 ∷ 2 ∷ bits ∷ []) ⌝ }
 {
-    tell(0, 0, 2, bits as u64, 0, 0)
+    with_words(0, 0, 2, bits as u64, 0, 0)
 }
 
 // An array value: node, kind, bits.
-pub fn value_told(v: ArrayValue) -> Told
+pub fn value_answer(v: ArrayValue) -> ExportAnswer
     requires { ⌜ NanCases v ⌝ }
     ensures { λ r. ⌜ (r .rule ≡ ruleOf (valueTells v)) × (take 3 (r .words) ≡ valueWords (valueTells v)) ⌝ }
 {
     match v {
-        ArrayValue::Whole(x) => tell(0, 0, 1, whole_bits(x), 0, 0),
-        ArrayValue::Single(x) => single_told(f32::to_bits(x)),
-        ArrayValue::Double(x) => tell(0, 0, 3, f64::to_bits(x), 0, 0),
-        ArrayValue::SingleNan(bits) => single_told(bits),
-        ArrayValue::DoubleNan(bits) => tell(0, 0, 3, bits, 0, 0),
-        ArrayValue::Rejected(r) => tell(r.rule, r.node, 0, 0, 0, 0),
+        ArrayValue::Whole(x) => with_words(0, 0, 1, whole_bits(x), 0, 0),
+        ArrayValue::Single(x) => single_answer(f32::to_bits(x)),
+        ArrayValue::Double(x) => with_words(0, 0, 3, f64::to_bits(x), 0, 0),
+        ArrayValue::SingleNan(bits) => single_answer(bits),
+        ArrayValue::DoubleNan(bits) => with_words(0, 0, 3, bits, 0, 0),
+        ArrayValue::Rejected(r) => with_words(r.rule, r.node, 0, 0, 0, 0),
     }
 }
 
 // A DataSize: node, directions and the size in each.
-pub fn size_told(d: DataSize) -> Told
+pub fn size_answer(d: DataSize) -> ExportAnswer
     ensures { λ r. ⌜ (r .rule ≡ ruleOf (dataSizeTells d)) × (take 5 (r .words) ≡ sizeWords (dataSizeTells d)) ⌝ }
 {
     match d {
@@ -131,8 +138,8 @@ pub fn size_told(d: DataSize) -> Told
             i,
             j,
             k,
-        } => tell(0, 0, directions, i, j, k),
-        DataSize::Rejected(r) => tell(r.rule, r.node, 0, 0, 0, 0),
+        } => with_words(0, 0, directions, i, j, k),
+        DataSize::Rejected(r) => with_words(r.rule, r.node, 0, 0, 0, 0),
     }
 }
 

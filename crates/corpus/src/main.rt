@@ -202,7 +202,7 @@ fn one_call(image: &[u8]) -> bool {
         print::corner(corners::corner(image, section, word(&call, 10), word(&call, 11)));
     }
     if kind == 7 {
-        print::value(values::array_value(image, node, number));
+        print::value(array_values::array_value(image, node, number));
     }
     if kind == 8 {
         usage_into(image, node, number);

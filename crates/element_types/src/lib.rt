@@ -1,4 +1,4 @@
-// Element types by their number: nodes per element, and which types are taken.
+// Element types by their number: nodes per element, and which types are supported.
 ghost use mathlib.Core.Path.{_≡_};
 ghost use Prim.Native.Nat.{_≤_};
 ghost use Rattle.model.specs.Elements.{nodesPer, hasOffsets, taken};
@@ -42,8 +42,8 @@ pub fn has_offsets(element_type: u64) -> bool
     element_type == NGON || element_type == NFACE
 }
 
-// Whether a type is taken.
-pub fn taken(element_type: u64) -> bool
+// Whether a type is supported (document 01: taken).
+pub fn is_supported(element_type: u64) -> bool
     ensures { λ r. ⌜ r ≡ taken «element_type» ⌝ }
 {
     0 < nodes_per(element_type) || has_offsets(element_type)

@@ -2,7 +2,7 @@ pub mod Agree
 pub mod Rows
 pub mod Stages
 pub mod Stored
-pub mod Ready
+pub mod SectionContext
 pub mod Searches
 pub mod RangeLaws
 pub mod RuleLaws

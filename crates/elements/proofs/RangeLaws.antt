@@ -26,11 +26,11 @@ use Rattle.ranges.specs.Tables.{key, meetsAt, meetsSection, inRanges, Gathered}
 use Rattle.ranges.proofs.Gathering.{gathered-room}
 use Rattle.ranges.proofs.Half.{half}
 use Rattle.ranges.proofs.Keys.{key-meets}
-use Rattle.elements.specs.Given.{Ranged, SectionReady, refersFace}
+use Rattle.elements.specs.Given.{Ranged, SectionContext, refersFace}
 use Rattle.elements.specs.Ranges.{isRanged, firstKey, lastKey, rangedOverlap, overlapAt, RangeOf, Faces}
 use Rattle.elements.proofs.Agree.{some-same}
 use Rattle.elements.proofs.Stored.{type-section, range-ready}
-use Rattle.elements.proofs.Ready.{complete-is}
+use Rattle.elements.proofs.SectionContext.{complete-is}
 
 -- rules 24 and 25 of a section, and its type
 module _ (t : Tree) (i : ℕ) (e : role t i ≡ Elements) where
@@ -102,7 +102,7 @@ module _ {b : List ℕ} (g : Sound b) (faces : Bool) (s : ℕ) (e : isRanged (tr
       (conforming-inside t s IndexRange _ range-found, conforming-parent t s IndexRange _ range-found, not-section b _ faces (rw r))
 
 -- a section that meets rules 20 to 26 counts
-pub ready-ranged : {b : List ℕ} {s : ℕ} → SectionReady b s → validated (treeOf b) s ≡ true → isRanged (treeOf b) false s ≡ true
+pub ready-ranged : {b : List ℕ} {s : ℕ} → SectionContext b s → validated (treeOf b) s ≡ true → isRanged (treeOf b) false s ≡ true
 unfolding isRanged _⊃_ found treeOf validatedAs
 ready-ranged {b} {s} d v = rw (d .elements, v, lt-ltb (rangeOf (treeOf b) s) (nodeCount b) (d .ranged .range .inside))
 

@@ -14,7 +14,7 @@ use Rattle.model.specs.Elements.{NFACE, elementType, reference, connectivityLen
 use Rattle.model.specs.Corner.{numberAt}
 use Rattle.elements.specs.Arrays.{Numbers, isWithin}
 use Rattle.elements.specs.Groups.{referenceRules}
-use Rattle.elements.specs.Given.{Indexed, SectionReady, refersFace}
+use Rattle.elements.specs.Given.{Indexed, SectionContext, refersFace}
 use Rattle.elements.proofs.Stored.{startOf, stores-row, stores-number}
 use Rattle.elements.proofs.Agree.{every-same}
 
@@ -26,7 +26,7 @@ module _ {b : List ℕ} (s : Sound b) {j at w n : ℕ} (a : Indexed b j) (p : at
   pub number-of : (k : ℕ) → k < n → number (treeOf b) j k ≡ numberAt b at w k
   number-of k h = rw (p, q) (stores-number s (a .numbers) k (rw (← r) h))
 
-module _ {b : List ℕ} (g : Sound b) {s j at w n : ℕ} (d : SectionReady b s) (e : j ≡ connectivityOf (treeOf b) s) (p : at ≡ startOf b j) (q : w ≡ width (treeOf b) j) (r : n ≡ connectivityLength (treeOf b) s) where
+module _ {b : List ℕ} (g : Sound b) {s j at w n : ℕ} (d : SectionContext b s) (e : j ≡ connectivityOf (treeOf b) s) (p : at ≡ startOf b j) (q : w ≡ width (treeOf b) j) (r : n ≡ connectivityLength (treeOf b) s) where
   indexed : Indexed b j
   indexed = rw e (d .connectivity)
 

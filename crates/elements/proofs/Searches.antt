@@ -18,7 +18,7 @@ use Rattle.model.proofs.Loops.{SomeLeft, some-start}
 use borrow.Author.Tests.{eqb-true}
 use Rattle.elements.specs.Given.{Ranged}
 use Rattle.elements.proofs.Stored.{range-ready}
-use Rattle.elements.proofs.Ready.{complete-is}
+use Rattle.elements.proofs.SectionContext.{complete-is}
 
 -- an earlier section has a range: it passed rule 23
 pub earlier-ranged : {b : List ℕ} {s : ℕ} → NodesTo b s → (z i : ℕ) → i < s → sectionOf (treeOf b) z i ≡ true → Ranged b i

@@ -17,10 +17,10 @@ use Rattle.model.specs.Values.{size, offsetsOf}
 use Rattle.model.specs.Elements.{nodesPer, hasOffsets, elementType, elementCount, connectivityLength, lengthsFit, startOffset, startsAtZero, rises, allRise, endsAtLength}
 use Rattle.model.specs.Corner.{numberAt}
 use Rattle.model.proofs.Bounds.{node-placed}
-use Rattle.types.proofs.Held.{rank-is, flat-is}
+use Rattle.types.proofs.StoredNumbers.{rank-is, flat-is}
 use Rattle.elements.specs.Arrays.{Numbers, risesAt, offsetRules}
 use Rattle.elements.specs.Groups.{shapeRules}
-use Rattle.elements.specs.Given.{Indexed, SectionReady}
+use Rattle.elements.specs.Given.{Indexed, SectionContext}
 use Rattle.elements.proofs.Stored.{startOf}
 use Rattle.elements.proofs.RuleLaws.{row-of, number-of}
 use Rattle.elements.proofs.Agree.{every-same}
@@ -45,7 +45,7 @@ module _ {b : List ℕ} (s : Sound b) {j : ℕ} (a : Indexed b j) where
   words-inside = node-placed b (s .table) j (a .numbers .inside) .words-in
 
 -- conforming start offsets; there are some where their count is not 0
-pub offsets-there : {b : List ℕ} {s : ℕ} → SectionReady b s → {j : ℕ} → j ≡ offsetsOf (treeOf b) s → j < nodeCount b → Indexed b j
+pub offsets-there : {b : List ℕ} {s : ℕ} → SectionContext b s → {j : ℕ} → j ≡ offsetsOf (treeOf b) s → j < nodeCount b → Indexed b j
 unfolding found treeOf
 offsets-there {b} d e h = rw e (d .offsets (lt-ltb _ _ (rw e at h)))
 
@@ -57,7 +57,7 @@ offsets-found b j r n e q = by-test (ltb j (nodeCount b)) refl
     by-test false h = absurd (omega (arith, no-size b j (ltb-false j (nodeCount b) h)))
 
 -- n is small
-pub count-small : {b : List ℕ} {s : ℕ} → SectionReady b s → {n : ℕ} → n ≡ elementCount (treeOf b) s → n ≤ 2147483647
+pub count-small : {b : List ℕ} {s : ℕ} → SectionContext b s → {n : ℕ} → n ≡ elementCount (treeOf b) s → n ≤ 2147483647
 unfolding elementCount
 count-small {b} {s} d e = let r = d .ranged in omega (arith, r .one, r .up, r .most)
 

@@ -10,7 +10,7 @@ use Rattle.model.specs.Values.{size, connectivityOf}
 use Rattle.model.specs.Elements.{taken, elementType, firstElement, lastElement, elementCount, connectivityLength, overlaps, elementRules}
 use Rattle.model.proofs.Staging.{broken, kept, check-append}
 use Rattle.elements.specs.Groups.{shapeRules, referenceRules}
-use Rattle.elements.specs.Given.{SectionReady}
+use Rattle.elements.specs.Given.{SectionContext}
 
 module _ (t : Tree) (s : ℕ) where
   -- a section's type, and its number of elements and of references, as they were read
@@ -42,8 +42,8 @@ module _ (t : Tree) (s : ℕ) where
           f ∙ sym (kept s 27 _ (rw (← e) (sym q ∙ h)) ∙ (kept s 28 _ (ap not (sym p ∙ i)) ∙ check-append s (shapeRules t s) (referenceRules t s)))
 
 -- the last element's number is no less than the first's
-pub up-read : {b : List ℕ} {s : ℕ} → SectionReady b s → {f l : ℕ} → f ≡ firstElement (treeOf b) s → l ≡ lastElement (treeOf b) s → f ≤ l
+pub up-read : {b : List ℕ} {s : ℕ} → SectionContext b s → {f l : ℕ} → f ≡ firstElement (treeOf b) s → l ≡ lastElement (treeOf b) s → f ≤ l
 up-read d p q = let u = d .ranged .up in omega arith
 
-pub most-read : {b : List ℕ} {s : ℕ} → SectionReady b s → {l : ℕ} → l ≡ lastElement (treeOf b) s → l ≤ 2147483647
+pub most-read : {b : List ℕ} {s : ℕ} → SectionContext b s → {l : ℕ} → l ≡ lastElement (treeOf b) s → l ≤ 2147483647
 most-read d q = let u = d .ranged .most in omega arith

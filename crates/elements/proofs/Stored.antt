@@ -22,8 +22,8 @@ use Rattle.model.proofs.Bounds.{node-placed}
 use Rattle.model.proofs.Reading.{number-at}
 use Rattle.model.proofs.Conforming.{conforming-inside, conforming-type, conforming-value, conforming-role, conforming-parent, conforming-name}
 use Rattle.words.specs.Width.{isWidth}
-use Rattle.types.specs.Given.{Has}
-use Rattle.types.proofs.Held.{whole-wide, shaped-is, flat-is, bytes-are}
+use Rattle.types.specs.Given.{HasNumber}
+use Rattle.types.proofs.StoredNumbers.{whole-wide, shaped-is, flat-is, bytes-are}
 use Rattle.elements.specs.Arrays.{Numbers}
 use Rattle.elements.specs.Given.{Stores, Indexed, Ranged}
 
@@ -35,7 +35,7 @@ scaled : (w k n : ℕ) → k < n → w * k + w ≤ n * w
 scaled w k n h = rw (← mul-suc w k, mul-comm n w) (mul-le-mul-left w h)
 
 module _ {b : List ℕ} (s : Sound b) {j n : ℕ} (a : Stores b j n) where
-  pub stores-has : (k : ℕ) → k < n → Has b j k
+  pub stores-has : (k : ℕ) → k < n → HasNumber b j k
   stores-has k h = record { inside = a .inside; wide = a .wide; room = rw (a .bytes) (scaled (width (treeOf b) j) k n h) }
 
   pub stores-row : Numbers b (startOf b j) (width (treeOf b) j) n

@@ -12,7 +12,7 @@ use Rattle.model.specs.Values.{flat, rangeOf, offsetsOf, connectivityOf, size, 
 use Rattle.model.specs.Elements.{firstElement, lastElement, faceOf}
 use Rattle.words.specs.Width.{isWidth}
 use Rattle.index.specs.Index.{kind}
-use Rattle.types.specs.Given.{Has}
+use Rattle.types.specs.Given.{HasNumber}
 
 -- node j stores n numbers of 4 or 8 bytes
 pub record Stores (b : List ℕ) (j n : ℕ) : Type 0 where
@@ -33,13 +33,13 @@ pub record Ranged (b : List ℕ) (s : ℕ) : Type 0 where
   pub most : lastElement (treeOf b) s ≤ maxNumber
 
 -- section s meets rules 20 to 26, and its zone does
-pub record SectionReady (b : List ℕ) (s : ℕ) : Type 0 where
+pub record SectionContext (b : List ℕ) (s : ℕ) : Type 0 where
   pub inside : s < nodeCount b
   pub elements : role (treeOf b) s ≡ Elements
   pub kind-is : kind (treeOf b) s ≡ Elements
   pub own : Stores b s 2
   pub below : parent (treeOf b) s < s
-  pub zone : Has b (parent (treeOf b) s) 0
+  pub zone : HasNumber b (parent (treeOf b) s) 0
   pub ranged : Ranged b s
   pub connectivity : Indexed b (connectivityOf (treeOf b) s)
   pub offsets : found (treeOf b) (offsetsOf (treeOf b) s) ≡ true → Indexed b (offsetsOf (treeOf b) s)

@@ -9,7 +9,7 @@ ghost use Rattle.model.specs.Elements.{hasOffsets, elementType, elementCount, c
 ghost use Rattle.model.specs.Rules.{check};
 ghost use Rattle.model.specs.Answers.{stageTells};
 ghost use Rattle.index.specs.Index.{Index};
-ghost use Rattle.elements.specs.Given.{Indexed, SectionReady};
+ghost use Rattle.elements.specs.Given.{Indexed, SectionContext};
 ghost use Rattle.elements.specs.Groups.{shapeRules};
 use super::offsets::offsets_stage;
 use super::references::width_at;
@@ -33,7 +33,7 @@ pub fn size_of(image: &[u8], j: usize) -> u64
 
 // Rules 29 to 32 at section s, whose n elements are found by start offsets.
 fn offset_shape(image: &[u8], index: &[u16], s: usize, n: u64, length: u64) -> Stage
-    requires { ⌜ Index (now image) (now index) × SectionReady (now image) s ⌝ }
+    requires { ⌜ Index (now image) (now index) × SectionContext (now image) s ⌝ }
     requires { ⌜ (n ≡ elementCount (treeOf (now image)) s) × (length ≡ connectivityLength (treeOf (now image)) s) ⌝ }
     requires { ⌜ hasOffsets (elementType (treeOf (now image)) s) ≡ true ⌝ }
     ensures { λ r. ⌜ stageTells r ≡ check s (shapeRules (treeOf (now (image .entry))) s) ⌝ }
@@ -49,7 +49,7 @@ fn offset_shape(image: &[u8], index: &[u16], s: usize, n: u64, length: u64) -> S
 
 // Rules 29 to 32 at section s of type `kind`, with n elements.
 pub fn shape_stage(image: &[u8], index: &[u16], s: usize, kind: u64, n: u64, length: u64) -> Stage
-    requires { ⌜ Index (now image) (now index) × SectionReady (now image) s ⌝ }
+    requires { ⌜ Index (now image) (now index) × SectionContext (now image) s ⌝ }
     requires { ⌜ (n ≡ elementCount (treeOf (now image)) s) × (length ≡ connectivityLength (treeOf (now image)) s) ⌝ }
     requires { ⌜ kind ≡ elementType (treeOf (now image)) s ⌝ }
     ensures { λ r. ⌜ stageTells r ≡ check s (shapeRules (treeOf (now (image .entry))) s) ⌝ }

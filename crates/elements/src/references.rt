@@ -8,7 +8,7 @@ ghost use Rattle.model.specs.Values.{connectivityOf};
 ghost use Rattle.model.specs.Elements.{elementType, connectivityLength, allNodes, allFaces};
 ghost use Rattle.model.specs.Rules.{check};
 ghost use Rattle.model.specs.Answers.{stageTells};
-ghost use Rattle.elements.specs.Given.{SectionReady};
+ghost use Rattle.elements.specs.Given.{SectionContext};
 ghost use Rattle.elements.specs.Ranges.{Faces};
 ghost use lib.ListN as ListN;
 ghost use Rattle.elements.specs.Groups.{referenceRules};
@@ -29,7 +29,7 @@ pub fn width_at(image: &[u8], j: usize) -> usize
 
 // Rule 34: every reference of section s is a node of its zone.
 fn nodes_lawful(image: &[u8], s: usize, connectivity: usize, length: u64) -> bool
-    requires { ⌜ Sound (now image) × SectionReady (now image) s ⌝ }
+    requires { ⌜ Sound (now image) × SectionContext (now image) s ⌝ }
     requires { ⌜ (connectivity ≡ connectivityOf (treeOf (now image)) s) × (length ≡ connectivityLength (treeOf (now image)) s) ⌝ }
     ensures { λ r. ⌜ r ≡ allNodes (treeOf (now (image .entry))) s ⌝ }
 {
@@ -50,7 +50,7 @@ fn faces_lawful(
     faces: usize,
     hints: &mut [u16],
 ) -> bool
-    requires { ⌜ Sound (now image) × SectionReady (now image) s ⌝ }
+    requires { ⌜ Sound (now image) × SectionContext (now image) s ⌝ }
     requires { ⌜ (connectivity ≡ connectivityOf (treeOf (now image)) s) × (length ≡ connectivityLength (treeOf (now image)) s) ⌝ }
     requires { ⌜ Faces (treeOf (now image)) (now firsts) (now reach) faces × (4096 ≤ ListN.length (now hints)) ⌝ }
     ensures { λ r. ⌜ r ≡ allFaces (treeOf (now (image .entry))) s ⌝ }
@@ -82,7 +82,7 @@ pub fn reference_stage(
     faces: usize,
     hints: &mut [u16],
 ) -> Stage
-    requires { ⌜ Sound (now image) × SectionReady (now image) s ⌝ }
+    requires { ⌜ Sound (now image) × SectionContext (now image) s ⌝ }
     requires { ⌜ (connectivity ≡ connectivityOf (treeOf (now image)) s) × (length ≡ connectivityLength (treeOf (now image)) s) ⌝ }
     requires { ⌜ kind ≡ elementType (treeOf (now image)) s ⌝ }
     requires { ⌜ Faces (treeOf (now image)) (now firsts) (now reach) faces × (4096 ≤ ListN.length (now hints)) ⌝ }

@@ -13,12 +13,12 @@ ghost use lib.ListN.{length};
 ghost use Rattle.model.specs.Lists.{seekFrom};
 ghost use Rattle.index.specs.Index.{Index};
 ghost use Rattle.elements.specs.Ranges.{overlapAt, Faces};
-ghost use Rattle.elements.specs.Given.{SectionReady};
+ghost use Rattle.elements.specs.Given.{SectionContext};
 ghost use Rattle.elements.specs.Groups.{shapeRules, referenceRules};
 use super::lengths::shape_stage;
 use super::lengths::size_of;
 use super::references::reference_stage;
-use element_types::taken;
+use element_types::is_supported;
 use model::Rejection;
 use model::Stage;
 use sids::connectivity_of;
@@ -36,7 +36,7 @@ fn array_stage(
     faces: usize,
     hints: &mut [u16],
 ) -> Stage
-    requires { ⌜ Index (now image) (now index) × SectionReady (now image) s ⌝ }
+    requires { ⌜ Index (now image) (now index) × SectionContext (now image) s ⌝ }
     requires { ⌜ (kind ≡ elementType (treeOf (now image)) s) × (n ≡ elementCount (treeOf (now image)) s) ⌝ }
     requires { ⌜ Faces (treeOf (now image)) (now firsts) (now reach) faces × (4096 ≤ length (now hints)) ⌝ }
     ensures { λ r. ⌜ stageTells r ≡ (check s (shapeRules (treeOf (now (image .entry))) s) then check s (referenceRules (treeOf (now (image .entry))) s)) ⌝ }
@@ -80,7 +80,7 @@ pub fn element_stage(
     ensures { λ r. ⌜ stageTells r ≡ check s (elementRules (treeOf (now (image .entry))) s) ⌝ }
 {
     let kind = types::whole(image, s, 0);
-    if !taken(kind) {
+    if !is_supported(kind) {
         return Stage::Rejected(Rejection::at(27, s as u64));
     }
     if s == overlap {

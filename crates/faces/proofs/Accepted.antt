@@ -23,14 +23,14 @@ use Rattle.model.proofs.InZone.{InZone, parts, role-is, section-rule, range-fou
 use Rattle.model.proofs.References.{InRange, one-section}
 use Rattle.index.specs.Index.{Index, kind}
 use Rattle.index.proofs.Marking.{kind-role}
-use Rattle.types.specs.Given.{Has}
-use Rattle.types.proofs.Held.{whole-four, has-pair, has-less}
+use Rattle.types.specs.Given.{HasNumber}
+use Rattle.types.proofs.StoredNumbers.{whole-four, has-pair, has-less}
 use Rattle.ranges.proofs.Cases.{both}
 use Rattle.ranges.proofs.Half.{half}
 use Rattle.elements.specs.Given.{Ranged}
 use Rattle.elements.proofs.Stored.{type-section, range-ready, stores-has}
-use Rattle.faces.specs.declared.sections.Span.{Span}
-use Rattle.faces.specs.Sections.{Section, Spans}
+use Rattle.faces.specs.declared.zone_sections.Span.{Span}
+use Rattle.faces.specs.ZoneSections.{Section, Spans}
 
 and-true : (a : Bool) → (a && true) ≡ a
 and-true true = refl
@@ -56,8 +56,8 @@ module _ {b index : List ℕ} {s : ℕ} (n : Section b index s) where
 
   -- its range, as it is read
   module _ {r : ℕ} (q : r ≡ rangeOf (treeOf b) s) where
-    pub range-has : (k : ℕ) → k < 2 → Has b r k
-    range-has k l = subst (λ (r : ℕ). Has b r k) (sym q) (stores-has (n .accepted .sound) (section-ranged .range) k l)
+    pub range-has : (k : ℕ) → k < 2 → HasNumber b r k
+    range-has k l = subst (λ (r : ℕ). HasNumber b r k) (sym q) (stores-has (n .accepted .sound) (section-ranged .range) k l)
 
     pub spans : {x y : ℕ} → x ≡ number (treeOf b) r 0 → y ≡ number (treeOf b) r 1 → Spans b s (record { first = x; last = y })
     unfolding firstElement lastElement
@@ -82,7 +82,7 @@ module _ {b : List ℕ} (a : Accepted b) (z : ℕ) where
     value-lawful = sids-rule b (a .image) 25 s h (parts in-zone .is-validated)
 
     -- its type can be read
-    pub section-has : Has b s 0
+    pub section-has : HasNumber b s 0
     section-has =
         let l = sym (type-section (treeOf b) s (role-is in-zone)) ∙ type-lawful in
         has-less b s 1 0

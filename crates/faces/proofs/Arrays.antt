@@ -19,12 +19,12 @@ use Rattle.model.proofs.Bounds.{node-placed}
 use Rattle.model.proofs.Conforming.{section-is}
 use Rattle.model.proofs.InZone.{role-is, connectivity, offsets, offsets-size}
 use Rattle.index.specs.Index.{Index}
-use Rattle.types.proofs.Held.{rank-is}
+use Rattle.types.proofs.StoredNumbers.{rank-is}
 use Rattle.elements.specs.Given.{Stores, Indexed}
 use Rattle.elements.proofs.Stored.{startOf, stores-row, stores-number, connectivity-stores, offsets-stores}
 use Rattle.faces.specs.declared.rows.Row.{Row}
-use Rattle.faces.specs.declared.sections.Span.{Span}
-use Rattle.faces.specs.Sections.{Cells, Spans}
+use Rattle.faces.specs.declared.zone_sections.Span.{Span}
+use Rattle.faces.specs.ZoneSections.{Cells, Spans}
 use Rattle.faces.specs.Rows.{RowOf, endsAfterAt}
 use Rattle.faces.specs.Uses.{References}
 use Rattle.faces.proofs.Accepted.{section-by, own-zone, count-read, cells-faces}

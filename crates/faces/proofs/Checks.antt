@@ -28,15 +28,15 @@ no-rules = refl
 module _ (b : List ℕ) (z : ℕ) where
   -- a check that refuses leaves the bytes, one that passes hands the usage on
   module _ (out : List ℕ) where
-    pub refusal-told : {r : Rejection} → usageCheck b z (length out) ≡ rejected r → (rejected r ≡ usageAnswer b z (length out)) × (out ≡ usageMemory b z out)
+    pub usage-refused : {r : Rejection} → usageCheck b z (length out) ≡ rejected r → (rejected r ≡ usageAnswer b z (length out)) × (out ≡ usageMemory b z out)
     unfolding usageAnswer usageMemory leaves _then_ _into_
-    refusal-told e = (rw e, rw e)
+    usage-refused e = (rw e, rw e)
 
-    pub usage-told : usageCheck b z (length out) ≡ passed
+    pub usage-accepted : usageCheck b z (length out) ≡ passed
         → (usageAnswer b z (length out) ≡ (usage (treeOf b) z into λ bytes. answer (faceCount (treeOf b) z)))
         × (usageMemory b z out ≡ over out (usageBytes (faceCount (treeOf b) z) (usage (treeOf b) z)))
     unfolding usageAnswer usageMemory leaves _then_
-    usage-told e = (rw e, rw e)
+    usage-accepted e = (rw e, rw e)
 
   module _ (room : ℕ) where
     pub not-accepted : {r : Rejection} → imageCheck b ≡ rejected r → usageCheck b z room ≡ rejected r

@@ -19,8 +19,8 @@ use Rattle.ranges.specs.Tables.{holds, inRanges, meetsSection, Inserted, Placed
 use Rattle.ranges.proofs.Halving.{met}
 use Rattle.ranges.proofs.Moving.{placed-every}
 use Rattle.ranges.proofs.Gathering.{gathered-start, gathered-skip, gathered-more, gathered-room, gathered-has}
-use Rattle.faces.specs.declared.sections.Span.{Span}
-use Rattle.faces.specs.Sections.{Spans}
+use Rattle.faces.specs.declared.zone_sections.Span.{Span}
+use Rattle.faces.specs.ZoneSections.{Spans}
 use Rattle.faces.specs.Ranges.{Begins, Ranges}
 use Rattle.faces.proofs.Accepted.{count-read, face-section-is, face-ranged, faces-are, few-sections, apart, place-is, total-small}
 

@@ -36,7 +36,7 @@ pub record Left (faces : ℕ) (whole : Answer (List ℕ)) (start : List ℕ) (re
   pub beyond : drop faces bytes ≡ drop faces start
 
 module _ {faces : ℕ} {whole rest : Answer (List ℕ)} {start bytes : List ℕ} (l : Left faces whole start rest bytes) where
-  -- one step, as a stage told it
+  -- one step, as a stage run-tells it
   module _ {one : Answer (List ℕ)} (f : List ℕ → Answer (List ℕ)) {s : Stage} {after : List ℕ} (e : rest ≡ (one into f))
       (u : Used faces one bytes s after) where
     pub left-more : s ≡ Stage.Pass → length after ≡ length bytes → Left faces whole start (f after) after

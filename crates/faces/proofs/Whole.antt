@@ -125,18 +125,18 @@ module _ {b : List ℕ} (a : Accepted b) (z : ℕ) where
         nodes-behind (treeOf b) (drop F out) z (nodeCount b) 0 (replicate F 0)
         (λ s j l m o. rw (length-replicate {A = ℕ} F 0) (use-below s j (omega arith) o))
 
-    -- what is told of a usage: an answer, and the bytes that are left
-    Told : Answer ℕ → List ℕ → Answer (List ℕ) → Type 0
-    Told x last w = (x ≡ (w into λ bytes. answer F)) × (last ≡ over out (usageBytes F w))
+    -- what is run-tells of a usage: an answer, and the bytes that are left
+    UsageIs : Answer ℕ → List ℕ → Answer (List ℕ) → Type 0
+    UsageIs x last w = (x ≡ (w into λ bytes. answer F)) × (last ≡ over out (usageBytes F w))
 
     -- a run over the n cleared bytes, and its bytes cleared again
     module _ {n : ℕ} (f : n ≡ F) {first : List ℕ} {r : Stage} {after : List ℕ} (p : first ≡ replicate n 0 ++ drop n out)
         (u : Used F (run first) first r after) where
-      told : behind (drop F out) (usage (treeOf b) z) ≡ used r after
-      told = sym run-is ∙ ap run (sym (rw f at p)) ∙ u .tells
+      run-tells : behind (drop F out) (usage (treeOf b) z) ≡ used r after
+      run-tells = sym run-is ∙ ap run (sym (rw f at p)) ∙ u .tells
 
-      by-answer : (x : Answer (List ℕ)) → usage (treeOf b) z ≡ x → behind (drop F out) x ≡ answer after → Told (answer n) after x
-      unfolding Told _into_ over usageBytes
+      by-answer : (x : Answer (List ℕ)) → usage (treeOf b) z ≡ x → behind (drop F out) x ≡ answer after → UsageIs (answer n) after x
+      unfolding UsageIs _into_ over usageBytes
       by-answer (rejected q) e h = refused h
       by-answer (answer zs) e h =
           let w : zs ++ drop F out ≡ after = cc in
@@ -144,8 +144,8 @@ module _ {b : List ℕ} (a : Accepted b) (z : ℕ) where
 
       pub run-passed : r ≡ Stage.Pass
           → (answer n ≡ (usage (treeOf b) z into λ bytes. answer F)) × (after ≡ over out (usageBytes F (usage (treeOf b) z)))
-      unfolding Told
-      run-passed q = by-answer (usage (treeOf b) z) refl (told ∙ ap (λ (x : Stage). used x after) q)
+      unfolding UsageIs
+      run-passed q = by-answer (usage (treeOf b) z) refl (run-tells ∙ ap (λ (x : Stage). used x after) q)
 
       module _ {last : List ℕ} (e : last ≡ replicate n 0 ++ drop n after) where
         cleared : last ≡ over out (replicate F 0)
@@ -156,12 +156,12 @@ module _ {b : List ℕ} (a : Accepted b) (z : ℕ) where
             (u .rest ∙ ap (drop F) (rw f at p) ∙ drop-at (replicate F 0) (drop F out) F (length-replicate F 0))
             ∙ ap (λ (k : ℕ). replicate F 0 ++ drop k out) (sym (length-replicate F 0))
 
-        by-refusal : (q : Rejection) (x : Answer (List ℕ)) → behind (drop F out) x ≡ rejected q → Told (rejected q) last x
-        unfolding Told _into_ usageBytes
+        by-refusal : (q : Rejection) (x : Answer (List ℕ)) → behind (drop F out) x ≡ rejected q → UsageIs (rejected q) last x
+        unfolding UsageIs _into_ usageBytes
         by-refusal q (rejected o) h = (ap (λ (y : Rejection). rejected y) (let w : q ≡ o = cc in w), cleared)
         by-refusal q (answer zs) h = refused (sym h)
 
         pub run-refused : {q : Rejection} → r ≡ Stage.Rejected q
             → (rejected q ≡ (usage (treeOf b) z into λ bytes. answer F)) × (last ≡ over out (usageBytes F (usage (treeOf b) z)))
-        unfolding Told
-        run-refused {q} o = by-refusal q (usage (treeOf b) z) (told ∙ ap (λ (x : Stage). used x after) o)
+        unfolding UsageIs
+        run-refused {q} o = by-refusal q (usage (treeOf b) z) (run-tells ∙ ap (λ (x : Stage). used x after) o)

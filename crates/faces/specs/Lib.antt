@@ -1,4 +1,4 @@
-pub mod Sections
+pub mod ZoneSections
 pub mod Rows
 pub mod Ranges
 pub mod Uses

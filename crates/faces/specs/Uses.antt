@@ -15,7 +15,7 @@ use Rattle.model.specs.Corner.{numberAt}
 use Rattle.model.specs.FaceUsage.{facePlace, unused, usesIn}
 use Rattle.elements.specs.Arrays.{Numbers}
 use Rattle.faces.specs.declared.rows.Row.{Row}
-use Rattle.faces.specs.Sections.{Cells}
+use Rattle.faces.specs.ZoneSections.{Cells}
 
 -- the bit of a sign, and the bytes after a use of the face at place p where that bit was free or not
 abbrev pub signOf : Bool → ℕ

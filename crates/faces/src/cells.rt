@@ -5,13 +5,13 @@ ghost use Rattle.model.specs.Image.{treeOf, nodeCount};
 ghost use Rattle.model.specs.Given.{Accepted};
 ghost use Rattle.model.specs.FaceUsage.{elementHolding};
 ghost use Rattle.index.specs.Index.{Index};
-ghost use Rattle.faces.specs.Sections.{Cells};
+ghost use Rattle.faces.specs.ZoneSections.{Cells};
 ghost use Rattle.faces.specs.Uses.{References};
 use super::rows::Row;
 use super::rows::ends_after;
 use super::rows::row_of;
-use super::sections::has_type;
-use super::sections::span_of;
+use super::zone_sections::has_type;
+use super::zone_sections::span_of;
 use element_types::NFACE;
 
 // The references of node s, where it is a cell section of zone z; none where it is not.

@@ -12,7 +12,7 @@ mod cells; // cells.rt: the references of the zone's cells
 mod ledger; // ledger.rt: the bytes that are lent
 mod places; // places.rt: the zone's faces by ranges, and their places
 mod rows; // rows.rt: rows of numbers
-mod sections; // sections.rt: the sections of a zone
+mod zone_sections; // zone_sections.rt: the sections of a zone
 mod uses; // uses.rt: the references, one after the other
 mod zone; // zone.rt: a zone's usage
 

@@ -7,8 +7,8 @@ ghost use Rattle.model.specs.Given.{Accepted};
 ghost use Rattle.index.specs.Index.{Index};
 ghost use Rattle.ranges.specs.Tables.{Placed};
 ghost use Rattle.faces.specs.Ranges.{Ranges};
-use super::sections::has_type;
-use super::sections::span_of;
+use super::zone_sections::has_type;
+use super::zone_sections::span_of;
 use element_types::NGON;
 
 // Puts a section of so many faces at a place among n: its first face comes after all that there are.

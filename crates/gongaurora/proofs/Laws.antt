@@ -48,7 +48,7 @@ module _ {A : Type 0} (n : ℕ) (out : List ℕ) (a : Answer A) (words : List �
   short h = (rw (lt-leb (8 * n) (length out) h), rw (e, lt-leb (8 * n) (length out) h))
 
   -- enough: the rule of the call, and its words
-  pub long : {r : ℕ} {told left : List ℕ} → 8 * n ≤ length out → r ≡ ruleOf a → told ≡ words → left ≡ over out (allBytes 8 told)
+  pub long : {r : ℕ} {answers left : List ℕ} → 8 * n ≤ length out → r ≡ ruleOf a → answers ≡ words → left ≡ over out (allBytes 8 answers)
       → (r ≡ exportRule n out a) × (left ≡ exportBytes out words)
   unfolding exportRule exportBytes wordsFit check _then_ leaves
   long h p q s =

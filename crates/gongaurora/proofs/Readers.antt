@@ -32,18 +32,18 @@ module _ (b section : List ℕ) (element corner : ℕ) (number : List ℕ) where
   unfolding cornerExported numberBytes ruleOf _then_
   corner-short e = record { rule-is = rw e; number-is = rw e; image-kept = refl; section-kept = refl }
 
-  pub corner-told : {r : ℕ} {number′ : List ℕ} {a : Answer ℤ} → readFits 72 section number ≡ passed → a ≡ cornerAnswer b (sectionIn section) element corner
+  pub corner-long : {r : ℕ} {number′ : List ℕ} {a : Answer ℤ} → readFits 72 section number ≡ passed → a ≡ cornerAnswer b (sectionIn section) element corner
       → r ≡ ruleOf a → number′ ≡ numberBytes a number → CornerExport b section element corner number r b section number′
   unfolding cornerExported _then_
-  corner-told e q p n = record { rule-is = p ∙ rw (e, q); number-is = n ∙ rw (e, q); image-kept = refl; section-kept = refl }
+  corner-long e q p n = record { rule-is = p ∙ rw (e, q); number-is = n ∙ rw (e, q); image-kept = refl; section-kept = refl }
 
 module _ (b section : List ℕ) (element : ℕ) (out : List ℤ) (size : List ℕ) where
   pub element-short : readFits 9 section size ≡ rejected (rejection 46 0) → ElementExport b section element out size 46 b section out size
   unfolding elementExported ruleOf leaves _then_
   element-short e = record { rule-is = rw e; out-is = rw e; size-is = rw e; image-kept = refl; section-kept = refl }
 
-  pub element-told : {r : ℕ} {out′ : List ℤ} {size′ : List ℕ} {a : Answer ℕ} → readFits 9 section size ≡ passed
+  pub element-long : {r : ℕ} {out′ : List ℤ} {size′ : List ℕ} {a : Answer ℕ} → readFits 9 section size ≡ passed
       → a ≡ elementCornersAnswer b (sectionAt section 0) element (length out) → out′ ≡ elementCornersMemory b (sectionAt section 0) element out
       → r ≡ ruleOf a → size′ ≡ over size (leBytes 8 (sizeWord a)) → ElementExport b section element out size r b section out′ size′
   unfolding elementExported leaves _then_
-  element-told e q m p n = record { rule-is = p ∙ rw (e, q); out-is = m ∙ rw e; size-is = n ∙ rw (q, e); image-kept = refl; section-kept = refl }
+  element-long e q m p n = record { rule-is = p ∙ rw (e, q); out-is = m ∙ rw e; size-is = n ∙ rw (q, e); image-kept = refl; section-kept = refl }

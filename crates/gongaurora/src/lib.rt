@@ -10,14 +10,14 @@ ghost use Rattle.model.specs.Path.{pathAnswer, pathMemory};
 ghost use Rattle.model.specs.ArrayValue.{valueAnswer};
 ghost use Rattle.model.specs.DataSize.{dataSizeAnswer};
 ghost use Rattle.model.specs.Exports.{validationWords, countWords, usageWords, valueWords, sizeWords, exportRule, exportBytes, exportMemory, CornerExport, ElementExport};
-use answers::count_told;
+use answers::count_answer;
 use answers::put_answer;
 use answers::put_corner;
 use answers::put_size;
-use answers::size_told;
-use answers::usage_told;
-use answers::validation_told;
-use answers::value_told;
+use answers::size_answer;
+use answers::usage_answer;
+use answers::validation_answer;
+use answers::value_answer;
 
 // How many bytes each answer has.
 const VALIDATION_BYTES: usize = 40;
@@ -41,7 +41,7 @@ pub extern "C" fn gongaurora_export_validate(image: &[u8], answer: &mut [u8]) ->
     if answer.len() < VALIDATION_BYTES {
         return 46; // no verdict is made
     }
-    put_answer(answer, validation_told(validation::validate(image)), 5)
+    put_answer(answer, validation_answer(validation::validate(image)), 5)
 }
 
 // The number at an element's corner, of the 72 bytes of a section entry: 8 bytes in front of `number` where the rule is 0; else they stay as they were.
@@ -109,7 +109,7 @@ pub extern "C" fn gongaurora_export_sections(
     }
     put_answer(
         answer,
-        count_told(sections::section_entries(image, zone, out)),
+        count_answer(sections::section_entries(image, zone, out)),
         2,
     )
 }
@@ -129,7 +129,7 @@ pub extern "C" fn gongaurora_export_face_usage(
     if answer.len() < USAGE_BYTES {
         return 46;
     }
-    put_answer(answer, usage_told(faces::face_usage(image, zone, out)), 3)
+    put_answer(answer, usage_answer(faces::face_usage(image, zone, out)), 3)
 }
 
 // The path of a node in front of `out`. The answer, two words: node, length.
@@ -147,7 +147,7 @@ pub extern "C" fn gongaurora_export_path(
     if answer.len() < PATH_BYTES {
         return 46;
     }
-    put_answer(answer, count_told(paths::path(image, node, out)), 2)
+    put_answer(answer, count_answer(paths::path(image, node, out)), 2)
 }
 
 // Value k of a node's array, counted from 1. The answer, three words: node, kind (1 whole, 2 single, 3 double), bits (a whole number's at 64 bits).
@@ -164,7 +164,11 @@ pub extern "C" fn gongaurora_export_array_value(
     if answer.len() < VALUE_BYTES {
         return 46;
     }
-    put_answer(answer, value_told(values::array_value(image, node, k)), 3)
+    put_answer(
+        answer,
+        value_answer(array_values::array_value(image, node, k)),
+        3,
+    )
 }
 
 // The DataSize of an array. The answer, five words: node, directions, and the size in i, j and k, 0 where the zone lacks the direction.
@@ -176,5 +180,5 @@ pub extern "C" fn gongaurora_export_data_size(image: &[u8], node: u64, answer: &
     if answer.len() < SIZE_BYTES {
         return 46;
     }
-    put_answer(answer, size_told(validation::data_size(image, node)), 5)
+    put_answer(answer, size_answer(validation::data_size(image, node)), 5)
 }

@@ -1,5 +1,5 @@
 pub mod Fields
 pub mod Tables
 pub mod Known
-pub mod Kin
+pub mod Nodes
 pub mod Grid

@@ -21,7 +21,7 @@ use Rattle.model.specs.Answers.{cornerTells}
 use Rattle.model.specs.Reads.{readAnswer, ReadMade, IsRead}
 use Rattle.model.specs.Demand3.{sectionCount, sectionNode, given, InSection, sizeIn, SizeExact, IsCornerOf, storedAt, NodeNumber, FaceNumber, ReadAnswers, ReadHolds, Listed, Claim3, Demand3, EntriesGiven}
 use Rattle.model.proofs.Logic.{inside-or-not}
-use Rattle.model.proofs.Told.{Told, outside, lacking, stored, told-41, told-rule, told-no-other, told-value, told-stored}
+use Rattle.model.proofs.ReaderCases.{ReaderCase, outside, lacking, stored, case-41, case-rule, case-no-other, case-value, case-stored}
 use Rattle.model.proofs.Passed.{check-pass, then-first, then-second, gives-check, gives-value}
 use Rattle.model.proofs.Runs.{read-leaves, run-exists, run-kept, ReadKept, all-of}
 use Rattle.model.proofs.ZoneEntries.{nodes-counted, section-at, section-listed, listed-once, read-is, one-for-each}
@@ -32,12 +32,12 @@ use Rattle.model.proofs.NoneNegative.{not-one-negative}
 use Rattle.model.proofs.References.{one-section, HasFace, face-inside, node-inside, node-signed, face-signed}
 
 -- what the reader tells at the zone's k-th section
-abbrev pub CornerTold : Tree → ℕ → ℕ → ℕ → ℕ → Answer ℤ → Type 0
-CornerTold t z k el c a = Told (InSection t z k el) (IsCornerOf t z k el c) (IsCornerOf t z k el c → ⊥) 42 (storedAt t z k el c) a
+abbrev pub CornerCase : Tree → ℕ → ℕ → ℕ → ℕ → Answer ℤ → Type 0
+CornerCase t z k el c a = ReaderCase (InSection t z k el) (IsCornerOf t z k el c) (IsCornerOf t z k el c → ⊥) 42 (storedAt t z k el c) a
 
-told : {b : List ℕ} {z : ℕ} (k : ℕ) → InZone b z (sectionNode (treeOf b) z k) → (el c : ℕ)
-    → CornerTold (treeOf b) z k el c (cornerAnswer b (entry (treeOf b) (sectionNode (treeOf b) z k)) el c)
-told {b} {z} k a el c =
+corner-cases : {b : List ℕ} {z : ℕ} (k : ℕ) → InZone b z (sectionNode (treeOf b) z k) → (el c : ℕ)
+    → CornerCase (treeOf b) z k el c (cornerAnswer b (entry (treeOf b) (sectionNode (treeOf b) z k)) el c)
+corner-cases {b} {z} k a el c =
     ⊎-elim
     (λ i.
     ⊎-elim (λ j. stored i j (answer-stored a el c (i .0) (i .1) (j .0) (j .1))) (λ n. lacking i n (answer-42 a el c (i .0) (i .1) n))
@@ -52,17 +52,17 @@ module _ (b : List ℕ) (ok : imageCheck b ≡ passed) (z : ℕ) (rest : List �
       let w = section-at (treeOf b) z k h in
       record { accepted = ok; listed = omega (arith, w .to); is-section = w .holds }
 
-  pub read-told : (k el c : ℕ) → k < sectionCount (treeOf b) z → (a : Answer ℤ) → a ≡ readAnswer b (given b z rest .entries) k el c → CornerTold (treeOf b) z k el c a
-  read-told k el c h a e = rw (e, read-is b z rest k h el c) (told k (in-zone k h) el c)
+  pub read-case : (k el c : ℕ) → k < sectionCount (treeOf b) z → (a : Answer ℤ) → a ≡ readAnswer b (given b z rest .entries) k el c → CornerCase (treeOf b) z k el c a
+  read-case k el c h a e = rw (e, read-is b z rest k h el c) (corner-cases k (in-zone k h) el c)
 
-  step-told : (m : ReadMade) → IsRead m → m .found ≡ given b z rest → Listed b z rest (m .asked)
-      → CornerTold (treeOf b) z (m .asked .which) (m .asked .element) (m .asked .corner) (cornerTells (m .answered))
-  step-told m r e h = read-told (m .asked .which) (m .asked .element) (m .asked .corner) h (cornerTells (m .answered)) (rw e at (r .answers))
+  step-case : (m : ReadMade) → IsRead m → m .found ≡ given b z rest → Listed b z rest (m .asked)
+      → CornerCase (treeOf b) z (m .asked .which) (m .asked .element) (m .asked .corner) (cornerTells (m .answered))
+  step-case m r e h = read-case (m .asked .which) (m .asked .element) (m .asked .corner) h (cornerTells (m .answered)) (rw e at (r .answers))
 
   corner-read : (k f c : ℕ) → k < sectionCount (treeOf b) z → InSection (treeOf b) z k f → IsCornerOf (treeOf b) z k f c
       → (m : ReadMade) → IsRead m → m .found ≡ given b z rest → m .asked ≡ record { which = k; element = f; corner = c }
       → (m .left ≡ given b z rest) × (cornerTells (m .answered) ≡ answer (storedAt (treeOf b) z k f c))
-  corner-read k f c h i j m r e q = (read-leaves m r ∙ e, told-value (λ j n. n j) (rw q at (step-told m r e (rw q h))) i j)
+  corner-read k f c h i j m r e q = (read-leaves m r ∙ e, case-value (λ j n. n j) (rw q at (step-case m r e (rw q h))) i j)
 
   size-exact : (k el : ℕ) → k < sectionCount (treeOf b) z → InSection (treeOf b) z k el → SizeExact (treeOf b) z k el
   unfolding elementSize
@@ -111,16 +111,16 @@ module _ (b : List ℕ) (ok : imageCheck b ≡ passed) (z : ℕ) (rest : List �
     face-read y i j = rw (face-signed (in-zone k h) y _ (place-inside i j)) (face _ (face-inside (in-zone k h) y _ (place-inside i j)))
 
   pub read-answers : isZone (treeOf b) z ≡ true → (k el c : ℕ) → k < sectionCount (treeOf b) z → (r : Corner)
-      → CornerTold (treeOf b) z k el c (cornerTells r) → ReadAnswers b z rest k el c r
+      → CornerCase (treeOf b) z k el c (cornerTells r) → ReadAnswers b z rest k el c r
   unfolding s
   read-answers zone k el c h r d =
       record {
-        meets-41 = told-41 (λ q. omega arith) d;
-        meets-42 = told-rule (λ q. omega arith) (λ j n. n j) d;
-        never-43 = told-no-other 43 (λ q. omega arith) (λ q. omega arith) d;
-        number-stored = told-value (λ j n. n j) d;
-        node-number = λ y n e. let w = told-stored d n e in rw (w .2) (node-read k el c h zone y (w .0) (w .1));
-        face-number = λ y n e. let w = told-stored d n e in rw (w .2) (face-read k el c h y (w .0) (w .1));
+        meets-41 = case-41 (λ q. omega arith) d;
+        meets-42 = case-rule (λ q. omega arith) (λ j n. n j) d;
+        never-43 = case-no-other 43 (λ q. omega arith) (λ q. omega arith) d;
+        number-stored = case-value (λ j n. n j) d;
+        node-number = λ y n e. let w = case-stored d n e in rw (w .2) (node-read k el c h zone y (w .0) (w .1));
+        face-number = λ y n e. let w = case-stored d n e in rw (w .2) (face-read k el c h y (w .0) (w .1));
       }
 
   read-holds : isZone (treeOf b) z ≡ true → (m : ReadMade) → ReadKept (given b z rest) (Listed b z rest) m → ReadHolds b z rest m
@@ -130,7 +130,7 @@ module _ (b : List ℕ) (ok : imageCheck b ≡ passed) (z : ℕ) (rest : List �
         leaves-given = w .leaves;
         read-answers =
             read-answers zone (m .asked .which) (m .asked .element) (m .asked .corner) (w .listed) (m .answered)
-            (step-told m (w .is-read) (w .finds) (w .listed));
+            (step-case m (w .is-read) (w .finds) (w .listed));
       }
 
 -- of an image that all checks pass

@@ -44,8 +44,8 @@ use Rattle.model.proofs.InZone.{range, connectivity, span}
 use Rattle.model.proofs.References.{vertex-size-small}
 use Rattle.model.proofs.Corners.{element-inside, element-41, element-answer}
 use Rattle.model.proofs.ElementCorners.{by-corner-reads, behind-kept, refused-kept}
-use Rattle.model.proofs.Told.{Told, outside, lacking, stored, told-41, told-rule, told-no-other, told-value, told-stored}
-use Rattle.model.proofs.Demand3.{in-zone, read-told, read-answers, claim3, demand3, entries-given}
+use Rattle.model.proofs.ReaderCases.{ReaderCase, outside, lacking, stored, case-41, case-rule, case-no-other, case-value, case-stored}
+use Rattle.model.proofs.Demand3.{in-zone, read-case, read-answers, claim3, demand3, entries-given}
 
 -- the structs that the section call left
 pub structs-given : (b : List ℕ) (z : ℕ) (out : List Section) {n : ℕ} → sectionsAnswer b z (length out) ≡ answer n → StructsGiven b z out n
@@ -65,13 +65,13 @@ structs-given b z out e =
 
 -- all corners of an element, with the entry of the zone's k-th section
 module _ (b : List ℕ) (ok : imageCheck b ≡ passed) (z : ℕ) (rest : List ℕ) (k : ℕ) (h : k < sectionCount (treeOf b) z) (element : ℕ) where
-  ElementTold : ℕ → Answer ℕ → Type 0
-  ElementTold room a =
-      Told (InSection (treeOf b) z k element) (sizeIn (treeOf b) z k element ≤ room) (room < sizeIn (treeOf b) z k element) 46 (sizeIn (treeOf b) z k element) a
+  ElementCase : ℕ → Answer ℕ → Type 0
+  ElementCase room a =
+      ReaderCase (InSection (treeOf b) z k element) (sizeIn (treeOf b) z k element ≤ room) (room < sizeIn (treeOf b) z k element) 46 (sizeIn (treeOf b) z k element) a
 
-  element-told : (room : ℕ) → ElementTold room (elementCornersAnswer b (sectionAt (given b z rest .entries) k) element room)
-  unfolding ElementTold check _gives_ _then_
-  element-told room =
+  element-case : (room : ℕ) → ElementCase room (elementCornersAnswer b (sectionAt (given b z rest .entries) k) element room)
+  unfolding ElementCase check _gives_ _then_
+  element-case room =
       let a = in-zone b ok z rest k h in
       let t = treeOf b in
       rw (entry-is b z rest k h)
@@ -83,27 +83,27 @@ module _ (b : List ℕ) (ok : imageCheck b ≡ passed) (z : ℕ) (rest : List �
       by-room : InSection (treeOf b) z k element
           → elementCornersAnswer b (entry (treeOf b) (sectionNode (treeOf b) z k)) element room
           ≡ (check 0 (46 unless leb (sizeIn (treeOf b) z k element) room ∷ []) gives sizeIn (treeOf b) z k element)
-          → (u : Bool) → leb (sizeIn (treeOf b) z k element) room ≡ u → ElementTold room (elementCornersAnswer b (entry (treeOf b) (sectionNode (treeOf b) z k)) element room)
+          → (u : Bool) → leb (sizeIn (treeOf b) z k element) room ≡ u → ElementCase room (elementCornersAnswer b (entry (treeOf b) (sectionNode (treeOf b) z k)) element room)
       by-room i e true q = stored i (leb-true _ _ q) (e ∙ rw q)
       by-room i e false q = lacking i (leb-false _ _ q) (e ∙ rw q)
 
   pub element-answers : (a : Answer ℕ) (out out′ : List ℤ) → a ≡ elementCornersAnswer b (sectionAt (given b z rest .entries) k) element (length out)
       → out′ ≡ elementCornersMemory b (sectionAt (given b z rest .entries) k) element out → ElementAnswers b z rest k element a out out′
-  unfolding ElementTold
+  unfolding ElementCase
   element-answers a out out′ e m =
       let e₀ = sectionAt (given b z rest .entries) k in
-      let d : ElementTold (length out) a = rw e (element-told (length out)) in
+      let d : ElementCase (length out) a = rw e (element-case (length out)) in
       let not-both : sizeIn (treeOf b) z k element ≤ length out → length out < sizeIn (treeOf b) z k element → ⊥ = λ x y. omega arith in
       record {
-        meets-41 = told-41 (λ q. omega arith) d;
-        meets-46 = told-rule (λ q. omega arith) not-both d;
-        never-43 = told-no-other 43 (λ q. omega arith) (λ q. omega arith) d;
+        meets-41 = case-41 (λ q. omega arith) d;
+        meets-46 = case-rule (λ q. omega arith) not-both d;
+        never-43 = case-no-other 43 (λ q. omega arith) (λ q. omega arith) d;
         refused-kept = λ why q. m ∙ refused-kept b e₀ element out why (sym e ∙ q);
-        size-answered = told-value not-both d;
+        size-answered = case-value not-both d;
         numbers-stored = λ n q c j.
-            let w = told-stored d n q in
+            let w = case-stored d n q in
             let r = by-corner-reads b e₀ element out n c (sym e ∙ q) (j .0) (omega (arith, j .1, w .2)) in
-            let s = told-value (λ p f. f p) (read-told b ok z rest k element c h _ refl) (w .0) j in
+            let s = case-value (λ p f. f p) (read-case b ok z rest k element c h _ refl) (w .0) j in
             let g = sym (read-listed b (given b z rest .entries) k element c (entry-listed b z rest k h)) ∙ s in
             (rw m (same-answer (sym r ∙ g)), rw m r);
         rest-kept = λ n q. rw m (behind-kept b e₀ element out n (sym e ∙ q));
@@ -133,7 +133,7 @@ unfolding readFits check
 read-fits n section out c h = rw (le-leb n (length section) c, le-leb 8 (length out) h)
 
 -- an answer is taken back from its rule and from its number's bytes
-taken-back : {In Fits Lacks : Type 0} {v : ℤ} (a : Answer ℤ) (number : List ℕ) → Told In Fits Lacks 42 v a → ((n : ℤ) → a ≡ answer n → natAbs n < 2 ^ 63)
+taken-back : {In Fits Lacks : Type 0} {v : ℤ} (a : Answer ℤ) (number : List ℕ) → ReaderCase In Fits Lacks 42 v a → ((n : ℤ) → a ≡ answer n → natAbs n < 2 ^ 63)
     → cornerTells (cornerFrom (ruleOf a) (signed 8 (le 8 (numberBytes a number)))) ≡ a
 unfolding ruleOf numberBytes over
 taken-back a number (outside _ e) s = rw e refl
@@ -146,7 +146,7 @@ module _ (b : List ℕ) (c : Counts) (acc : validation b ≡ answer c) (z : ℕ)
   small : (k element corner : ℕ) → k < sectionCount (treeOf b) z → (n : ℤ) → readAnswer b (given b z rest .entries) k element corner ≡ answer n → natAbs n ≤ 2147483647
   small k element corner h n e =
       let ok = accepted b acc in
-      let r = read-answers b ok z rest zone k element corner h (Corner.Number n) (read-told b ok z rest k element corner h (answer n) (sym e)) in
+      let r = read-answers b ok z rest zone k element corner h (Corner.Number n) (read-case b ok z rest k element corner h (answer n) (sym e)) in
       elim (ℕ-discrete (elementType (treeOf b) (sectionNode (treeOf b) z k)) NFACE) [
         | yes q ↦ (let f = r .face-number q n refl in omega (arith, f .in-range, range (in-zone b ok z rest (f .which) (f .listed))))
         | no q ↦ (let g = r .node-number q n refl in rw (g .number-is) (omega (arith, g .to-vertex-size, vertex-size-small (in-zone b ok z rest k h) zone)))
@@ -164,7 +164,7 @@ module _ (b : List ℕ) (c : Counts) (acc : validation b ≡ answer c) (z : ℕ)
       rw (read-fits 72 (m .section) (m .number) (i .copied .whole) (i .room), section-copied (i .copied), f) (sym (read-listed b (given b z rest .entries) (q .which) (q .element) (q .corner) (entry-listed b z rest (q .which) h))) in
       record {
         answers = rw (w .rule-is, w .number-is, e, f)
-            (taken-back a (m .number) (read-told b ok z rest (q .which) (q .element) (q .corner) h a refl)
+            (taken-back a (m .number) (read-case b ok z rest (q .which) (q .element) (q .corner) h a refl)
             (λ n p. omega (arith, small (q .which) (q .element) (q .corner) h n p)));
         image-kept = w .image-kept;
         entries-kept = i .entries-kept;
@@ -184,11 +184,11 @@ module _ (b : List ℕ) (c : Counts) (acc : validation b ≡ answer c) (z : ℕ)
       first-of (all-more x none) = x
 
   size-few : (k element room : ℕ) → k < sectionCount (treeOf b) z → (n : ℕ) → elementCornersAnswer b (sectionAt (given b z rest .entries) k) element room ≡ answer n → n ≤ 16777216
-  unfolding ElementTold elementSize connectivityLength
+  unfolding ElementCase elementSize connectivityLength
   size-few k element room h n q =
       let ok = accepted b acc in
       let a = in-zone b ok z rest k h in
-      let w = told-stored (element-told b ok z rest k h element room) n q in
+      let w = case-stored (element-case b ok z rest k h element room) n q in
       let s = span a _ (element-inside a element (w .0 .0) (w .0 .1)) in
       omega (arith, w .2, s .ends-inside, indices-few b (table-passed b ok) _ (connectivity a))
 
@@ -218,9 +218,9 @@ sections-few b z room n e =
     table-laid b (table-passed b (then-first (imageCheck b) _ (gives-check (sectionsCheck b z room) _ e))) .few
 
 -- what the export of a zone's sections left, where its rule is 0
-module _ (b : List ℕ) (z : ℕ) (out told : List ℕ) where
-  by-count : (n : ℕ) → wordsFit 2 told ≡ passed → sectionsAnswer b z (length out / 9) ≡ answer n
-      → SectionsGiven b z out (exportMemory 2 told out (sectionNumbersMemory b z out)) (exportBytes told (countWords (sectionsAnswer b z (length out / 9))))
+module _ (b : List ℕ) (z : ℕ) (out lent : List ℕ) where
+  by-count : (n : ℕ) → wordsFit 2 lent ≡ passed → sectionsAnswer b z (length out / 9) ≡ answer n
+      → SectionsGiven b z out (exportMemory 2 lent out (sectionNumbersMemory b z out)) (exportBytes lent (countWords (sectionsAnswer b z (length out / 9))))
   unfolding exportBytes exportMemory countWords leaves over treeOf
   by-count n fits counted =
       let g = entries-given b z out counted in
@@ -232,12 +232,12 @@ module _ (b : List ℕ) (z : ℕ) (out told : List ℕ) where
         claim = rw numbers at (g .claim);
       }
 
-  pub sections-given : (r : ℕ) (out′ told′ : List ℕ) → r ≡ exportRule 2 told (sectionsAnswer b z (length out / 9))
-      → told′ ≡ exportBytes told (countWords (sectionsAnswer b z (length out / 9))) → out′ ≡ exportMemory 2 told out (sectionNumbersMemory b z out)
-      → r ≡ 0 → SectionsGiven b z out out′ told′
+  pub sections-given : (r : ℕ) (out′ lent′ : List ℕ) → r ≡ exportRule 2 lent (sectionsAnswer b z (length out / 9))
+      → lent′ ≡ exportBytes lent (countWords (sectionsAnswer b z (length out / 9))) → out′ ≡ exportMemory 2 lent out (sectionNumbersMemory b z out)
+      → r ≡ 0 → SectionsGiven b z out out′ lent′
   unfolding exportRule wordsFit fromOne
-  sections-given r out′ told′ rule bytes memory zero =
+  sections-given r out′ lent′ rule bytes memory zero =
       let s = sectionsAnswer b z (length out / 9) in
-      let fit = wordsFit 2 told in
+      let fit = wordsFit 2 lent in
       let a = answered (fit then s) (of-then fit s (of-check 0 _ refl) (all-numbered b .of-sections z (length out / 9))) (sym rule ∙ zero) in
       rw (bytes, memory) (by-count (a .0) (then-first fit s (a .1)) (then-second fit s (a .1)))

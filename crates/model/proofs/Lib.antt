@@ -23,7 +23,7 @@ pub mod Overlays
 pub mod Written
 pub mod ElementCorners
 pub mod Numbered
-pub mod Told
+pub mod ReaderCases
 pub mod Demand3
 pub mod Demand3Calls
 pub mod Staging

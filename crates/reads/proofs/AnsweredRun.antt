@@ -21,20 +21,20 @@ use Rattle.model.proofs.Demand3.{demand3}
 use Rattle.model.proofs.Written.{written-at}
 
 -- the two numbers tell the answer
-Told : Answer ℤ → Type 0
-Told a = cornerTells (cornerFrom (ruleOf a) (numberOf a)) ≡ a
+Recovered : Answer ℤ → Type 0
+Recovered a = cornerTells (cornerFrom (ruleOf a) (numberOf a)) ≡ a
 
-told : (t u v w : Bool) (n : ℤ) → Told (check 0 (40 unless t ∷ []) then (check 0 (41 unless u ∷ 43 unless v ∷ 42 unless w ∷ []) gives n))
-unfolding Told ruleOf numberOf check _then_ _gives_
-told false u v w n = refl
-told true false v w n = refl
-told true true false w n = refl
-told true true true false n = refl
-told true true true true n = refl
+recovered : (t u v w : Bool) (n : ℤ) → Recovered (check 0 (40 unless t ∷ []) then (check 0 (41 unless u ∷ 43 unless v ∷ 42 unless w ∷ []) gives n))
+unfolding Recovered ruleOf numberOf check _then_ _gives_
+recovered false u v w n = refl
+recovered true false v w n = refl
+recovered true true false w n = refl
+recovered true true true false n = refl
+recovered true true true true n = refl
 
-answer-told : (image entries reads : List ℕ) (i : ℕ) → Told (answerAt image entries reads i)
+answer-recovered : (image entries reads : List ℕ) (i : ℕ) → Recovered (answerAt image entries reads i)
 unfolding answerAt readAnswer cornerAnswer cornerCheck
-answer-told image entries reads i = told _ _ _ _ _
+answer-recovered image entries reads i = recovered _ _ _ _ _
 
 -- reads that were made one after the other in a state that stays are a run
 run-of : (s : ReadState) (reads : List ℕ) (numbers : List ℤ) (rules : List ℕ) (k i : ℕ)
@@ -48,14 +48,14 @@ run-of s reads numbers rules (suc k) i each =
 module _ {image entries reads : List ℕ} {numbers : List ℤ} {rules : List ℕ} {image′ entries′ : List ℕ} {numbers′ : List ℤ} {rules′ : List ℕ}
     {n : ℕ} (a : ReadsAnswered image entries reads numbers rules (Count.Of n) image′ entries′ numbers′ rules′) where
   written : (i : ℕ) → i < requestsIn reads → IsRead (madeAt (record { image = image; entries = entries }) reads numbers′ rules′ i)
-  unfolding Told answerAt leaves
+  unfolding Recovered answerAt leaves
   written i h =
       let yes = gives-check (readsCheck reads (length numbers) (length rules)) (requestsIn reads) (sym (a .answers)) in
       let r : getD rules′ i 0 ≡ ruleOf (answerAt image entries reads i) =
       rw (a .rules-are, yes) (written-at (λ j. ruleOf (answerAt image entries reads j)) rules 0 (requestsIn reads) i h) in
       let n : getD numbers′ i (pos 0) ≡ numberOf (answerAt image entries reads i) =
       rw (a .numbers-are, yes) (written-at (λ j. numberOf (answerAt image entries reads j)) numbers (pos 0) (requestsIn reads) i h) in
-      record { answers = rw (r, n) (answer-told image entries reads i); image-kept = refl; entries-kept = refl }
+      record { answers = rw (r, n) (answer-recovered image entries reads i); image-kept = refl; entries-kept = refl }
 
   -- from the state that the runner found to the state that it left
   pub answered-run : ReadRun (record { image = image; entries = entries }) (requestsOf reads)

@@ -3,4 +3,4 @@ pub mod After
 pub mod Parts
 pub mod Filling
 pub mod Room
-pub mod Told
+pub mod Answered

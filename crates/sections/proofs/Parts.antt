@@ -24,8 +24,8 @@ use Rattle.model.proofs.InZone.{InZone, parts, role-is, range-found, connectivi
 use Rattle.model.proofs.LookedUp.{child-conforms}
 use Rattle.index.specs.Index.{kind}
 use Rattle.index.proofs.Marking.{kind-role}
-use Rattle.types.specs.Given.{Has}
-use Rattle.types.proofs.Held.{rank-is, whole-wide, whole-four, has-pair, has-less}
+use Rattle.types.specs.Given.{HasNumber}
+use Rattle.types.proofs.StoredNumbers.{rank-is, whole-wide, whole-four, has-pair, has-less}
 use Rattle.sections.specs.After.{AcceptedSection}
 
 -- past the last node is a node of nothing: it has no place and no width
@@ -90,7 +90,7 @@ module _ {b : List ℕ} {s : ℕ} (a : AcceptedSection b s) where
   connectivity-child = array-child (text "ElementConnectivity")
 
   -- the section's own two numbers
-  pub own-has : Has b s 0
+  pub own-has : HasNumber b s 0
   unfolding sidsRules typeLawful row
   own-has =
       let r : (typed (treeOf b) s (I4 ∷ []) && shaped (treeOf b) s (2 ∷ [])) ≡ true = rw (role-is in-zone) at (sids-rule b (a .accepted .image) 24 s (a .inside) (parts in-zone .is-validated)) in
@@ -99,7 +99,7 @@ module _ {b : List ℕ} {s : ℕ} (a : AcceptedSection b s) where
       (omega arith)
 
   -- the two numbers of its range
-  pub range-has : Has b (rangeOf (treeOf b) s) 1
+  pub range-has : HasNumber b (rangeOf (treeOf b) s) 1
   unfolding typeLawful row rangeOf treeOf
   range-has =
       let j = conforming (treeOf b) s IndexRange (text "ElementRange") in
@@ -124,10 +124,10 @@ module _ {b : List ℕ} {s : ℕ} (a : AcceptedSection b s) where
 
   -- the same, of the nodes that the look-ups answered
   module _ {r : ℕ} (e : r ≡ child (treeOf b) s IndexRange (text "ElementRange")) where
-    pub last-has : Has b r 1
+    pub last-has : HasNumber b r 1
     last-has = rw (e ∙ sym range-child) range-has
 
-    pub first-has : Has b r 0
+    pub first-has : HasNumber b r 0
     first-has = has-less b r 1 0 last-has (omega arith)
 
   module _ {c : ℕ} (e : c ≡ child (treeOf b) s DataArray (text "ElementConnectivity")) where

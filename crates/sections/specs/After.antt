@@ -38,7 +38,7 @@ abbrev pub firstEntries : Tree → ℕ → ℕ → List Section
 firstEntries t z n = entries t (take n (sectionNodes t z))
 
 -- n entries of the zone are to be written, in a list of room places
-pub record Told (b index : List ℕ) (z room n : ℕ) : Type 0 where
+pub record EntriesDue (b index : List ℕ) (z room n : ℕ) : Type 0 where
   pub few : n ≤ room
   pub index-where : 0 < n → Index b index
   pub accepted-where : 0 < n → Accepted b
@@ -50,6 +50,6 @@ unfoldable pub zoneCheck : Tree → ℕ → ℕ → Check
 zoneCheck t z room = check 0 (40 unless isZone t z ∷ 46 unless leb (length (sectionNodes t z)) room ∷ [])
 
 -- how many entries an answer says are written: none where it is a refusal
-abbrev pub entriesTold : Count → ℕ
-entriesTold (Count.Of n) = n
-entriesTold (Count.Rejected r) = 0
+abbrev pub answeredCount : Count → ℕ
+answeredCount (Count.Of n) = n
+answeredCount (Count.Rejected r) = 0

@@ -8,7 +8,7 @@ ghost use Rattle.model.specs.Sections.{sectionNodes, sectionsAnswer};
 ghost use Rattle.model.specs.Answers.{countTells, stageTells};
 ghost use Rattle.model.specs.Validation.{imageCheck};
 ghost use Rattle.index.specs.Index.{Index};
-ghost use Rattle.sections.specs.After.{zoneCheck, entriesTold};
+ghost use Rattle.sections.specs.After.{zoneCheck, answeredCount};
 use super::zones::section_count;
 use model::Count;
 use model::Rejection;
@@ -52,8 +52,8 @@ pub fn sections_answer(image: &[u8], index: &mut [u16], zone: u64, room: usize) 
 }
 
 // How many entries an answer says are written; 0 where it is a rejection.
-pub fn entries_told(answer: Count) -> usize
-    ensures { λ r. ⌜ r ≡ entriesTold answer ⌝ }
+pub fn answered_count(answer: Count) -> usize
+    ensures { λ r. ⌜ r ≡ answeredCount answer ⌝ }
 {
     match answer {
         Count::Of(n) => n as usize,

@@ -5,8 +5,8 @@ ghost use Rattle.model.specs.Lists.{over};
 ghost use Rattle.model.specs.Image.{treeOf};
 ghost use Rattle.model.specs.Answers.{countTells};
 ghost use Rattle.model.specs.Sections.{sectionsAnswer, sectionsMemory};
-ghost use Rattle.sections.specs.After.{firstEntries, Told};
-use super::answers::entries_told;
+ghost use Rattle.sections.specs.After.{firstEntries, EntriesDue};
+use super::answers::answered_count;
 use super::answers::sections_answer;
 use super::zones::entry_after;
 use model::Count;
@@ -14,7 +14,7 @@ use model::Section;
 
 // Writes the first n entries of the zone's sections to the front of `out`, in node order; the rest stays.
 fn fill_list(out: &mut [Section], image: &[u8], index: &[u16], zone: u64, n: usize)
-    requires { ⌜ Told (now image) (now index) zone (length (now out)) n ⌝ }
+    requires { ⌜ EntriesDue (now image) (now index) zone (length (now out)) n ⌝ }
     ensures { λ _. ⌜ now (out .exit) ≡ over (now (out .entry)) (firstEntries (treeOf (now (image .entry))) zone n) ⌝ }
 {
     let mut at = zone;
@@ -34,6 +34,6 @@ pub fn list_sections(out: &mut [Section], image: &[u8], zone: u64) -> Count
 {
     let mut index: [u16; 16384] = [0; 16384];
     let answer = sections_answer(image, &mut index, zone, out.len());
-    fill_list(out, image, &index, zone, entries_told(answer));
+    fill_list(out, image, &index, zone, answered_count(answer));
     answer
 }

@@ -53,7 +53,7 @@ fn fill(image: &[u8], index: &[u16], zone: u64, n: usize, out: &mut [u64])
 }
 
 // Writes the entries that an answer tells of; a rejection leaves `out` as it was.
-fn write_told(answer: Count, image: &[u8], index: &[u16], zone: u64, out: &mut [u64])
+fn write_entries(answer: Count, image: &[u8], index: &[u16], zone: u64, out: &mut [u64])
     requires { ⌜ countTells answer ≡ sectionsAnswer (now image) zone (length (now out) / 9) ⌝ }
     requires { ⌜ (imageCheck (now image) ≡ passed → Index (now image) (now index)) ⌝ }
     ensures { λ _. ⌜ now (out .exit) ≡ sectionNumbersMemory (now (image .entry)) zone (now (out .entry)) ⌝ }
@@ -71,6 +71,6 @@ pub fn section_entries(image: &[u8], zone: u64, out: &mut [u64]) -> Count
 {
     let mut index: [u16; 16384] = [0; 16384];
     let answer = sections_answer(image, &mut index, zone, out.len() / ENTRY_LENGTH);
-    write_told(answer, image, &index, zone, out);
+    write_entries(answer, image, &index, zone, out);
     answer
 }

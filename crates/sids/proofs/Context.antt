@@ -24,9 +24,9 @@ use Rattle.model.proofs.Sections.{not-root}
 use Rattle.model.proofs.Above.{validated-above, earlier-rule, held-by}
 use Rattle.index.specs.Index.{kind}
 use Rattle.index.proofs.Marking.{kind-role}
-use Rattle.types.specs.Given.{Based, Ready}
-use Rattle.types.proofs.Held.{or-none}
-use Rattle.sids.specs.Given.{Shaped, Held, Sized}
+use Rattle.types.specs.Given.{ZoneInBase, NodeContext}
+use Rattle.types.proofs.StoredNumbers.{or-none}
+use Rattle.sids.specs.Given.{TypedZone, UnderZone, Sized}
 use Rattle.sids.specs.Groups.{placeRules, contentRules, sizeRules}
 
 -- a list of one; what may hold a zone; what holds the three kinds of nodes under a zone
@@ -96,7 +96,7 @@ module _ (b : List ℕ) (i : ℕ) (g : NodesTo b i) where
         holds = placed-held t j n (p .place);
       }
 
-  based : (j : ℕ) → Placed j → role (treeOf b) j ≡ Zone → Based b j
+  based : (j : ℕ) → Placed j → role (treeOf b) j ≡ Zone → ZoneInBase b j
   based j p e =
       let a = above j p (not-root (treeOf b) j Zone e (λ (z : _≡_ {A = ℕ} 3 14). absurd (omega arith))) in
       record {
@@ -109,7 +109,7 @@ module _ (b : List ℕ) (i : ℕ) (g : NodesTo b i) where
       }
 
   -- one of those three kinds stands under a zone that meets 24 and 25
-  held : (j : ℕ) → Placed j → among (role (treeOf b) j) (GridCoordinates ∷ FlowSolution ∷ Elements ∷ []) ≡ true → Held b j
+  held : (j : ℕ) → Placed j → among (role (treeOf b) j) (GridCoordinates ∷ FlowSolution ∷ Elements ∷ []) ≡ true → UnderZone b j
   held j p k =
       let t = treeOf b in
       let a = above j p (no-root t j (role t j) k refl) in
@@ -120,7 +120,7 @@ module _ (b : List ℕ) (i : ℕ) (g : NodesTo b i) where
     here : Placed i
     here = record { upto = omega arith; is-validated = v; place = q }
 
-    pub ready : Ready b i
+    pub ready : NodeContext b i
     unfolding zoneAbove
     ready =
         record {
@@ -130,19 +130,19 @@ module _ (b : List ℕ) (i : ℕ) (g : NodesTo b i) where
           rind = λ e. rind-based e;
         }
       where
-        rind-based : role (treeOf b) i ≡ Rind → Based b (parent (treeOf b) (parent (treeOf b) i))
+        rind-based : role (treeOf b) i ≡ Rind → ZoneInBase b (parent (treeOf b) (parent (treeOf b) i))
         rind-based e =
             let n = not-root (treeOf b) i Rind e (λ (z : _≡_ {A = ℕ} 9 14). absurd (omega arith)) in
             let a = above i here n in
             held (parent (treeOf b) i) (a .upper) (rind-under (role (treeOf b) (parent (treeOf b) i)) (rw e at (a .holds))) .zone .based
 
     -- the zone of a section
-    pub section-held : role (treeOf b) i ≡ Elements → Held b i
+    pub section-held : role (treeOf b) i ≡ Elements → UnderZone b i
     unfolding among
     section-held e = held i here (rw e)
 
     -- the zone of a coordinate or flow array
-    sized-held : sizedArray (treeOf b) i ≡ true → Held b (parent (treeOf b) i)
+    sized-held : sizedArray (treeOf b) i ≡ true → UnderZone b (parent (treeOf b) i)
     unfolding sizedArray among
     sized-held e =
         let t = treeOf b in
@@ -201,6 +201,6 @@ module _ (b : List ℕ) (a : Accepted b) (i : ℕ) (h : i < nodeCount b) (v : va
   pub accepted-sized : sizedArray (treeOf b) i ≡ true → Sized b (parent (treeOf b) i)
   accepted-sized = sized b i (accepted-to b a i h) v place
 
-  pub accepted-zone : role (treeOf b) i ≡ Zone → Shaped b i
+  pub accepted-zone : role (treeOf b) i ≡ Zone → TypedZone b i
   unfolding sidsRules
   accepted-zone e = record { based = ready b i (accepted-to b a i h) v place .zone e; zone = e; type = sids-rule b (a .image) 24 i h v }

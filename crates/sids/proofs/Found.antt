@@ -13,7 +13,7 @@ use Rattle.model.proofs.Logic.{untrue, and-first, and-second}
 use Rattle.model.proofs.Validated.{validated-child}
 use Rattle.model.proofs.Sections.{not-root}
 use Rattle.model.proofs.Conforming.{child-is}
-use Rattle.types.specs.Given.{Based, Ready}
+use Rattle.types.specs.Given.{ZoneInBase, NodeContext}
 use Rattle.index.specs.Index.{kind}
 use Rattle.index.proofs.Marking.{kind-parts}
 
@@ -39,7 +39,7 @@ module _ (b : List ℕ) (i r : ℕ) (n : List ℕ) (h : child (treeOf b) i r n <
       eqb-true _ _ (and-second (eqb (parent (treeOf b) j) i) _ (and-first (eqb (parent (treeOf b) j) i && eqb (role (treeOf b) j) r) _ found-child))
 
   -- it has a known label, and stands under a validated node that is no UserDefinedData_t: it can be judged
-  child-ready : Sound b → {k : ℕ} → kind (treeOf b) i ≡ k → asked k r ≡ true → (r ≡ Rind → Based b (parent (treeOf b) i)) → Ready b (child (treeOf b) i r n)
+  child-ready : Sound b → {k : ℕ} → kind (treeOf b) i ≡ k → asked k r ≡ true → (r ≡ Rind → ZoneInBase b (parent (treeOf b) i)) → NodeContext b (child (treeOf b) i r n)
   unfolding zoneAbove
   child-ready s {k} e q f =
       let j = child (treeOf b) i r n in
@@ -53,11 +53,11 @@ module _ (b : List ℕ) (i r : ℕ) (n : List ℕ) (h : child (treeOf b) i r n <
         inside = h;
         is-validated = validated-child b s j i h (not-root (treeOf b) j r child-role root) child-parent (p .0) (rw (p .1) foreign) ∙ rw child-role known;
         zone = λ z. absurd (other Zone (and-second (ltb 0 r && not (eqb r Root)) _ l) (sym child-role ∙ z));
-        rind = λ z. subst (λ (p : ℕ). Based b (parent (treeOf b) p)) (sym child-parent) (f (sym child-role ∙ z));
+        rind = λ z. subst (λ (p : ℕ). ZoneInBase b (parent (treeOf b) p)) (sym child-parent) (f (sym child-role ∙ z));
       }
 
-pub found-ready : (b : List ℕ) → Sound b → (i r : ℕ) (n : List ℕ) {j k : ℕ} → kind (treeOf b) i ≡ k → asked k r ≡ true → (r ≡ Rind → Based b (parent (treeOf b) i)) → j ≡ child (treeOf b) i r n
-    → j < nodeCount b → Ready b j
+pub found-ready : (b : List ℕ) → Sound b → (i r : ℕ) (n : List ℕ) {j k : ℕ} → kind (treeOf b) i ≡ k → asked k r ≡ true → (r ≡ Rind → ZoneInBase b (parent (treeOf b) i)) → j ≡ child (treeOf b) i r n
+    → j < nodeCount b → NodeContext b j
 found-ready b s i r n {j} e q f g h = rw g (child-ready b i r n (rw (← g) h) s e q f)
 
 -- a looked-up child, or nothing, as rules 24 and 25 have it

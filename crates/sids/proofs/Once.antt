@@ -25,7 +25,7 @@ use Rattle.model.proofs.Sections.{not-root}
 use Rattle.model.proofs.Above.{validated-above, earlier-rule}
 use Rattle.model.specs.Rules.{check, passed}
 use Rattle.model.proofs.Staging.{kept}
-use Rattle.labels.proofs.Kin.{parent-inside, named-root}
+use Rattle.labels.proofs.Nodes.{parent-inside, named-root}
 use Rattle.sids.specs.Groups.{placeRules}
 use Rattle.labels.proofs.Grid.{orElse, fixed-or}
 use Rattle.sids.proofs.Context.{placed-held, no-rule}

@@ -14,8 +14,8 @@ use Rattle.model.specs.Containment.{role, found, Rind}
 use Rattle.model.specs.Values.{valueLawful, conforming, indexDimension, zoneAbove, rindValue, notNegative, size, rindNumber}
 use Rattle.model.proofs.Walks.{every-at}
 use Rattle.model.proofs.Conforming.{conforming-type, conforming-value, conforming-parent, conforming-role}
-use Rattle.types.specs.Given.{Has}
-use Rattle.types.proofs.Held.{whole-four, has-by}
+use Rattle.types.specs.Given.{HasNumber}
+use Rattle.types.proofs.StoredNumbers.{whole-four, has-by}
 use Rattle.types.proofs.Roles.{rind-four, rind-dimensions}
 
 module _ (b : List ℕ) (s : Sound b) (p : ℕ) (h : conforming (treeOf b) p Rind (text "Rind") < nodeCount b) where
@@ -31,7 +31,7 @@ module _ (b : List ℕ) (s : Sound b) (p : ℕ) (h : conforming (treeOf b) p Rin
       ∙ ap (λ (q : ℕ). 2 * indexDimension t (parent t q) ∷ []) (conforming-parent t p Rind (text "Rind") is-found)
 
   module _ (k : ℕ) (l : k < 2 * indexDimension (treeOf b) (parent (treeOf b) p)) where
-    pub rind-has : Has b (conforming (treeOf b) p Rind (text "Rind")) k
+    pub rind-has : HasNumber b (conforming (treeOf b) p Rind (text "Rind")) k
     unfolding product
     rind-has =
         let t = treeOf b in

@@ -15,9 +15,9 @@ use Rattle.model.specs.Containment.{role, Zone}
 use Rattle.model.specs.Values.{typed, shaped, typeLawful, valueLawful, indexDimension, structured, vertexSize, cellSize, boundarySize, cellCentred, dataSize, dataSizesFrom, dataSizes, structuredSizes, unstructuredSizes, zoneValue}
 use Rattle.model.proofs.Walks.{every-at}
 use Rattle.model.proofs.Logic.{and-first, and-second}
-use Rattle.types.specs.Given.{Has}
-use Rattle.types.proofs.Held.{whole-wide, shaped-is, has-by}
-use Rattle.sids.specs.Given.{Shaped}
+use Rattle.types.specs.Given.{HasNumber}
+use Rattle.types.proofs.StoredNumbers.{whole-wide, shaped-is, has-by}
+use Rattle.sids.specs.Given.{TypedZone}
 use Rattle.sids.specs.Sizes.{directions, zoneSizes, sizeIn, structuredIn, unstructuredIn, permittedIn, innerSize}
 
 zone-type : (t : Tree) (z : ℕ) → role t z ≡ Zone → typeLawful t z ≡ true → (typed t z (I4 ∷ I8 ∷ []) && shaped t z (indexDimension t z ∷ 3 ∷ [])) ≡ true
@@ -25,7 +25,7 @@ unfolding typeLawful row
 zone-type t z e h = rw e at h
 
 -- three numbers a direction
-pub zone-has : (b : List ℕ) → Sound b → (z : ℕ) → Shaped b z → (k : ℕ) → k < 3 * indexDimension (treeOf b) z → Has b z k
+pub zone-has : (b : List ℕ) → Sound b → (z : ℕ) → TypedZone b z → (k : ℕ) → k < 3 * indexDimension (treeOf b) z → HasNumber b z k
 unfolding product
 zone-has b s z g k l =
     let t = treeOf b in

@@ -6,13 +6,13 @@ ghost use Rattle.model.specs.Image.{treeOf, nodeCount};
 ghost use Rattle.model.specs.Containment.{orMissing, Elements};
 ghost use Rattle.model.specs.Values.{typeLawful, valueLawful, rangeOf, offsetsOf, connectivityOf};
 ghost use Rattle.index.specs.Index.{kind, Index};
-ghost use Rattle.types.specs.Given.{Ready};
-use super::values::value_lawful;
+ghost use Rattle.types.specs.Given.{NodeContext};
+use super::permitted::value_lawful;
 
 // Node j, a child that was looked up, where it conforms; else the node count.
 pub fn conforming(image: &[u8], index: &[u16], j: usize) -> usize
     requires { ⌜ Index (now image) (now index) × (j ≤ nodeCount (now image)) ⌝ }
-    requires { ⌜ (j < nodeCount (now image) → Ready (now image) j) ⌝ }
+    requires { ⌜ (j < nodeCount (now image) → NodeContext (now image) j) ⌝ }
     ensures { λ r. ⌜ (r ≡ orMissing (treeOf (now (image .entry))) (typeLawful (treeOf (now (image .entry))) j && valueLawful (treeOf (now (image .entry))) j) j) × (r ≤ nodeCount (now (image .entry))) ⌝ }
 {
     let n = labels::node_count(image);

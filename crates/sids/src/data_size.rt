@@ -7,7 +7,7 @@ ghost use Rattle.model.specs.Given.{Sound};
 ghost use Rattle.model.specs.Containment.{Rind};
 ghost use Rattle.model.specs.Values.{indexDimension, conforming, cellCentred, rindNumber, dataSize};
 ghost use Rattle.index.specs.Index.{Index};
-ghost use Rattle.sids.specs.Given.{Held, Sized};
+ghost use Rattle.sids.specs.Given.{UnderZone, Sized};
 ghost use Rattle.sids.specs.Sizes.{direction, directions, innerSize};
 use super::children::conforming;
 use super::zone::sizes_from;
@@ -46,7 +46,7 @@ fn inner_sizes(image: &[u8], index: &[u16], p: usize, n: usize) -> [u64; 3]
 
 // The two rind numbers of direction d, summed; 0 where no Rind conforms.
 fn rind_sum(image: &[u8], p: usize, rind: usize, d: usize) -> u64
-    requires { ⌜ Sound (now image) × Held (now image) p ⌝ }
+    requires { ⌜ Sound (now image) × UnderZone (now image) p ⌝ }
     requires { ⌜ (rind ≡ conforming (treeOf (now image)) p Rind (text "Rind")) × (d < indexDimension (treeOf (now image)) (parent (treeOf (now image)) p)) ⌝ }
     requires { ⌜ (rind ≤ nodeCount (now image)) × (d < 3) ⌝ }
     ensures { λ r. ⌜ (r ≡ rindNumber (treeOf (now (image .entry))) p (2 * d) + rindNumber (treeOf (now (image .entry))) p (2 * d + 1)) × (r ≤ 4294967294) ⌝ }
@@ -59,7 +59,7 @@ fn rind_sum(image: &[u8], p: usize, rind: usize, d: usize) -> u64
 
 // DataSize in direction d of n; 0 where the zone lacks it.
 fn data_size_at(image: &[u8], p: usize, rind: usize, n: usize, inner: [u64; 3], d: usize) -> u64
-    requires { ⌜ Sound (now image) × Held (now image) p ⌝ }
+    requires { ⌜ Sound (now image) × UnderZone (now image) p ⌝ }
     requires { ⌜ (rind ≡ conforming (treeOf (now image)) p Rind (text "Rind")) × (n ≡ indexDimension (treeOf (now image)) (parent (treeOf (now image)) p)) ⌝ }
     requires { ⌜ (rind ≤ nodeCount (now image)) × ((n ≤ 3) × (d < 3)) ⌝ }
     requires { ⌜ inner ≡ directions (innerSize (treeOf (now image)) p) (indexDimension (treeOf (now image)) (parent (treeOf (now image)) p)) ⌝ }

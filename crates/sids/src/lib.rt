@@ -3,7 +3,7 @@ mod children; // children.rt: conforming children
 mod data_size; // data_size.rt: DataSize
 mod required; // required.rt: containment and required children
 mod stages; // stages.rt: the rules in order
-mod values; // values.rt: permitted values
+mod permitted; // permitted.rt: permitted values
 mod zone; // zone.rt: a zone's sizes
 
 pub use children::connectivity_of;

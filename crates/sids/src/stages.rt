@@ -9,13 +9,13 @@ ghost use Rattle.model.specs.Containment.{validated};
 ghost use Rattle.model.specs.Values.{sidsRules, sizedArray, sizesLawful};
 ghost use Rattle.model.specs.Answers.{stageTells};
 ghost use Rattle.index.specs.Index.{Index};
-ghost use Rattle.types.specs.Given.{Ready};
+ghost use Rattle.types.specs.Given.{NodeContext};
 ghost use Rattle.sids.specs.Given.{Sized};
 ghost use Rattle.sids.specs.Groups.{placeRules, contentRules};
 use super::data_size::data_sizes;
+use super::permitted::value_lawful;
 use super::required::complete;
 use super::required::placed;
-use super::values::value_lawful;
 use labels::roles;
 use model::Rejection;
 use model::Stage;
@@ -50,7 +50,7 @@ fn place_stage(image: &[u8], index: &[u16], i: usize) -> Stage
 
 // Rules 23 to 25.
 fn content_stage(image: &[u8], index: &[u16], i: usize) -> Stage
-    requires { ⌜ Index (now image) (now index) × Ready (now image) i ⌝ }
+    requires { ⌜ Index (now image) (now index) × NodeContext (now image) i ⌝ }
     ensures { λ r. ⌜ stageTells r ≡ check i (contentRules (treeOf (now (image .entry))) i) ⌝ }
 {
     if !complete(image, index, i) {

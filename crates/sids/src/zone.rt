@@ -6,12 +6,12 @@ ghost use Rattle.model.specs.Given.{Sound};
 ghost use mathlib.Core.Bool.{cond};
 ghost use Rattle.model.specs.Values.{indexDimension, zoneValue};
 ghost use Rattle.index.specs.Index.{Index};
-ghost use Rattle.sids.specs.Given.{Shaped};
+ghost use Rattle.sids.specs.Given.{TypedZone};
 ghost use Rattle.sids.specs.Sizes.{direction, directions, zoneSizes, sizeIn, structuredIn, unstructuredIn};
 
 // The size in direction d of n, of those that stand from `from` on; 0 where the zone lacks it.
 fn size_at(image: &[u8], z: usize, n: usize, from: usize, d: usize) -> u64
-    requires { ⌜ Sound (now image) × Shaped (now image) z ⌝ }
+    requires { ⌜ Sound (now image) × TypedZone (now image) z ⌝ }
     requires { ⌜ (n ≡ indexDimension (treeOf (now image)) z) × ((n ≤ 3) × (from + n ≤ 3 * n)) ⌝ }
     ensures { λ r. ⌜ r ≡ direction (λ k. number (treeOf (now (image .entry))) z (from + k)) n d ⌝ }
 {
@@ -23,7 +23,7 @@ fn size_at(image: &[u8], z: usize, n: usize, from: usize, d: usize) -> u64
 
 // The sizes that stand from `from` on, direction by direction.
 pub fn sizes_from(image: &[u8], z: usize, n: usize, from: usize) -> [u64; 3]
-    requires { ⌜ Sound (now image) × Shaped (now image) z ⌝ }
+    requires { ⌜ Sound (now image) × TypedZone (now image) z ⌝ }
     requires { ⌜ (n ≡ indexDimension (treeOf (now image)) z) × ((n ≤ 3) × (from + n ≤ 3 * n)) ⌝ }
     ensures { λ r. ⌜ r ≡ directions (λ k. number (treeOf (now (image .entry))) z (from + k)) n ⌝ }
 {
@@ -35,7 +35,7 @@ pub fn sizes_from(image: &[u8], z: usize, n: usize, from: usize) -> [u64; 3]
 
 // VertexSize, CellSize and VertexSizeBoundary of zone z, one row each.
 pub fn zone_sizes(image: &[u8], index: &[u16], z: usize) -> [[u64; 3]; 3]
-    requires { ⌜ Index (now image) (now index) × Shaped (now image) z ⌝ }
+    requires { ⌜ Index (now image) (now index) × TypedZone (now image) z ⌝ }
     ensures { λ r. ⌜ r ≡ zoneSizes (treeOf (now (image .entry))) z ⌝ }
 {
     let n = types::index_dimension(image, index, z) as usize;
@@ -93,7 +93,7 @@ fn sizes_permitted(structured: bool, sizes: [[u64; 3]; 3], d: usize) -> bool
 
 // Rule 25 of Zone_t, direction by direction.
 pub fn zone_value(image: &[u8], index: &[u16], z: usize) -> bool
-    requires { ⌜ Index (now image) (now index) × Shaped (now image) z ⌝ }
+    requires { ⌜ Index (now image) (now index) × TypedZone (now image) z ⌝ }
     ensures { λ r. ⌜ r ≡ zoneValue (treeOf (now (image .entry))) z ⌝ }
 {
     let n = types::index_dimension(image, index, z) as usize;

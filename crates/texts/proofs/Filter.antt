@@ -1,4 +1,4 @@
--- The filter of keys: what was marked stays marked, and an earlier sibling of one name would be met.
+-- The filter of keys: what was marked stays marked, and an earlier sibling of one name would be mayBeMarked.
 use Prim.Native.Nat.{ℕ, _+_, _-_, _≤_, _<_}
 use mathlib.Core.Path.{_≡_, refl, sym, ap₂, _∙_}
 use mathlib.Core.Bool.{Bool, true, false, cond, _||_}
@@ -14,7 +14,7 @@ use Rattle.model.specs.Image.{Tree, parent, name}
 use Rattle.model.specs.Records.{sibling, namesake, nameTaken}
 use Rattle.model.proofs.Walks.{someFrom-end}
 use Rattle.model.proofs.Logic.{same-is, untrue, and-first, and-second, or-right}
-use Rattle.texts.specs.Keys.{nameKey, keyAt, placeOf, markOf, marked, withKey, met, Seen}
+use Rattle.texts.specs.Keys.{nameKey, keyAt, placeOf, markOf, marked, withKey, mayBeMarked, Seen}
 use Rattle.texts.proofs.Laws.{some-from}
 
 pub key-small : (t : Tree) (i : ℕ) → keyAt t i < 4194304
@@ -43,16 +43,16 @@ module _ (x m : ℕ) where
       by-test false false = refl
 
 module _ (seen : List ℕ) (room : 16384 ≤ length seen) (key : ℕ) (h : key < 4194304) where
-  met-still : (k : ℕ) → met seen k ≡ true → met (withKey seen key) k ≡ true
-  unfolding met withKey
+  met-still : (k : ℕ) → mayBeMarked seen k ≡ true → mayBeMarked (withKey seen key) k ≡ true
+  unfolding mayBeMarked withKey
   met-still k e =
       elim (ℕ-discrete (placeOf k) (placeOf key)) [
         | yes q ↦ rw (q, getD-set-same seen (placeOf key) (marked (getD seen (placeOf key) 0) (markOf key)) 0 (omega arith)) (mark-stays (getD seen (placeOf key) 0) (markOf key) (markOf k) (omega arith) (rw q at e))
         | no n ↦ rw (getD-set-other seen (placeOf key) (placeOf k) (marked (getD seen (placeOf key) 0) (markOf key)) 0 n) e
       ]
 
-  met-now : met (withKey seen key) key ≡ true
-  unfolding met withKey
+  met-now : mayBeMarked (withKey seen key) key ≡ true
+  unfolding mayBeMarked withKey
   met-now =
       rw (getD-set-same seen (placeOf key) (marked (getD seen (placeOf key) 0) (markOf key)) 0 (omega arith)) (mark-there (getD seen (placeOf key) 0) (markOf key))
 
@@ -76,7 +76,7 @@ module _ {t : Tree} {i : ℕ} {seen : List ℕ} (s : Seen t i seen) {key : ℕ} 
       }
 
   -- a sibling of node i with its name has its key
-  unlike : met seen key ≡ false → (j : ℕ) → j < i → namesake t i j ≡ false
+  unlike : mayBeMarked seen key ≡ false → (j : ℕ) → j < i → namesake t i j ≡ false
   unfolding keyAt namesake sibling
   unlike f j h = by-test (namesake t i j) refl
     where
@@ -88,7 +88,7 @@ module _ {t : Tree} {i : ℕ} {seen : List ℕ} (s : Seen t i seen) {key : ℕ} 
           let k : keyAt t j ≡ key = ap₂ nameKey u n ∙ sym e in
           untrue (sym f ∙ rw k at (s .keys j h))
 
-  pub not-taken : met seen key ≡ false → nameTaken t i ≡ false
+  pub not-taken : mayBeMarked seen key ≡ false → nameTaken t i ≡ false
   unfolding nameTaken
   not-taken f =
       sym (some-from (namesake t i) i i (omega arith) (unlike f)) ∙ someFrom-end (namesake t i) i i (omega arith)

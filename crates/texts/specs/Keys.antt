@@ -1,4 +1,4 @@
--- Keys of names, and the filter of the keys met so far.
+-- Keys of names, and the filter of the keys mayBeMarked so far.
 use Prim.Native.Nat.{ℕ, _+_, _*_, _/_, _%_, _≤_, _<_}
 use mathlib.Core.Path.{_≡_}
 use mathlib.Core.Bool.{Bool, true, cond, _||_}
@@ -39,10 +39,10 @@ unfoldable pub withKey : List ℕ → ℕ → List ℕ
 withKey seen key = set seen (placeOf key) (marked (getD seen (placeOf key) 0) (markOf key))
 
 -- the key may have been marked
-unfoldable pub met : List ℕ → ℕ → Bool
-met seen key = eqb (getD seen (placeOf key) 0) 65535 || eqb (getD seen (placeOf key) 0) (markOf key)
+unfoldable pub mayBeMarked : List ℕ → ℕ → Bool
+mayBeMarked seen key = eqb (getD seen (placeOf key) 0) 65535 || eqb (getD seen (placeOf key) 0) (markOf key)
 
 -- the keys of the nodes before i are marked
 pub record Seen (t : Tree) (i : ℕ) (seen : List ℕ) : Type 0 where
   pub room : 16384 ≤ length seen
-  pub keys : (j : ℕ) → j < i → met seen (keyAt t j) ≡ true
+  pub keys : (j : ℕ) → j < i → mayBeMarked seen (keyAt t j) ≡ true

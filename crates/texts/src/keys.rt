@@ -1,11 +1,11 @@
-// Keys of names, and a filter of the keys met so far: it tells at once of most names that no earlier sibling has them.
+// Keys of names, and a filter of the keys mayBeMarked so far: it tells at once of most names that no earlier sibling has them.
 ghost use mathlib.Core.Path.{_≡_};
 ghost use Prim.Native.Nat.{_+_, _≤_, _<_};
 ghost use lib.ListN.{length};
 ghost use Rattle.model.specs.Image.{treeOf, nodeCount};
 ghost use Rattle.model.specs.Bounds.{Laid};
 ghost use Rattle.texts.specs.Texts.{textAt};
-ghost use Rattle.texts.specs.Keys.{textSum, keyAt, marked, met, withKey};
+ghost use Rattle.texts.specs.Keys.{textSum, keyAt, marked, mayBeMarked, withKey};
 use records::Record;
 
 // Keys are below this prime. It and the factors of the words spread names that share most of their bytes; no answer depends on them.
@@ -14,7 +14,7 @@ const KEYS: u64 = 4100011;
 // So many keys share a place of the filter.
 const SHARE: usize = 256;
 
-// What a place holds where marks that differ met.
+// What a place holds where marks that differ mayBeMarked.
 const MANY: u16 = 65535;
 
 // The four words of the text at `at`, each by its factor.
@@ -62,9 +62,9 @@ pub fn add_key(seen: &mut [u16], key: usize)
 }
 
 // Whether the key may have been marked. It answers true for each key that was.
-pub fn is_met(seen: &[u16], key: usize) -> bool
+pub fn may_be_marked(seen: &[u16], key: usize) -> bool
     requires { ⌜ (16384 ≤ length (now seen)) × (key < 4194304) ⌝ }
-    ensures { λ r. ⌜ r ≡ met (now (seen .entry)) key ⌝ }
+    ensures { λ r. ⌜ r ≡ mayBeMarked (now (seen .entry)) key ⌝ }
 {
     let x = seen[key / SHARE];
     if x == MANY {

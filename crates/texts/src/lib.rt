@@ -11,7 +11,7 @@ ghost use Rattle.model.specs.Given.{RecordsTo};
 ghost use Rattle.texts.specs.Texts.{textAt, textByte, badByte, textBytes};
 ghost use Rattle.texts.specs.Keys.{keyAt, Seen};
 
-mod keys; // keys.rt: keys of names, and a filter of those met
+mod keys; // keys.rt: keys of names, and a filter of those mayBeMarked
 
 pub use keys::add_key;
 pub use keys::name_key;
@@ -109,7 +109,7 @@ pub fn name_taken(image: &[u8], i: usize, key: usize, seen: &[u16]) -> bool
     if i == 0 {
         return false;
     }
-    if !keys::is_met(seen, key) {
+    if !keys::may_be_marked(seen, key) {
         return false;
     }
     let up = records::parent_of(image, i);

@@ -1,4 +1,4 @@
 pub mod Same
-pub mod Held
+pub mod StoredNumbers
 pub mod Missing
 pub mod Roles

@@ -14,8 +14,8 @@ use Rattle.model.specs.Values.{typed, shaped, flat, typeLawful, valueLawful, ba
 use Rattle.model.proofs.Parents.{parent-lower, lawful-at}
 use Rattle.model.proofs.Sections.{not-root}
 use Rattle.model.proofs.Logic.{and-first, and-second}
-use Rattle.types.specs.Given.{Has, Based}
-use Rattle.types.proofs.Held.{whole-four, whole-wide, shaped-is, has-pair, has-less}
+use Rattle.types.specs.Given.{HasNumber, ZoneInBase}
+use Rattle.types.proofs.StoredNumbers.{whole-four, whole-wide, shaped-is, has-pair, has-less}
 
 module _ (t : Tree) (i : ℕ) where
   pub base-type : role t i ≡ Base → typeLawful t i ≡ true → (typed t i (I4 ∷ []) && shaped t i (2 ∷ [])) ≡ true
@@ -40,17 +40,17 @@ module _ (t : Tree) (i : ℕ) where
 
 -- a pair of numbers can be read
 module _ (b : List ℕ) (s : Sound b) (i : ℕ) (h : i < nodeCount b) where
-  pair-has : (typed (treeOf b) i (I4 ∷ []) && shaped (treeOf b) i (2 ∷ [])) ≡ true → Has b i 1
+  pair-has : (typed (treeOf b) i (I4 ∷ []) && shaped (treeOf b) i (2 ∷ [])) ≡ true → HasNumber b i 1
   pair-has e =
       has-pair b s i h (whole-four (treeOf b) i (and-first (typed (treeOf b) i (I4 ∷ [])) _ e)) (and-second (typed (treeOf b) i (I4 ∷ [])) _ e)
 
-  pub base-has : role (treeOf b) i ≡ Base → typeLawful (treeOf b) i ≡ true → Has b i 1
+  pub base-has : role (treeOf b) i ≡ Base → typeLawful (treeOf b) i ≡ true → HasNumber b i 1
   base-has r e = pair-has (base-type (treeOf b) i r e)
 
-  pub elements-has : role (treeOf b) i ≡ Elements → typeLawful (treeOf b) i ≡ true → Has b i 1
+  pub elements-has : role (treeOf b) i ≡ Elements → typeLawful (treeOf b) i ≡ true → HasNumber b i 1
   elements-has r e = pair-has (elements-type (treeOf b) i r e)
 
-  pub range-has : role (treeOf b) i ≡ IndexRange → typeLawful (treeOf b) i ≡ true → Has b i 1
+  pub range-has : role (treeOf b) i ≡ IndexRange → typeLawful (treeOf b) i ≡ true → HasNumber b i 1
   range-has r e =
       let g = range-type (treeOf b) i r e in
       has-pair b s i h (whole-wide (treeOf b) i (and-first (typed (treeOf b) i (I4 ∷ I8 ∷ [])) _ g)) (and-second (typed (treeOf b) i (I4 ∷ I8 ∷ [])) _ g)
@@ -67,8 +67,8 @@ module _ (t : Tree) (i : ℕ) (r : role t i ≡ Rind) (e : typeLawful t i ≡ tr
   unfolding flat
   rind-flat = rw rind-dimensions
 
-module _ (b : List ℕ) (s : Sound b) (z : ℕ) (g : Based b z) where
-  pub based-has : Has b (parent (treeOf b) z) 0
+module _ (b : List ℕ) (s : Sound b) (z : ℕ) (g : ZoneInBase b z) where
+  pub based-has : HasNumber b (parent (treeOf b) z) 0
   based-has =
       has-less b (parent (treeOf b) z) 1 0 (base-has b s (parent (treeOf b) z) (g .above) (g .base) (g .type)) (omega arith)
 

@@ -8,7 +8,7 @@ ghost use Rattle.model.specs.Image.{treeOf, nodeCount, parent, I4, I8};
 ghost use Rattle.model.specs.Given.{Sound};
 ghost use Rattle.model.specs.Values.{typed, shaped, indexDimension, zoneAbove, typeLawful};
 ghost use Rattle.index.specs.Index.{Index};
-ghost use Rattle.types.specs.Given.{Based, Ready};
+ghost use Rattle.types.specs.Given.{ZoneInBase, NodeContext};
 use super::arrays::array_type;
 use super::shapes;
 use super::shapes::shaped;
@@ -36,7 +36,7 @@ fn whole_shaped(image: &[u8], i: usize, n: usize, sizes: [u64; 3]) -> bool
 
 // Zone_t: I4 or I8 [IndexDimension, 3].
 fn zone_shape(image: &[u8], index: &[u16], z: usize) -> bool
-    requires { ⌜ Index (now image) (now index) × Based (now image) z ⌝ }
+    requires { ⌜ Index (now image) (now index) × ZoneInBase (now image) z ⌝ }
     ensures { λ r. ⌜ r ≡ (typed (treeOf (now (image .entry))) z (I4 ∷ I8 ∷ []) && shaped (treeOf (now (image .entry))) z (indexDimension (treeOf (now (image .entry))) z ∷ 3 ∷ [])) ⌝ }
 {
     whole_shaped(image, z, 2, [index_dimension(image, index, z), 3, 0])
@@ -44,7 +44,7 @@ fn zone_shape(image: &[u8], index: &[u16], z: usize) -> bool
 
 // Rind_t: I4 [2 × IndexDimension] of the zone two above.
 fn rind_shape(image: &[u8], index: &[u16], i: usize) -> bool
-    requires { ⌜ (Index (now image) (now index) × (parent (treeOf (now image)) i < nodeCount (now image))) × ((i < nodeCount (now image)) × Based (now image) (zoneAbove (treeOf (now image)) i)) ⌝ }
+    requires { ⌜ (Index (now image) (now index) × (parent (treeOf (now image)) i < nodeCount (now image))) × ((i < nodeCount (now image)) × ZoneInBase (now image) (zoneAbove (treeOf (now image)) i)) ⌝ }
     ensures { λ r. ⌜ r ≡ (typed (treeOf (now (image .entry))) i (I4 ∷ []) && shaped (treeOf (now (image .entry))) i (2 * indexDimension (treeOf (now (image .entry))) (zoneAbove (treeOf (now (image .entry))) i) ∷ [])) ⌝ }
 {
     let zone = records::parent_of(image, records::parent_of(image, i));
@@ -59,7 +59,7 @@ fn rind_shape(image: &[u8], index: &[u16], i: usize) -> bool
 
 // Rule 24 at node i.
 pub fn type_lawful(image: &[u8], index: &[u16], i: usize) -> bool
-    requires { ⌜ Index (now image) (now index) × Ready (now image) i ⌝ }
+    requires { ⌜ Index (now image) (now index) × NodeContext (now image) i ⌝ }
     ensures { λ r. ⌜ r ≡ typeLawful (treeOf (now (image .entry))) i ⌝ }
 {
     let role = index::role_of(image, index, i);

@@ -5,11 +5,11 @@ ghost use Rattle.model.specs.Image.{treeOf, nodeCount};
 ghost use Rattle.model.specs.Containment.{Zone};
 ghost use Rattle.model.specs.Values.{zoneTypeOf, structured, unstructured, indexDimension};
 ghost use Rattle.index.specs.Index.{kind, Index};
-ghost use Rattle.types.specs.Given.{Based};
+ghost use Rattle.types.specs.Given.{ZoneInBase};
 use super::shapes::text_shape;
-use super::stored::reads_if_found;
-use super::stored::zone_type_value;
-use super::values::whole;
+use super::stored_numbers::whole;
+use super::stored_texts::reads_if_found;
+use super::stored_texts::zone_type_value;
 
 // The zone's conforming ZoneType; the node count where there is none.
 pub fn zone_type_of(image: &[u8], index: &[u16], z: usize) -> usize
@@ -51,7 +51,7 @@ pub fn unstructured(image: &[u8], index: &[u16], z: usize) -> bool
 
 // IndexDimension: CellDimension of the base if the zone is structured, else 1.
 pub fn index_dimension(image: &[u8], index: &[u16], z: usize) -> u64
-    requires { ⌜ Index (now image) (now index) × Based (now image) z ⌝ }
+    requires { ⌜ Index (now image) (now index) × ZoneInBase (now image) z ⌝ }
     ensures { λ r. ⌜ (r ≡ indexDimension (treeOf (now (image .entry))) z) × (1 ≤ r) × (r ≤ 3) ⌝ }
 {
     if !structured(image, index, z) {

@@ -112,9 +112,9 @@ module _ (b : List ℕ) (i : ℕ) where
   unfolding dataSizeAnswer _gives_ _then_ check
   no-array e f = rw (e, f)
 
-  pub array-told : imageCheck b ≡ passed → isSizedArray (treeOf b) i ≡ true → answer (sizesOf (dataSizes (treeOf b) (parent (treeOf b) i))) ≡ dataSizeAnswer b i
+  pub array-answered : imageCheck b ≡ passed → isSizedArray (treeOf b) i ≡ true → answer (sizesOf (dataSizes (treeOf b) (parent (treeOf b) i))) ≡ dataSizeAnswer b i
   unfolding dataSizeAnswer _gives_ _then_ check
-  array-told e f = rw (e, f)
+  array-answered e f = rw (e, f)
 
   pub sized-parts : isSizedArray (treeOf b) i ≡ true → (i < nodeCount b) × ((sizedArray (treeOf b) i ≡ true) × (validated (treeOf b) i ≡ true))
   unfolding isSizedArray treeOf
@@ -133,10 +133,10 @@ by-directions f (suc (suc zero)) l m = refl
 by-directions f (suc (suc (suc zero))) l m = refl
 by-directions f (suc (suc (suc (suc n)))) l m = absurd (omega arith)
 
-pub sizes-told : (t : Tree) (p n : ℕ) (s : List ℕ) → n ≡ indexDimension t (parent t p) → 1 ≤ n → n ≤ 3
+pub sizes-answered : (t : Tree) (p n : ℕ) (s : List ℕ) → n ≡ indexDimension t (parent t p) → 1 ≤ n → n ≤ 3
     → s ≡ directions (dataSize t p) (indexDimension t (parent t p))
     → answer (record { directions = n; i = getD s 0 0; j = getD s 1 0; k = getD s 2 0 }) ≡ answer (sizesOf (dataSizes t p))
-sizes-told t p n s e l m f =
+sizes-answered t p n s e l m f =
     let m = rw e at m in
     let d = by-directions (dataSize t p) (indexDimension t (parent t p)) (rw e at l) m in
     rw (f, e) (ap (λ x. answer x) (d ∙ ap sizesOf (data-sizes-are t p m)))

@@ -4,7 +4,7 @@ use borrow.Author.Needs.{needs}
 use borrow.Author.Tests.{not-true, not-false}
 use Rattle.model.specs.Rules.{rejected}
 use Rattle.model.proofs.Staging.{passes, rejects}
-use Rattle.faces.proofs.Checks.{accepted-by, refusal-told, not-accepted, no-zone}
+use Rattle.faces.proofs.Checks.{accepted-by, usage-refused, not-accepted, no-zone}
 use Rattle.faces.proofs.usage_after.Statement.{statement}
 use Rattle.faces.proofs.usage_after.Tie as tie
 
@@ -12,7 +12,7 @@ returns : tie.Need-returns
 returns c =
     let d = c .before .before .before .before .before .before .before .before .before in
     rw (c .rejection .ensures)
-    (refusal-told (d .args .image .now) (d .args .zone) (d .args .out .now) (not-accepted _ _ _ (rejects (d .pre .0 .0) (c .before .enum-told2 .given .1))))
+    (usage-refused (d .args .image .now) (d .args .zone) (d .args .out .now) (not-accepted _ _ _ (rejects (d .pre .0 .0) (c .before .enum-told2 .given .1))))
 
 is-zone-requires : tie.Need-is-zone-requires
 is-zone-requires c κs = let p = c .before .before .before .before .before .before .before .before .pre .0 in p .1 (p .0 ∙ passes (p .0) (c .enum-told .given .1))
@@ -21,7 +21,7 @@ returns-2 : tie.Need-returns-2
 returns-2 c =
     let i = c .before .before in
     let d = c .before .before .before .before .before .before .before .before .before .before .before in
-    let w = refusal-told (d .args .image .now) (d .args .zone) (d .args .out .now)
+    let w = usage-refused (d .args .image .now) (d .args .zone) (d .args .out .now)
     (no-zone _ _ _ (passes (d .pre .0 .0) (i .before .enum-told .given .1)) (sym (i .is-zone .ensures) ∙ not-true _ (c .before .if1 .taken))) in
     (ap rejected (c .at .ensures) ∙ w .0, w .1)
 

@@ -12,12 +12,12 @@ returns : tie.Need-returns
 returns c = short 3 _ _ _ (value-three _) (c .if1 .taken)
 
 put-answer-requires : tie.Need-put-answer-requires
-put-answer-requires c κs = (ap length (c .value-told .ensures .1) ∙ value-three _, omega arith)
+put-answer-requires c κs = (ap length (c .value-answer .ensures .1) ∙ value-three _, omega arith)
 
 returns-2 : tie.Need-returns-2
 returns-2 c =
     let d = c .before .before in
-    let words = d .before .value-told .ensures in
+    let words = d .before .value-answer .ensures in
     let call = d .before .before .array-value .ensures in
     let room = d .before .before .before .before .if1 .left in
     long 3 _ _ _ (value-three _) room (d .put-answer .ensures .0 ∙ words .0 ∙ ap ruleOf (call .0)) (words .1 ∙ ap valueWords (call .0)) (d .put-answer .ensures .1)

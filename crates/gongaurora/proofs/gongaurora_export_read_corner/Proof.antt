@@ -1,5 +1,5 @@
 use borrow.Author.Needs.{needs}
-use Rattle.gongaurora.proofs.Readers.{few, full, fits, corner-short, corner-told}
+use Rattle.gongaurora.proofs.Readers.{few, full, fits, corner-short, corner-long}
 use Rattle.gongaurora.proofs.gongaurora_export_read_corner.Statement.{statement}
 use Rattle.gongaurora.proofs.gongaurora_export_read_corner.Tie as tie
 
@@ -13,8 +13,8 @@ returns-3 : tie.Need-returns-3
 returns-3 c =
     let p = c .before .before .put-corner .ensures in
     let d = c .before .before .before .before in
-    let told = (rw (d .before .section-in .ensures) at (d .corner .ensures)) .answers in
-    corner-told _ _ _ _ _ (fits 72 _ _ (d .before .before .before .if1 .left) (d .before .before .if2 .left)) told (p .0) (p .1)
+    let answers = (rw (d .before .section-in .ensures) at (d .corner .ensures)) .answers in
+    corner-long _ _ _ _ _ (fits 72 _ _ (d .before .before .before .if1 .left) (d .before .before .if2 .left)) answers (p .0) (p .1)
 
 pub gongaurora-export-read-corner-spec : {M : Type 1} → statement M
 gongaurora-export-read-corner-spec =

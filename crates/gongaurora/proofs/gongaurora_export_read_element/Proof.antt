@@ -1,5 +1,5 @@
 use borrow.Author.Needs.{needs}
-use Rattle.gongaurora.proofs.Readers.{few, full, fits, element-short, element-told}
+use Rattle.gongaurora.proofs.Readers.{few, full, fits, element-short, element-long}
 use Rattle.gongaurora.proofs.gongaurora_export_read_element.Statement.{statement}
 use Rattle.gongaurora.proofs.gongaurora_export_read_element.Tie as tie
 
@@ -14,7 +14,7 @@ returns-3 c =
     let p = c .before .before .put-size .ensures in
     let d = c .before .before .before .before .before in
     let e = rw (d .before .before .section-at .ensures) at (d .element-corners .ensures) in
-    element-told _ _ _ _ _ (fits 9 _ _ (d .before .before .before .before .if1 .left) (d .before .before .before .if2 .left)) (e .0) (e .1) (p .0) (p .1)
+    element-long _ _ _ _ _ (fits 9 _ _ (d .before .before .before .before .if1 .left) (d .before .before .before .if2 .left)) (e .0) (e .1) (p .0) (p .1)
 
 pub gongaurora-export-read-element-spec : {M : Type 1} → statement M
 gongaurora-export-read-element-spec =

@@ -1,7 +1,7 @@
 -- The header's third word.
 use mathlib.Core.Path.{_≡_, _∙_}
 use Rattle.model.specs.Image.{nodeCount}
-use Rattle.labels.proofs.Kin.{count-at}
+use Rattle.labels.proofs.Nodes.{count-at}
 use native.Mathlib.Omega.{arith}
 use borrow.Author.Needs.{needs}
 use Rattle.labels.proofs.node_count.Statement.{statement}

@@ -1,4 +1,4 @@
--- A key that was not met has no earlier sibling. Else the siblings from j on decide; up to the parent there is none.
+-- A key that was not mayBeMarked has no earlier sibling. Else the siblings from j on decide; up to the parent there is none.
 use native.Mathlib.Omega.{arith}
 use Prim.Native.Nat.{_+_, _-_, _≤_, _<_}
 use mathlib.Core.Path.{_≡_, sym, _∙_}
@@ -24,13 +24,13 @@ returns : tie.Need-returns Inv-loop μ-loop
 unfolding nameTaken someFrom
 returns c = rw (c .if1 .taken)
 
-is-met-requires : tie.Need-is-met-requires Inv-loop μ-loop
-is-met-requires c κs = let p = c .before .before .before .pre .1 in (p .1 .room, key-fits (p .1) (p .0))
+may-be-marked-requires : tie.Need-may-be-marked-requires Inv-loop μ-loop
+may-be-marked-requires c κs = let p = c .before .before .before .pre .1 in (p .1 .room, key-fits (p .1) (p .0))
 
 returns-2 : tie.Need-returns-2 Inv-loop μ-loop
 returns-2 c =
     let p = c .before .before .before .before .before .pre .1 in
-    sym (not-taken (p .1) (p .0) (sym (c .before .is-met .ensures) ∙ not-true _ (c .if2 .taken)))
+    sym (not-taken (p .1) (p .0) (sym (c .before .may-be-marked .ensures) ∙ not-true _ (c .if2 .taken)))
 
 loop-holds : tie.Need-loop-holds Inv-loop μ-loop
 unfolding nameTaken
@@ -58,5 +58,5 @@ returns-4 c = sym (someFrom-end _ _ (c .before .loop .j) (omega arith)) ∙ c .b
 
 pub name-taken-spec : {M : Type 1} → statement M
 name-taken-spec =
-    tie.close (tie.spec Inv-loop μ-loop returns is-met-requires returns-2 (search needs) (search needs) loop-holds (λ c κs. search needs) returns-3
+    tie.close (tie.spec Inv-loop μ-loop returns may-be-marked-requires returns-2 (search needs) (search needs) loop-holds (λ c κs. search needs) returns-3
     (search needs) (search needs) loop-again returns-4)

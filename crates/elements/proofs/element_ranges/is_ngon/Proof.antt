@@ -2,7 +2,7 @@ use native.Mathlib.Omega.{arith}
 use mathlib.Core.Path.{sym, _∙_}
 use borrow.Author.Needs.{needs}
 use borrow.Author.Tests.{not-true, not-false}
-use Rattle.types.proofs.Held.{whole-four, has-pair, has-less}
+use Rattle.types.proofs.StoredNumbers.{whole-four, has-pair, has-less}
 use Rattle.elements.proofs.RangeLaws.{ngon-is}
 use Rattle.elements.proofs.element_ranges.is_ngon.Statement.{statement}
 use Rattle.elements.proofs.element_ranges.is_ngon.Tie as tie

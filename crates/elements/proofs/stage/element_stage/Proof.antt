@@ -3,7 +3,7 @@ use mathlib.Core.Path.{ap, _∙_}
 use borrow.Author.Tests.{eq-eqb, ne-eqb, not-true, not-false}
 use Rattle.model.specs.Rules.{rejected}
 use Rattle.elements.proofs.Stored.{stores-has}
-use Rattle.elements.proofs.Ready.{section-ready}
+use Rattle.elements.proofs.SectionContext.{section-ready}
 use Rattle.elements.proofs.Searches.{first-by, last-by}
 use Rattle.elements.proofs.RangeLaws.{ready-ranged, overlap-is}
 use Rattle.elements.proofs.StageLaws.{type-read, count-read, type-broken, overlap-broken, arrays-left, up-read, most-read}
@@ -19,14 +19,14 @@ whole-requires c κs =
     (p .0 .0 .sound, stores-has (p .0 .0 .sound) (d .own) 0 (omega arith))
 
 returns : tie.Need-returns
-returns c = ap rejected (c .at .ensures) ∙ type-broken _ _ (type-read _ _ (c .before .before .before .whole .ensures)) (c .before .before .taken .ensures) (not-true _ (c .before .if1 .taken))
+returns c = ap rejected (c .at .ensures) ∙ type-broken _ _ (type-read _ _ (c .before .before .before .whole .ensures)) (c .before .before .is-supported .ensures) (not-true _ (c .before .if1 .taken))
 
 returns-2 : tie.Need-returns-2
 returns-2 c =
     let p = c .before .before .before .before .before .before .before .before .before .before .pre in
     let d = section-ready (p .0 .0) (p .1 .0 .0) (p .1 .0 .1) (p .1 .1 .0) in
     ap rejected (c .at2 .ensures)
-    ∙ overlap-broken _ _ (type-read _ _ (c .before .before .before .before .whole .ensures)) (c .before .before .before .taken .ensures) (not-false _ (c .before .before .if1 .left)) (overlap-is (p .0 .0) (ready-ranged d (p .1 .0 .0)) (p .1 .1 .1 .0)) (eq-eqb _ _ (c .before .if2 .taken))
+    ∙ overlap-broken _ _ (type-read _ _ (c .before .before .before .before .whole .ensures)) (c .before .before .before .is-supported .ensures) (not-false _ (c .before .before .if1 .left)) (overlap-is (p .0 .0) (ready-ranged d (p .1 .0 .0)) (p .1 .1 .1 .0)) (eq-eqb _ _ (c .before .if2 .taken))
 
 range-of-requires : tie.Need-range-of-requires
 range-of-requires c κs =
@@ -70,7 +70,7 @@ returns-3 : tie.Need-returns-3
 returns-3 c =
     let p = c .before .before .before .before .before .before .before .before .before .before .before .before .before .before .before .before .pre in
     let d = section-ready (p .0 .0) (p .1 .0 .0) (p .1 .0 .1) (p .1 .1 .0) in
-    arrays-left _ _ (type-read _ _ (c .before .before .before .before .before .before .before .before .before .before .whole .ensures)) (c .before .before .before .before .before .before .before .before .before .taken .ensures) (not-false _ (c .before .before .before .before .before .before .before .before .if1 .left)) (overlap-is (p .0 .0) (ready-ranged d (p .1 .0 .0)) (p .1 .1 .1 .0)) (ne-eqb _ _ (c .before .before .before .before .before .before .before .if2 .left)) (c .before .before .array-stage .ensures)
+    arrays-left _ _ (type-read _ _ (c .before .before .before .before .before .before .before .before .before .before .whole .ensures)) (c .before .before .before .before .before .before .before .before .before .is-supported .ensures) (not-false _ (c .before .before .before .before .before .before .before .before .if1 .left)) (overlap-is (p .0 .0) (ready-ranged d (p .1 .0 .0)) (p .1 .1 .1 .0)) (ne-eqb _ _ (c .before .before .before .before .before .before .before .if2 .left)) (c .before .before .array-stage .ensures)
 
 pub element-stage-spec : {M : Type 1} → statement M
 element-stage-spec = tie.close (tie.spec whole-requires (search needs) (search needs) returns (search needs) returns-2 range-of-requires whole-requires-2 whole-requires-3 sub-array-stage add-array-stage array-stage-requires (search needs) returns-3)

@@ -4,7 +4,7 @@ use native.Mathlib.Omega.{arith}
 use borrow.Author.Needs.{needs}
 use Rattle.model.specs.Rules.{rejected}
 use Rattle.faces.proofs.Gathering.{few-ranges, all-faces}
-use Rattle.faces.proofs.Checks.{refusal-told, usage-told, too-short, long-enough}
+use Rattle.faces.proofs.Checks.{usage-refused, usage-accepted, too-short, long-enough}
 use Rattle.faces.proofs.zone.zone_usage.Statement.{statement}
 use Rattle.faces.proofs.zone.zone_usage.Tie as tie
 
@@ -15,7 +15,7 @@ returns : tie.Need-returns
 returns c =
     let d = c .before .before .before .before .before .before .before .before .before .before .before .before .before .before .before .before .before in
     let p = d .pre .0 in
-    let w = refusal-told (d .args .image .now) (d .args .z) (d .args .out .now)
+    let w = usage-refused (d .args .image .now) (d .args .z) (d .args .out .now)
     (too-short _ _ _ (p .0 .0 .image) (p .1) (omega (arith, all-faces (p .0 .0) (c .before .before .before .before .before .before .before .gather .ensures), c .before .if1 .taken))) in
     (ap rejected (c .at .ensures) ∙ w .0, w .1)
 
@@ -30,7 +30,7 @@ returns-2 c =
     let d = c .before .before .before .before .before .before .before .before .before .before .before .before .before .before .before .before .before .before .before .before .before .before .before .before .before .before in
     let p = d .pre .0 in
     let f = c .before .before .before .before .fill .ensures in
-    let w = usage-told (d .args .image .now) (d .args .z) (d .args .out .now)
+    let w = usage-accepted (d .args .image .now) (d .args .z) (d .args .out .now)
     (long-enough _ _ _ (p .0 .0 .image) (p .1) (omega (arith, all-faces (p .0 .0) (c .before .before .before .before .before .before .before .before .before .before .before .before .before .before .before .before .gather .ensures), c .before .before .before .before .before .before .before .before .before .before .if1 .left))) in
     (f .0 ∙ sym (w .0), f .1 ∙ sym (w .1))
 

@@ -1,5 +1,5 @@
 -- A number past the last node is no zone.
-use Rattle.labels.proofs.Kin.{some-node, no-node}
+use Rattle.labels.proofs.Nodes.{some-node, no-node}
 use borrow.Author.Needs.{needs}
 use Rattle.index.proofs.tables.is_zone.Statement.{statement}
 use Rattle.index.proofs.tables.is_zone.Tie as tie

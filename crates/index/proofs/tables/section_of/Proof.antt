@@ -1,6 +1,6 @@
 -- The parent decides, then what it is validated as.
 use Rattle.model.specs.Containment.{sectionOf}
-use Rattle.labels.proofs.Kin.{unlike, alike}
+use Rattle.labels.proofs.Nodes.{unlike, alike}
 use borrow.Author.Needs.{needs}
 use Rattle.index.proofs.tables.section_of.Statement.{statement}
 use Rattle.index.proofs.tables.section_of.Tie as tie

@@ -6,7 +6,7 @@ use lib.ListN.{getD}
 use Rattle.model.specs.Bytes.{spells}
 use Rattle.model.specs.Image.{treeOf, name}
 use Rattle.labels.specs.Cells.{fixedTexts}
-use Rattle.labels.proofs.Kin.{named-is, name-field}
+use Rattle.labels.proofs.Nodes.{named-is, name-field}
 use Rattle.labels.proofs.Grid.{name-free, name-place, name-fixed}
 use native.Mathlib.Omega.{arith}
 use borrow.Author.Needs.{needs}

@@ -61,9 +61,9 @@ use Rattle.model.proofs.Section.Laws as T′
 use Rattle.model.specs.Lists.{over}
 use Rattle.model.specs.Image.{Tree, treeOf}
 use Rattle.model.specs.Sections.{sectionNodes, entry, entries}
-use Rattle.sections.specs.After.{sectionsAfter, Onward, Told}
+use Rattle.sections.specs.After.{sectionsAfter, Onward, EntriesDue}
 use Rattle.sections.proofs.Filling.{Visited, none-visited, some-left, next-entry, one-visited, store-entry}
-use Rattle.sections.proofs.Told.{nothing-written}
+use Rattle.sections.proofs.Answered.{nothing-written}
 use Rattle.sections.proofs.listing.fill_list.Key.{name as #fill-list}
 use Rattle.sections.proofs.listing.fill_list as fill
 use Rattle.sections.proofs.listing.fill_list.Statement as stated
@@ -193,7 +193,7 @@ module _ {M : Type 1} (𝓤 : URA M) (H : Heap 𝓤) (A : Atoms 𝓤) (W : Given
       ∷ (word, l₁₀) ∷ (tyPtr, l₁₁) ∷ []
 
   module _ (𝓣 : Tables 𝓤 H) (enters : Triple 𝓤 (𝓣 .C #entry-after) (Enters 𝓤 H A mem run)) (gn : Room T.the-row (length ys))
-      (known-n : Told (now im) (now ix) zone (length ys) n)
+      (known-n : EntriesDue (now im) (now ix) zone (length ys) n)
       (l₀ l₁ l₂ l₃ l₄ l₅ l₆ l₇ l₈ l₉ l₁₀ l₁₁ : ℕ) where
     abbrev C : Calls 𝓤 H
     C = 𝓣 .C
@@ -352,7 +352,7 @@ module _ {M : Type 1} (𝓤 : URA M) (H : Heap 𝓤) (A : Atoms 𝓤) (W : Given
 
   -- the MIR, up to the loop
   walk : (𝓣 : Tables 𝓤 H) → Triple 𝓤 (𝓣 .C #entry-after) (Enters 𝓤 H A mem run) → Room T.the-row (length ys) → Is (ShrSlice (named 1) κ₂ u8) im (iv ∷ [])
-      → Is (ShrSlice (named 2) κ₃ u16) ix (xv ∷ []) → Told (now im) (now ix) zone (length ys) n
+      → Is (ShrSlice (named 2) κ₃ u16) ix (xv ∷ []) → EntriesDue (now im) (now ix) zone (length ys) n
       → ent 𝓤 (onEntry 𝓤 H A fill.signature (κ, (κ₂, (κ₃, tt))) (q, (q₂, (q₃, tt))) a vals)
       (WpFn 𝓤 H (𝓣 .C) (𝓣 .Λ) code.function (sl ∷ iv ∷ xv ∷ vint w64 zone ∷ vint w64 n ∷ []) Post)
   walk 𝓣 enters gn gf gx known-n =

@@ -72,15 +72,15 @@ use Rattle.model.proofs.Section as T
 use Rattle.model.proofs.Section.Laws as T′
 use Rattle.model.proofs.Count as S
 use Rattle.model.proofs.Count.Laws as S′
-use Rattle.sections.proofs.Told.{told, told-memory}
+use Rattle.sections.proofs.Answered.{due, answered-memory}
 use Rattle.sections.proofs.answers.sections_answer.Kinds as an
 use Rattle.sections.proofs.answers.sections_answer.Reads as an-reads
 use Rattle.sections.proofs.answers.sections_answer.Symbol as an-def
 use Rattle.sections.proofs.answers.sections_answer.Met as an-thm
-use Rattle.sections.proofs.answers.entries_told.Kinds as et
-use Rattle.sections.proofs.answers.entries_told.Reads as et-reads
-use Rattle.sections.proofs.answers.entries_told.Symbol as et-def
-use Rattle.sections.proofs.answers.entries_told.Met as et-thm
+use Rattle.sections.proofs.answers.answered_count.Kinds as et
+use Rattle.sections.proofs.answers.answered_count.Reads as et-reads
+use Rattle.sections.proofs.answers.answered_count.Symbol as et-def
+use Rattle.sections.proofs.answers.answered_count.Met as et-thm
 use Rattle.sections.proofs.numbers.section_entries.Kinds as entries
 use Rattle.sections.proofs.listing.fill_list as fill
 use Rattle.sections.proofs.listing.fill_list.Symbol as fill-def
@@ -435,7 +435,7 @@ module _ (κs : Lfts 2) (qs : Shares 2) where
         (g-pre 𝓤 H A W 𝓣 E Γ26 Γ27 body.t-12 Δ _ Φ28 (g-back-arr-shr 𝓤 H A W E half Γ26 4 16384 4 (λ x. x) (as-is 𝓤 H A (arr-shr half 16384 4)) refl)
         (g-pre 𝓤 H A W 𝓣 E Γ27 Γ28 body.t-12 Δ _ Φ28 (g-forget 𝓤 H A W E Γ27 4 dead refl) d28))))))))
 
-    -- the calls of `entries_told` and `fill_list`
+    -- the calls of `answered_count` and `fill_list`
     d17 : Typed 𝓤 H A 𝓣 E Γ17 body.t-10 Δ Φ17
     d17 =
         s-seq 𝓤 H A W 𝓣 E Γ17 Γ18 body.s-10 body.t-11 Δ _ Φ18
@@ -539,12 +539,12 @@ goals κs qs a good pre bs =
               (
                 (λ κs′. tt),
                 λ t. (
-                  (λ κs′. told _ _ _ _ (c .1) (c .5 .0) (c .5 .1) (t .5)),
+                  (λ κs′. due _ _ _ _ (c .1) (c .5 .0) (c .5 .1) (t .5)),
                   λ f. (
                     refl,
                     λ len′. (
                       (fix-len (a .0 .ptr) (a .0 .name) (f .2 .0) (a .0 .now) len′, (refl, (tt, tt))),
-                      (c .5 .0, f .5 ∙ told-memory _ _ (a .0 .now) (c .1) (c .5 .0) (t .5)),
+                      (c .5 .0, f .5 ∙ answered-memory _ _ (a .0 .now) (c .1) (c .5 .0) (t .5)),
                     ),
                   ),
                 ),
@@ -565,5 +565,5 @@ list-sections-spec {M} 𝓤 H 𝓜 𝓖 𝓡 =
     (λ g. t-fn-plain 𝓤 H (𝓖 .A) (givenOf 𝓤 H 𝓜 𝓖) (Over 𝓤 H 𝓜 𝓖 𝓡 code.env) 2 ps r xs 3 hs body.t-1 (λ κs qs bs. Φ κs qs bs)
     (λ κs qs bs bd. typed κs qs 𝓤 H (𝓖 .A) (givenOf 𝓤 H 𝓜 𝓖) (Over 𝓤 H 𝓜 𝓖 𝓡 code.env)
     (an-reads.known w code.env an-def.name an-def.routine code.calls-sections·answers·sections-answer (an-thm.met 𝓤 H 𝓜 𝓖 𝓡))
-    (et-reads.known w code.env et-def.name et-def.routine code.calls-sections·answers·entries-told (et-thm.met 𝓤 H 𝓜 𝓖 𝓡))
+    (et-reads.known w code.env et-def.name et-def.routine code.calls-sections·answers·answered-count (et-thm.met 𝓤 H 𝓜 𝓖 𝓡))
     (fill-known w code.env fill-def.name fill-def.routine code.calls-sections·listing·fill-list (fill-thm.met 𝓤 H 𝓜 𝓖 𝓡)) bs) Pre Post goals)

@@ -7,17 +7,17 @@ use Rattle.model.specs.Image.{treeOf}
 use Rattle.model.specs.Values.{placed}
 use Rattle.model.proofs.Staging.{broken, kept}
 use Rattle.model.proofs.Above.{validated-above}
-use Rattle.labels.proofs.Kin.{parent-inside}
+use Rattle.labels.proofs.Nodes.{parent-inside}
 use Rattle.sids.proofs.Context.{no-rule}
 use Rattle.sids.proofs.Once.{never-second, root-place, placed-is}
 use Rattle.sids.proofs.stages.place_stage.Statement.{statement}
 use Rattle.sids.proofs.stages.place_stage.Tie as tie
 
 module _ (c : tie.After-placed) where
-  abbrev told : Bool
-  told = c .placed .result
+  abbrev in-place : Bool
+  in-place = c .placed .result
 
-  place-is : placed (treeOf (c .before .before .before .before .before .before .before .args .image .now)) (c .before .before .before .before .before .before .before .args .i) ≡ told
+  place-is : placed (treeOf (c .before .before .before .before .before .before .before .args .image .now)) (c .before .before .before .before .before .before .before .args .i) ≡ in-place
   place-is = placed-is _ _ (c .before .before .before .before .if1 .left) (c .before .before .before .parent-of .ensures .0) (c .before .before .role-of .ensures .0) (c .before .role-of2 .ensures .0) (c .placed .ensures)
 
 returns : tie.Need-returns

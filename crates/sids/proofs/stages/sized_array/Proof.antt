@@ -8,7 +8,7 @@ use Rattle.model.specs.Values.{sizedArray}
 use Rattle.model.specs.Image.{treeOf}
 use Rattle.model.proofs.Sections.{not-root}
 use Rattle.model.proofs.Above.{validated-above}
-use Rattle.types.proofs.Held.{or-none}
+use Rattle.types.proofs.StoredNumbers.{or-none}
 use Rattle.types.proofs.Roles.{held-inside}
 use Rattle.sids.proofs.stages.sized_array.Statement.{statement}
 use Rattle.sids.proofs.stages.sized_array.Tie as tie

@@ -1,7 +1,7 @@
 use mathlib.Core.Path.{_∙_}
 use borrow.Author.Needs.{needs}
 use Rattle.model.proofs.Joins.{or-done, or-on}
-use Rattle.types.proofs.Held.{four-types}
+use Rattle.types.proofs.StoredNumbers.{four-types}
 use Rattle.types.proofs.arrays.number_type.Statement.{statement}
 use Rattle.types.proofs.arrays.number_type.Tie as tie
 

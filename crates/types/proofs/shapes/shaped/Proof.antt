@@ -9,7 +9,7 @@ use Rattle.model.specs.Image.{treeOf, node, dimensions}
 use Rattle.model.specs.Values.{shaped}
 use Rattle.types.proofs.Same.{first-on, first-off, first-end, same-not}
 use Rattle.model.proofs.Bounds.{node-placed}
-use Rattle.types.proofs.Held.{rank-is}
+use Rattle.types.proofs.StoredNumbers.{rank-is}
 use Rattle.types.proofs.shapes.shaped.Statement.{statement}
 use Rattle.types.proofs.shapes.shaped.Tie as tie
 

@@ -1,7 +1,7 @@
 use borrow.Author.Needs.{needs}
 use Rattle.model.specs.Lists.{among}
 use Rattle.model.specs.Values.{typed}
-use Rattle.types.proofs.Held.{or-none}
+use Rattle.types.proofs.StoredNumbers.{or-none}
 use Rattle.types.proofs.shapes.typed.Statement.{statement}
 use Rattle.types.proofs.shapes.typed.Tie as tie
 

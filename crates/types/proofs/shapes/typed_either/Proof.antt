@@ -2,7 +2,7 @@ use borrow.Author.Needs.{needs}
 use borrow.Author.Tests.{eq-eqb, ne-eqb}
 use Rattle.model.specs.Lists.{among}
 use Rattle.model.specs.Values.{typed}
-use Rattle.types.proofs.Held.{or-none}
+use Rattle.types.proofs.StoredNumbers.{or-none}
 use Rattle.types.proofs.shapes.typed_either.Statement.{statement}
 use Rattle.types.proofs.shapes.typed_either.Tie as tie
 

@@ -4,7 +4,7 @@ use borrow.Author.Needs.{needs}
 use Rattle.model.specs.Image.{treeOf}
 use Rattle.model.specs.Values.{indexDimension, dataSize}
 use Rattle.sids.specs.Sizes.{directions}
-use Rattle.validation.proofs.Laws.{sizes-told}
+use Rattle.validation.proofs.Laws.{sizes-answered}
 use Rattle.sids.proofs.Context.{accepted-sized}
 use Rattle.validation.proofs.sizes.array_sizes.Statement.{statement}
 use Rattle.validation.proofs.sizes.array_sizes.Tie as tie
@@ -36,7 +36,7 @@ returns c =
     let t = treeOf (q .before .before .before .before .args .image .now) in
     let e = n .ensures .0 ∙ ap (indexDimension t) (q .parent-of2 .ensures .0) in
     rw (← u .ensures .0)
-    (sizes-told t (u .result) (n .result) (c .data-sizes .result) e (n .ensures .1) (n .ensures .2) (c .data-sizes .ensures ∙ ap (directions (dataSize t (u .result))) e))
+    (sizes-answered t (u .result) (n .result) (c .data-sizes .result) e (n .ensures .1) (n .ensures .2) (c .data-sizes .ensures ∙ ap (directions (dataSize t (u .result))) e))
 
 pub array-sizes-spec : {M : Type 1} → statement M
 array-sizes-spec =

@@ -4,7 +4,7 @@ use borrow.Author.Needs.{needs}
 use borrow.Author.Tests.{not-true, not-false}
 use Rattle.model.specs.Answers.{stageTells}
 use Rattle.model.proofs.Staging.{passes, rejects}
-use Rattle.validation.proofs.Laws.{size-refused, no-array, array-told, accepted-image, sized-parts}
+use Rattle.validation.proofs.Laws.{size-refused, no-array, array-answered, accepted-image, sized-parts}
 use Rattle.validation.proofs.sizes.data_size.Statement.{statement}
 use Rattle.validation.proofs.sizes.data_size.Tie as tie
 
@@ -40,7 +40,7 @@ returns-3 c =
     let e = s .before .before in
     let d = e .before .before .before in
     let f = sym (s .is-sized-array .ensures) ∙ not-false _ (c .before .before .if1 .left) in
-    c .array-sizes .ensures ∙ array-told _ _ (passes (d .image-stage .ensures .0) (e .enum-told .given .1)) f
+    c .array-sizes .ensures ∙ array-answered _ _ (passes (d .image-stage .ensures .0) (e .enum-told .given .1)) f
 
 pub data-size-spec : {M : Type 1} → statement M
 data-size-spec =

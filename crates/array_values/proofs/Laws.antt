@@ -1,0 +1,92 @@
+-- Bits of a float, the size of an array, and the widths of the data types that are handed out.
+use Prim.Native.Nat.{ℕ, suc, _+_, _*_, _-_, _<_, _≤_}
+use mathlib.Core.Path.{_≡_, refl, sym, ap, _∙_}
+use mathlib.Core.Bool.{Bool, true, false, not, _&&_, _||_}
+use mathlib.Core.List.{List, [], _∷_}
+use native.Mathlib.Omega.{arith}
+use native.Mathlib.Nat.{mul-le-mul-left, mul-comm, mul-suc}
+use lib.Dec.{T, eqb, leb}
+use lib.IntN.{ℤ}
+use lib.ListN.{getD}
+use lib.Ieee.{Format, nanBits, ofBits, toBits, isNan, top}
+use lib.Ieee.Bits.{toBits-ofBits, nanBits-is}
+use borrow.Author.Tests.{eqb-true, leb-true, ne-eqb}
+use Rattle.model.specs.Lists.{among, row}
+use Rattle.model.specs.Bytes.{signed}
+use Rattle.model.specs.Image.{Tree, treeOf, nodeCount, node, dimensions, dataType, widths, width, number}
+use Rattle.model.specs.Records.{recordRules, dataSizeLawful, product}
+use Rattle.model.specs.Given.{Sound}
+use Rattle.model.specs.ArrayValue.{whole, single, double, valueAt}
+use Rattle.words.specs.Width.{isWidth}
+use Rattle.array_values.specs.Readable.{readable}
+use Rattle.model.proofs.Logic.{untrue, and-first, and-second}
+use Rattle.model.proofs.Accepted.{record-rule}
+
+pub no-nan : (t : Bool) → t ≡ false → T (not t)
+no-nan t h = rw h tt
+
+-- a float that is no NaN has the bits that it was made from
+pub bits-kept : (f : Format) (x : ℕ) → x < 2 * top f → nanBits f x ≡ false → toBits f (ofBits f x) ≡ x
+bits-kept f x l h = toBits-ofBits f x l (no-nan (isNan (ofBits f x)) (sym (nanBits-is f x) ∙ h))
+
+pub or-none : (a : Bool) → a ≡ (a || false)
+or-none true = refl
+or-none false = refl
+
+-- rule 16, at a width w
+pub array-size : (b : List ℕ) → Sound b → (i : ℕ) → i < nodeCount b → (w : ℕ) → w ≡ width (treeOf b) i → product (dimensions (treeOf b) i) * w ≡ node (treeOf b) i .dataSize
+unfolding recordRules dataSizeLawful
+array-size b s i h w e = rw e (eqb-true _ _ (and-second (not (among 0 (dimensions (treeOf b) i))) _ (record-rule b (s .table) 16 i h)))
+
+-- a value's bytes lie within the data
+pub array-room : (b : List ℕ) → Sound b → (i : ℕ) → i < nodeCount b → (w : ℕ) → w ≡ width (treeOf b) i → (k : ℕ) → k < product (dimensions (treeOf b) i) → w * k + w ≤ node (treeOf b) i .dataSize
+array-room b s i h w e k l =
+    let p = product (dimensions (treeOf b) i) in
+    let a = array-size b s i h w e in
+    let m : w * suc k ≤ w * p = mul-le-mul-left w l in
+    let c = mul-comm w p in
+    let d : w * suc k ≡ w * k + w = omega (arith, mul-suc w k) in
+    omega arith
+
+abbrev every : (ℕ → Bool) → List ℕ → Bool
+every p [] = true
+every p (x ∷ xs) = p x && every p xs
+
+-- what holds of each of a list holds of one among them
+each : (p : ℕ → Bool) (x : ℕ) (xs : List ℕ) → T (every p xs) → among x xs ≡ true → p x ≡ true
+unfolding among
+each p x [] h e = untrue e
+each p x (y ∷ ys) h e = by-test (p y) refl h (eqb x y) refl e (λ g. each p x ys g)
+  where
+    by-test : (a : Bool) → p y ≡ a → T (a && every p ys) → (t : Bool) → eqb x y ≡ t → (t || among x ys) ≡ true → (T (every p ys) → among x ys ≡ true → p x ≡ true) → p x ≡ true
+    by-test true q g true f m later = ap p (eqb-true x y f) ∙ q
+    by-test true q g false f m later = later g m
+    by-test false q g t f m later = absurd g
+
+wide : ℕ → Bool
+wide d = isWidth (getD widths d 0) && leb d 11
+
+-- the data types that are handed out are 4 or 8 bytes wide
+pub readable-wide : (d : ℕ) → among d readable ≡ true → T (isWidth (getD widths d 0)) × (d ≤ 11)
+unfolding widths wide
+readable-wide d e =
+    let h = each wide d readable tt e in
+    (rw (and-first (isWidth (getD widths d 0)) (leb d 11) h) tt, leb-true d 11 (and-second (isWidth (getD widths d 0)) (leb d 11) h))
+
+pub width-is : (t : Tree) (i d : ℕ) → d ≡ dataType t i → (n : ℕ) → d ≡ n → getD widths n 0 ≡ width t i
+unfolding width
+width-is t i d e n f = rw (← f, e)
+
+-- value k by its data type
+module _ (t : Tree) (i d : ℕ) (e : d ≡ dataType t i) (k : ℕ) where
+  pub value-single : {x : ℕ} → x ≡ number t i k → d ≡ 6 → single x ≡ valueAt t i k
+  unfolding valueAt row
+  value-single h f = let g : dataType t i ≡ 6 = sym e ∙ f in rw (h, g)
+
+  pub value-double : {x : ℕ} → x ≡ number t i k → d ≡ 9 → double x ≡ valueAt t i k
+  unfolding valueAt row
+  value-double h f = let g : dataType t i ≡ 9 = sym e ∙ f in rw (h, g)
+
+  pub value-whole : {z : ℤ} → z ≡ signed (width t i) (number t i k) → (d ≡ 6 → ⊥) → (d ≡ 9 → ⊥) → whole z ≡ valueAt t i k
+  unfolding valueAt row
+  value-whole h f g = rw (h, ← e, ne-eqb d 6 f, ne-eqb d 9 g)

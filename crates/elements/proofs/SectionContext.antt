@@ -1,0 +1,93 @@
+-- Validation has come to section s, and rules 20 to 26 hold there: what rules 27 to 35 may rely on.
+use Prim.Native.Nat.{ℕ, zero, suc, _<_}
+use mathlib.Core.Path.{_≡_, refl, sym, subst, _∙_}
+use mathlib.Core.Bool.{Bool, true, false, not, _&&_, _||_}
+use mathlib.Core.List.{List, [], _∷_}
+use native.Mathlib.Omega.{arith}
+use lib.Dec.{eqb}
+use borrow.Author.Tests.{eqb-true, ne-eqb, not-true}
+use Rattle.model.specs.Lists.{_⊃_, row, among}
+use Rattle.model.specs.Rules.{check, passed}
+use Rattle.model.specs.Image.{Tree, treeOf, nodeCount, parent, dimensions, I4, I8}
+use Rattle.model.specs.Given.{Sound, NodesTo}
+use Rattle.model.specs.Records.{recordRules, dataSizeLawful, product}
+use Rattle.model.specs.Containment.{role, validated, found, mayHold, containment, Zone, Elements}
+use Rattle.model.specs.Values.{typed, shaped, indexDimension, unstructured, typeLawful, placed, complete, rangeOf, connectivityOf, sidsRules}
+use Rattle.model.proofs.Logic.{untrue, and-first, and-second}
+use Rattle.model.proofs.Passed.{check-pass}
+use Rattle.model.proofs.Accepted.{record-rule}
+use Rattle.model.proofs.Parents.{parent-lower, lawful-at}
+use Rattle.model.proofs.Above.{validated-above, earlier-rule, held-by}
+use Rattle.index.proofs.Marking.{kind-role}
+use Rattle.types.specs.Given.{HasNumber}
+use Rattle.types.proofs.StoredNumbers.{whole-wide, whole-four, shaped-is, has-by}
+use Rattle.elements.specs.Given.{SectionContext}
+use Rattle.elements.proofs.Stored.{type-section, stores-pair, range-ready, connectivity-stores, offsets-stores}
+
+-- the root is no section
+not-root : (t : Tree) (s : ℕ) → role t s ≡ Elements → s ≡ 0 → ⊥
+unfolding role
+not-root t s e z =
+    let r : _≡_ {A = ℕ} 14 7 = rw z at e in
+    omega arith
+
+-- only a zone may hold a section
+zone-holds : (above : ℕ) → mayHold above Elements ≡ true → above ≡ Zone
+unfolding containment among
+zone-holds above e = let h = held-by above Elements e in eqb-true above 3 (by-test (eqb above 3) h)
+  where
+    by-test : (a : Bool) → (a || false) ≡ true → a ≡ true
+    by-test true q = refl
+    by-test false q = q
+
+module _ (t : Tree) (s : ℕ) (e : role t s ≡ Elements) where
+  placed-is : placed t s ≡ (mayHold (role t (parent t s)) Elements && unstructured t (parent t s))
+  unfolding placed _⊃_
+  placed-is = rw (ne-eqb s 0 (not-root t s e), e)
+
+  pub complete-is : complete t s ≡ (found t (rangeOf t s) && found t (connectivityOf t s))
+  unfolding complete row
+  complete-is = rw e
+
+type-zone : (t : Tree) (z : ℕ) → role t z ≡ Zone → typeLawful t z ≡ (typed t z (I4 ∷ I8 ∷ []) && shaped t z (indexDimension t z ∷ 3 ∷ []))
+unfolding typeLawful row
+type-zone t z e = rw e
+
+-- a dimension is not 0
+some-size : (x : ℕ) → among 0 (x ∷ 3 ∷ []) ≡ false → 0 < product (x ∷ 3 ∷ [])
+unfolding among product
+some-size zero e = untrue (sym e)
+some-size (suc x) e = omega arith
+
+zone-has : (b : List ℕ) → Sound b → (z : ℕ) → z < nodeCount b → role (treeOf b) z ≡ Zone → typeLawful (treeOf b) z ≡ true → HasNumber b z 0
+unfolding recordRules dataSizeLawful
+zone-has b s z h r e =
+    let t = treeOf b in
+    let q = sym (type-zone t z r) ∙ e in
+    let d = shaped-is t z (indexDimension t z ∷ 3 ∷ []) (and-second (typed t z (I4 ∷ I8 ∷ [])) _ q) in
+    let n = not-true _ (and-first (not (among 0 (dimensions t z))) _ (record-rule b (s .table) 16 z h)) in
+    has-by b s z h (whole-wide t z (and-first (typed t z (I4 ∷ I8 ∷ [])) _ q)) (indexDimension t z ∷ 3 ∷ []) d 0
+    (some-size (indexDimension t z) (subst (λ (l : List ℕ). among 0 l ≡ false) d n))
+
+pub section-ready : {b : List ℕ} {s : ℕ} → NodesTo b s → validated (treeOf b) s ≡ true → role (treeOf b) s ≡ Elements → check s (sidsRules (treeOf b) s) ≡ passed → SectionContext b s
+unfolding sidsRules
+section-ready {b} {s} g v e c =
+    let t = treeOf b in
+    let held = check-pass s (sidsRules t s) c in
+    let p = sym (placed-is t s e) ∙ held .0 in
+    let full = sym (complete-is t s e) ∙ held .1 .1 .1 .0 in
+    let own = sym (type-section t s e) ∙ held .1 .1 .1 .1 .0 in
+    let z = zone-holds (role t (parent t s)) (and-first (mayHold (role t (parent t s)) Elements) _ p) in
+    let low = parent-lower t s (lawful-at b (g .sound) s (g .inside)) (not-root t s e) in
+    let vz = validated-above b (g .sound) s (g .inside) (not-root t s e) v in
+    record {
+      inside = g .inside;
+      elements = e;
+      kind-is = kind-role t s v e;
+      own = stores-pair (g .sound) s (g .inside) (whole-four t s (and-first (typed t s (I4 ∷ [])) _ own)) (and-second (typed t s (I4 ∷ [])) _ own);
+      below = low;
+      zone = zone-has b (g .sound) (parent t s) (omega arith) z (earlier-rule b s g 24 (parent t s) low vz);
+      ranged = range-ready (g .sound) s (and-first (found t (rangeOf t s)) _ full);
+      connectivity = connectivity-stores (g .sound) s e (and-second (found t (rangeOf t s)) _ full);
+      offsets = λ h. offsets-stores (g .sound) s e h;
+    }
