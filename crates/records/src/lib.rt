@@ -6,16 +6,17 @@ ghost use Rattle.model.specs.Image.{treeOf, nodeCount, recordAt, parent};
 ghost use Rattle.model.specs.Bounds.{Laid};
 ghost use Rattle.records.specs.Fields.{headerOf, numbersOf, recordOf};
 
-mod data;
-mod fields;
-mod types;
+mod data; // data.rt: dimension words and stored numbers
+mod fields; // fields.rt: the fields of a record that are bytes
+pub mod data_types; // data_types.rt: data types by their place among the eleven, and their widths
 
 pub use data::data_start;
 pub use data::dimension;
 pub use data::number;
-pub use types::data_type_of;
-pub use types::is_link;
-pub use types::width_of;
+pub use data_types::data_type_of;
+pub use data_types::is_link;
+pub use data_types::width_at;
+pub use data_types::width_of;
 
 // The header's eight words.
 pub struct Header {

@@ -5,8 +5,8 @@ use mathlib.Core.Path.{_≡_, refl, sym, _∙_}
 use lib.ListN.{drop}
 use borrow.Author.Needs.{needs}
 use Rattle.records.proofs.Codes.{place, typeCodes, type-by-code, place-here, place-on, place-end}
-use Rattle.records.proofs.types.data_type_of.Statement.{statement}
-use Rattle.records.proofs.types.data_type_of.Tie as tie
+use Rattle.records.proofs.data_types.data_type_of.Statement.{statement}
+use Rattle.records.proofs.data_types.data_type_of.Tie as tie
 
 abbrev Inv-loop : tie.InvT-loop
 Inv-loop image i code k₀ k = (k ≤ 11) × (place (k + 1) code (drop k typeCodes) ≡ place 1 code typeCodes)

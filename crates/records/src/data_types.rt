@@ -3,10 +3,23 @@ ghost use mathlib.Core.Path.{_≡_};
 ghost use mathlib.Core.List.{[], _∷_};
 ghost use Prim.Native.Nat.{_≤_, _<_, _%_, _/_};
 ghost use lib.ListN.{getD};
-ghost use Rattle.model.specs.Image.{treeOf, nodeCount, node, dataType, widths};
+ghost use Rattle.model.specs.Image.{treeOf, nodeCount, node, dataType, width, widths};
 ghost use Rattle.model.specs.Records.{link};
 ghost use Rattle.model.specs.Bounds.{Laid};
 use super::Record;
+
+// Data types by their place among the eleven, counted from 1; 0 is no data type.
+pub const MT: u64 = 1;
+
+pub const C1: u64 = 2;
+
+pub const I4: u64 = 4;
+
+pub const R4: u64 = 6;
+
+pub const I8: u64 = 7;
+
+pub const R8: u64 = 9;
 
 // The data types by their two bytes, the lower first: MT C1 B1 I4 U4 R4 I8 U8 R8 X4 X8.
 const CODES: [u64; 11] = [
@@ -68,4 +81,12 @@ pub fn width_of(data_type: u64) -> u64
     ensures { λ r. ⌜ (r ≡ getD widths data_type 0) × (r ≤ 16) ⌝ }
 {
     WIDTHS[data_type as usize]
+}
+
+// The width in bytes of what node i stores.
+pub fn width_at(image: &[u8], i: usize) -> usize
+    requires { ⌜ Laid (now image) × (i < nodeCount (now image)) ⌝ }
+    ensures { λ r. ⌜ (r ≡ width (treeOf (now (image .entry))) i) × (r ≤ 16) ⌝ }
+{
+    width_of(data_type_of(image, i)) as usize
 }

@@ -6,8 +6,8 @@ use borrow.Author.Needs.{needs}
 use Rattle.model.specs.Image.{nodeCount, recordAt}
 use Rattle.model.proofs.Reading.{type-at}
 use Rattle.records.proofs.Codes.{two-bytes}
-use Rattle.records.proofs.types.type_code.Statement.{statement}
-use Rattle.records.proofs.types.type_code.Tie as tie
+use Rattle.records.proofs.data_types.type_code.Statement.{statement}
+use Rattle.records.proofs.data_types.type_code.Tie as tie
 
 returns : tie.Need-returns
 returns c =

@@ -2,8 +2,8 @@ use borrow.Author.Needs.{needs}
 use mathlib.Core.Path.{refl}
 use Rattle.model.specs.Image.{widths}
 use Rattle.records.proofs.Codes.{bounded}
-use Rattle.records.proofs.types.width_of.Statement.{statement}
-use Rattle.records.proofs.types.width_of.Tie as tie
+use Rattle.records.proofs.data_types.width_of.Statement.{statement}
+use Rattle.records.proofs.data_types.width_of.Tie as tie
 
 returns : tie.Need-returns
 unfolding widths

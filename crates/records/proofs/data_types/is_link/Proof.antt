@@ -1,7 +1,7 @@
 use borrow.Author.Needs.{needs}
 use Rattle.records.proofs.Codes.{link-by-code}
-use Rattle.records.proofs.types.is_link.Statement.{statement}
-use Rattle.records.proofs.types.is_link.Tie as tie
+use Rattle.records.proofs.data_types.is_link.Statement.{statement}
+use Rattle.records.proofs.data_types.is_link.Tie as tie
 
 returns : tie.Need-returns
 returns c = link-by-code _ _ _ (c .type-code .ensures .0)
