@@ -1,4 +1,5 @@
--- What stands above a validated node: a validated node, of a kind that the placing table lets hold it. Where validation has come to a node, the rules hold at those before it.
+-- What stands above a validated node: a validated node, of a kind that the placing table lets hold it. Where validation has come to a node, the rules hold at
+-- those before it.
 use Prim.Native.Nat.{ℕ, _<_}
 use mathlib.Core.Path.{_≡_, refl, sym, _∙_}
 use mathlib.Core.Bool.{Bool, true, false, cond}
@@ -15,7 +16,8 @@ use Rattle.model.proofs.Passed.{Hold, Claim, claim, check-pass, hold-le
 use Rattle.model.proofs.Validated.{joins, validated-step}
 
 -- the parent of a validated node is validated
-pub validated-above : (b : List ℕ) → Sound b → (i : ℕ) → i < nodeCount b → (i ≡ 0 → ⊥) → validated (treeOf b) i ≡ true → validated (treeOf b) (parent (treeOf b) i) ≡ true
+pub validated-above : (b : List ℕ) → Sound b → (i : ℕ) → i < nodeCount b → (i ≡ 0 → ⊥) → validated (treeOf b) i ≡ true
+    → validated (treeOf b) (parent (treeOf b) i) ≡ true
 validated-above b s i h n e = and-second (joins (treeOf b) i) _ (sym (validated-step b s i h n) ∙ e)
 
 -- validation has come to node i: the rules hold at a validated node before it

@@ -139,5 +139,19 @@ cases =
 
 pub all-right : Right cases
 unfolding computed
-all-right =
-    (refl, (refl, (refl, (refl, (refl, (refl, (refl, (refl, (refl, (refl, (refl, (refl, (refl, (refl, ((refl, refl), (refl, ((refl, refl), (refl, (refl, tt)))))))))))))))))))
+all-right = (
+  refl,
+  (
+    refl,
+    (
+      refl,
+      (
+        refl,
+        (
+          refl,
+          (refl, (refl, (refl, (refl, (refl, (refl, (refl, (refl, (refl, ((refl, refl), (refl, ((refl, refl), (refl, (refl, tt)))))))))))))),
+        ),
+      ),
+    ),
+  ),
+)

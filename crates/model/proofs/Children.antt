@@ -22,7 +22,8 @@ module _ (b : List ℕ) (s : Sound b) where
       let q = parent-none (treeOf b) (lawful-at b s 0 (omega arith)) in
       ne-eqb (parent (treeOf b) 0) i (λ (z : parent (treeOf b) 0 ≡ i). absurd (omega arith))
   no-child i h (suc j) l =
-      let q : parent (treeOf b) (suc j) < suc j = parent-lower (treeOf b) (suc j) (lawful-at b s (suc j) (omega arith)) (λ (z : suc j ≡ 0). absurd (omega arith)) in
+      let q : parent (treeOf b) (suc j) < suc j =
+      parent-lower (treeOf b) (suc j) (lawful-at b s (suc j) (omega arith)) (λ (z : suc j ≡ 0). absurd (omega arith)) in
       ne-eqb (parent (treeOf b) (suc j)) i (λ (z : parent (treeOf b) (suc j) ≡ i). absurd (omega arith))
 
   -- the search for a child
@@ -31,7 +32,8 @@ module _ (b : List ℕ) (s : Sound b) where
   child-start i r n h = seek-start (isChild (treeOf b) i r n) (nodeCount b) (i + 1) (omega arith) (λ j l. rw (no-child i h j (omega arith)))
 
   -- the search for an earlier sibling of the same role
-  pub sibling-start : (i : ℕ) → i < nodeCount b → (i ≡ 0 → ⊥) → SomeLeft (sameRole (treeOf b) i) i (parent (treeOf b) i + 1) (someFrom (sameRole (treeOf b) i) i 0)
+  pub sibling-start : (i : ℕ) → i < nodeCount b → (i ≡ 0 → ⊥)
+      → SomeLeft (sameRole (treeOf b) i) i (parent (treeOf b) i + 1) (someFrom (sameRole (treeOf b) i) i 0)
   unfolding sameRole sibling
   sibling-start i h z =
       let q : parent (treeOf b) i < i = parent-lower (treeOf b) i (lawful-at b s i h) z in

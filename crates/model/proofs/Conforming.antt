@@ -51,11 +51,15 @@ module _ (t : Tree) (i r : ℕ) (n : List ℕ) (h : found t (conforming t i r n)
 
   pub conforming-parent : parent t (conforming t i r n) ≡ i
   unfolding isChild
-  conforming-parent = eqb-true _ _ (and-first (eqb (parent t (conforming t i r n)) i) _ (and-first (eqb (parent t (conforming t i r n)) i && eqb (role t (conforming t i r n)) r) _ is-child))
+  conforming-parent = eqb-true _ _
+      (and-first (eqb (parent t (conforming t i r n)) i) _
+      (and-first (eqb (parent t (conforming t i r n)) i && eqb (role t (conforming t i r n)) r) _ is-child))
 
   pub conforming-role : role t (conforming t i r n) ≡ r
   unfolding isChild
-  conforming-role = eqb-true _ _ (and-second (eqb (parent t (conforming t i r n)) i) _ (and-first (eqb (parent t (conforming t i r n)) i && eqb (role t (conforming t i r n)) r) _ is-child))
+  conforming-role = eqb-true _ _
+      (and-second (eqb (parent t (conforming t i r n)) i) _
+      (and-first (eqb (parent t (conforming t i r n)) i && eqb (role t (conforming t i r n)) r) _ is-child))
 
   pub conforming-name : spells (name t (conforming t i r n)) n ≡ true
   unfolding isChild

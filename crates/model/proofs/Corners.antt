@@ -11,9 +11,11 @@ use Rattle.model.specs.Bytes.{negative, below, signed, half}
 use Rattle.model.specs.Rules.{rejected, answer, rejection, _unless_, check, _then_, _gives_}
 use Rattle.model.specs.Image.{treeOf, width, number}
 use Rattle.model.specs.Values.{offsetsOf, connectivityOf}
-use Rattle.model.specs.Elements.{nodesPer, hasOffsets, elementType, firstElement, lastElement, elementCount, startOffset, reference, connectivityLength, elementStart, elementSize, cornerReference, elementRules}
+use Rattle.model.specs.Elements.{nodesPer, hasOffsets, elementType, firstElement, lastElement, elementCount, startOffset, reference, connectivityLength}
+use Rattle.model.specs.Elements.{elementStart, elementSize, cornerReference, elementRules}
 use Rattle.model.specs.Sections.{entry, dataStart}
-use Rattle.model.specs.Corner.{inEntry, inside, numberAt, entryStart, entrySize, startsBefore, readable, isCorner, cornerCheck, cornerNumber, cornerAnswer}
+use Rattle.model.specs.Corner.{inEntry, inside, numberAt, entryStart, entrySize, startsBefore, readable, isCorner, cornerCheck, cornerNumber}
+use Rattle.model.specs.Corner.{cornerAnswer}
 use Rattle.model.specs.ElementCorners.{elementCornersCheck, elementCornersAnswer}
 use Rattle.model.proofs.Logic.{and-both, implied, between, not-between}
 use Rattle.model.proofs.Accepted.{table-passed}
@@ -31,13 +33,15 @@ module _ {b : List ℕ} {z s : ℕ} (a : InZone b z s) where
       j = offsetsOf (treeOf b) s
 
       by-type : (t : Bool) → hasOffsets (elementType (treeOf b) s) ≡ t
-          → cond t (numberAt b (dataStart (treeOf b) j) (width (treeOf b) j) k) (k * nodesPer (elementType (treeOf b) s)) ≡ cond t (number (treeOf b) j k) (k * nodesPer (elementType (treeOf b) s))
+          → cond t (numberAt b (dataStart (treeOf b) j) (width (treeOf b) j) k) (k * nodesPer (elementType (treeOf b) s))
+          ≡ cond t (number (treeOf b) j k) (k * nodesPer (elementType (treeOf b) s))
       by-type true o = indices-at b (table-passed b (a .accepted)) j (offsets a o) k (omega (arith, offsets-size a o))
       by-type false o = refl
 
   -- the tests of 43
   offsets-inside : (k : ℕ) → k < elementCount (treeOf b) s
-      → (hasOffsets (elementType (treeOf b) s) ⊃ inside b (dataStart (treeOf b) (offsetsOf (treeOf b) s)) (width (treeOf b) (offsetsOf (treeOf b) s)) (k + 2)) ≡ true
+      → (hasOffsets (elementType (treeOf b) s) ⊃ inside b (dataStart (treeOf b) (offsetsOf (treeOf b) s)) (width (treeOf b) (offsetsOf (treeOf b) s)) (k + 2))
+      ≡ true
   offsets-inside k h =
       implied (hasOffsets (elementType (treeOf b) s)) _
       (λ o. indices-inside b (table-passed b (a .accepted)) (offsetsOf (treeOf b) s) (offsets a o) (k + 2) (omega (arith, offsets-size a o)))
@@ -96,7 +100,8 @@ module _ {b : List ℕ} {z s : ℕ} (a : InZone b z s) where
   number-read k c h l m =
       rw (start-read k (omega arith))
       (ap (signed (width (treeOf b) (connectivityOf (treeOf b) s)))
-      (indices-at b (table-passed b (a .accepted)) (connectivityOf (treeOf b) s) (connectivity a) (elementStart (treeOf b) s k + (c - 1)) (corner-inside k c h l m)))
+      (indices-at b (table-passed b (a .accepted)) (connectivityOf (treeOf b) s) (connectivity a) (elementStart (treeOf b) s k + (c - 1))
+      (corner-inside k c h l m)))
 
   -- an element of the range is one of the elements
   pub element-inside : (el : ℕ) → firstElement (treeOf b) s ≤ el → el ≤ lastElement (treeOf b) s
@@ -125,7 +130,8 @@ module _ {b : List ℕ} {z s : ℕ} (a : InZone b z s) where
 
     -- past 41 and 43 only the corner's number counts
     past : cornerAnswer b (entry (treeOf b) s) el c
-        ≡ (check 0 (42 unless isCorner b (entry (treeOf b) s) (el - firstElement (treeOf b) s) c ∷ []) gives cornerNumber b (entry (treeOf b) s) (el - firstElement (treeOf b) s) c)
+        ≡ (check 0 (42 unless isCorner b (entry (treeOf b) s) (el - firstElement (treeOf b) s) c ∷ []) gives cornerNumber b (entry (treeOf b) s)
+        (el - firstElement (treeOf b) s) c)
     unfolding cornerAnswer cornerCheck check entry
     past = rw (in-entry, can-read)
 
@@ -150,6 +156,7 @@ module _ {b : List ℕ} {z s : ℕ} (a : InZone b z s) where
 
     -- all corners at once: past 41 and 43 only the room counts
     pub element-answer : (room : ℕ) → elementCornersAnswer b (entry (treeOf b) s) el room
-        ≡ (check 0 (46 unless leb (elementSize (treeOf b) s (el - firstElement (treeOf b) s)) room ∷ []) gives elementSize (treeOf b) s (el - firstElement (treeOf b) s))
+        ≡ (check 0 (46 unless leb (elementSize (treeOf b) s (el - firstElement (treeOf b) s)) room ∷ []) gives elementSize (treeOf b) s
+        (el - firstElement (treeOf b) s))
     unfolding elementCornersAnswer elementCornersCheck check entry
     element-answer room = rw (in-entry, can-read, size-read (el - firstElement (treeOf b) s) (element-inside el l m))

@@ -19,7 +19,8 @@ use Rattle.model.specs.Sections.{sectionNodes, entry, entries, sectionsC
 use Rattle.model.specs.Corner.{cornerAnswer}
 use Rattle.model.specs.Answers.{cornerTells}
 use Rattle.model.specs.Reads.{readAnswer, ReadMade, IsRead}
-use Rattle.model.specs.Demand3.{sectionCount, sectionNode, given, InSection, sizeIn, SizeExact, IsCornerOf, storedAt, NodeNumber, FaceNumber, ReadAnswers, ReadHolds, Listed, Claim3, Demand3, EntriesGiven}
+use Rattle.model.specs.Demand3.{sectionCount, sectionNode, given, InSection, sizeIn, SizeExact, IsCornerOf, storedAt, NodeNumber, FaceNumber, ReadAnswers}
+use Rattle.model.specs.Demand3.{ReadHolds, Listed, Claim3, Demand3, EntriesGiven}
 use Rattle.model.proofs.Logic.{inside-or-not}
 use Rattle.model.proofs.ReaderCases.{ReaderCase, outside, lacking, stored, case-41, case-rule, case-no-other, case-value, case-stored}
 use Rattle.model.proofs.Passed.{check-pass, then-first, then-second, gives-check, gives-value}
@@ -52,7 +53,8 @@ module _ (b : List ℕ) (ok : imageCheck b ≡ passed) (z : ℕ) (rest : List �
       let w = section-at (treeOf b) z k h in
       record { accepted = ok; listed = omega (arith, w .to); is-section = w .holds }
 
-  pub read-case : (k el c : ℕ) → k < sectionCount (treeOf b) z → (a : Answer ℤ) → a ≡ readAnswer b (given b z rest .entries) k el c → CornerCase (treeOf b) z k el c a
+  pub read-case : (k el c : ℕ) → k < sectionCount (treeOf b) z → (a : Answer ℤ) → a ≡ readAnswer b (given b z rest .entries) k el c
+      → CornerCase (treeOf b) z k el c a
   read-case k el c h a e = rw (e, read-is b z rest k h el c) (corner-cases k (in-zone k h) el c)
 
   step-case : (m : ReadMade) → IsRead m → m .found ≡ given b z rest → Listed b z rest (m .asked)

@@ -26,9 +26,11 @@ use Rattle.model.specs.Answers.{cornerTells}
 use Rattle.model.specs.Reads.{sectionAt, readAnswer, ReadState, IsRead, done, next, AllOf, all-none, all-more}
 use Rattle.model.specs.ReadList.{ruleOf, cornerFrom}
 use Rattle.model.specs.ElementCorners.{elementCornersAnswer, elementCornersMemory}
-use Rattle.model.specs.Exports.{wordsFit, exportRule, exportBytes, exportMemory, countWords, sectionIn, readFits, cornerExported, numberBytes, elementExported, sizeWord, ElementExport}
+use Rattle.model.specs.Exports.{wordsFit, exportRule, exportBytes, exportMemory, countWords, sectionIn, readFits, cornerExported, numberBytes}
+use Rattle.model.specs.Exports.{elementExported, sizeWord, ElementExport}
 use Rattle.model.specs.Demand3.{sectionCount, sectionNode, given, InSection, sizeIn, Listed, ReadHolds}
-use Rattle.model.specs.Demand3Calls.{StructsGiven, ElementAnswers, CornerCall, Copied, CopiedNumbers, IsCornerCall, readMade, CallRun, no-call, next-call, ElementCall, SectionsGiven}
+use Rattle.model.specs.Demand3Calls.{StructsGiven, ElementAnswers, CornerCall, Copied, CopiedNumbers, IsCornerCall, readMade, CallRun, no-call, next-call}
+use Rattle.model.specs.Demand3Calls.{ElementCall, SectionsGiven}
 use Rattle.model.proofs.Logic.{inside-or-not}
 use Rattle.model.proofs.Passed.{check-pass, then-first, then-second, gives-check, gives-value}
 use Rattle.model.proofs.LittleEndian.{le-written, signed-bits, bits-small}
@@ -67,7 +69,8 @@ structs-given b z out e =
 module _ (b : List ℕ) (ok : imageCheck b ≡ passed) (z : ℕ) (rest : List ℕ) (k : ℕ) (h : k < sectionCount (treeOf b) z) (element : ℕ) where
   ElementCase : ℕ → Answer ℕ → Type 0
   ElementCase room a =
-      ReaderCase (InSection (treeOf b) z k element) (sizeIn (treeOf b) z k element ≤ room) (room < sizeIn (treeOf b) z k element) 46 (sizeIn (treeOf b) z k element) a
+      ReaderCase (InSection (treeOf b) z k element) (sizeIn (treeOf b) z k element ≤ room) (room < sizeIn (treeOf b) z k element) 46
+      (sizeIn (treeOf b) z k element) a
 
   element-case : (room : ℕ) → ElementCase room (elementCornersAnswer b (sectionAt (given b z rest .entries) k) element room)
   unfolding ElementCase check _gives_ _then_
@@ -83,7 +86,8 @@ module _ (b : List ℕ) (ok : imageCheck b ≡ passed) (z : ℕ) (rest : List �
       by-room : InSection (treeOf b) z k element
           → elementCornersAnswer b (entry (treeOf b) (sectionNode (treeOf b) z k)) element room
           ≡ (check 0 (46 unless leb (sizeIn (treeOf b) z k element) room ∷ []) gives sizeIn (treeOf b) z k element)
-          → (u : Bool) → leb (sizeIn (treeOf b) z k element) room ≡ u → ElementCase room (elementCornersAnswer b (entry (treeOf b) (sectionNode (treeOf b) z k)) element room)
+          → (u : Bool) → leb (sizeIn (treeOf b) z k element) room ≡ u
+          → ElementCase room (elementCornersAnswer b (entry (treeOf b) (sectionNode (treeOf b) z k)) element room)
       by-room i e true q = stored i (leb-true _ _ q) (e ∙ rw q)
       by-room i e false q = lacking i (leb-false _ _ q) (e ∙ rw q)
 
@@ -115,7 +119,17 @@ module _ (b : List ℕ) (ok : imageCheck b ≡ passed) (z : ℕ) (rest : List �
 -- the bytes that a caller copied hold the k-th entry
 section-front : (l : List ℕ) → sectionAt (take 9 l) 0 ≡ sectionAt l 0
 unfolding sectionAt
-section-front l = rw (at 0 (omega arith), at 1 (omega arith), at 2 (omega arith), at 3 (omega arith), at 4 (omega arith), at 5 (omega arith), at 6 (omega arith), at 7 (omega arith), at 8 (omega arith))
+section-front l = rw (
+  at 0 (omega arith),
+  at 1 (omega arith),
+  at 2 (omega arith),
+  at 3 (omega arith),
+  at 4 (omega arith),
+  at 5 (omega arith),
+  at 6 (omega arith),
+  at 7 (omega arith),
+  at 8 (omega arith),
+)
   where
     at : (j : ℕ) → j < 9 → getD (take 9 l) j 0 ≡ getD l j 0
     at j h = getD-take 9 l j 0 h
@@ -143,7 +157,8 @@ taken-back {v = v} a number (stored _ _ e) s =
 
 module _ (b : List ℕ) (c : Counts) (acc : validation b ≡ answer c) (z : ℕ) (zone : isZone (treeOf b) z ≡ true) (rest : List ℕ) where
   -- numbers so read are small: a node number is at most VertexSize, a face number's magnitude an element number
-  small : (k element corner : ℕ) → k < sectionCount (treeOf b) z → (n : ℤ) → readAnswer b (given b z rest .entries) k element corner ≡ answer n → natAbs n ≤ 2147483647
+  small : (k element corner : ℕ) → k < sectionCount (treeOf b) z → (n : ℤ) → readAnswer b (given b z rest .entries) k element corner ≡ answer n
+      → natAbs n ≤ 2147483647
   small k element corner h n e =
       let ok = accepted b acc in
       let r = read-answers b ok z rest zone k element corner h (Corner.Number n) (read-case b ok z rest k element corner h (answer n) (sym e)) in
@@ -161,7 +176,8 @@ module _ (b : List ℕ) (c : Counts) (acc : validation b ≡ answer c) (z : ℕ)
       let w = i .exported in
       let a = readAnswer b (given b z rest .entries) (q .which) (q .element) (q .corner) in
       let e : cornerExported (m .found .image) (m .section) (q .element) (q .corner) (m .number) ≡ a =
-      rw (read-fits 72 (m .section) (m .number) (i .copied .whole) (i .room), section-copied (i .copied), f) (sym (read-listed b (given b z rest .entries) (q .which) (q .element) (q .corner) (entry-listed b z rest (q .which) h))) in
+      rw (read-fits 72 (m .section) (m .number) (i .copied .whole) (i .room), section-copied (i .copied), f)
+      (sym (read-listed b (given b z rest .entries) (q .which) (q .element) (q .corner) (entry-listed b z rest (q .which) h))) in
       record {
         answers = rw (w .rule-is, w .number-is, e, f)
             (taken-back a (m .number) (read-case b ok z rest (q .which) (q .element) (q .corner) h a refl)
@@ -183,7 +199,8 @@ module _ (b : List ℕ) (c : Counts) (acc : validation b ≡ answer c) (z : ℕ)
       first-of : AllOf (ReadHolds b z rest) (readMade m ∷ []) → ReadHolds b z rest (readMade m)
       first-of (all-more x none) = x
 
-  size-few : (k element room : ℕ) → k < sectionCount (treeOf b) z → (n : ℕ) → elementCornersAnswer b (sectionAt (given b z rest .entries) k) element room ≡ answer n → n ≤ 16777216
+  size-few : (k element room : ℕ) → k < sectionCount (treeOf b) z → (n : ℕ)
+      → elementCornersAnswer b (sectionAt (given b z rest .entries) k) element room ≡ answer n → n ≤ 16777216
   unfolding ElementCase elementSize connectivityLength
   size-few k element room h n q =
       let ok = accepted b acc in
@@ -193,7 +210,8 @@ module _ (b : List ℕ) (c : Counts) (acc : validation b ≡ answer c) (z : ℕ)
       omega (arith, w .2, s .ends-inside, indices-few b (table-passed b ok) _ (connectivity a))
 
   -- a call of the export of all corners
-  pub element-call : (k element : ℕ) (section : List ℕ) (out : List ℤ) (size : List ℕ) (r : ℕ) (b′ section′ : List ℕ) (out′ : List ℤ) (size′ : List ℕ) → k < sectionCount (treeOf b) z
+  pub element-call : (k element : ℕ) (section : List ℕ) (out : List ℤ) (size : List ℕ) (r : ℕ) (b′ section′ : List ℕ) (out′ : List ℤ) (size′ : List ℕ)
+      → k < sectionCount (treeOf b) z
       → CopiedNumbers (given b z rest .entries) k section → 8 ≤ length size → ElementExport b section element out size r b′ section′ out′ size′
       → ElementCall b z rest k element out r out′ size′
   unfolding elementExported ruleOf sizeWord leaves over _then_

@@ -24,7 +24,8 @@ unfolding elementCornersCheck
 can-read b e element room q = let h = check-pass 0 _ q in (h .0, h .1 .0)
 
 -- where the call answers, the c-th number in front is what the corner reader answers at corner c
-pub by-corner-reads : (b : List ℕ) (e : Section) (element : ℕ) (out : List ℤ) (n c : ℕ) → elementCornersAnswer b e element (length out) ≡ answer n → 1 ≤ c → c ≤ n
+pub by-corner-reads : (b : List ℕ) (e : Section) (element : ℕ) (out : List ℤ) (n c : ℕ) → elementCornersAnswer b e element (length out) ≡ answer n → 1 ≤ c
+    → c ≤ n
     → cornerAnswer b e element c ≡ answer (getD (elementCornersMemory b e element out) (c - 1) (pos 0))
 unfolding elementCornersAnswer elementCornersMemory cornerAnswer cornerCheck check isCorner leaves _gives_ _then_
 by-corner-reads b e element out n c q l h =

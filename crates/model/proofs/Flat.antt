@@ -22,7 +22,8 @@ entries-length t [] = refl
 entries-length t (s ∷ ns) = ap suc (entries-length t ns)
 
 -- as structs
-pub struct-at : (t : Tree) (ns : List ℕ) (rest : List Section) (none : Section) (k : ℕ) → k < length ns → getD (entries t ns ++ rest) k none ≡ entry t (getD ns k 0)
+pub struct-at : (t : Tree) (ns : List ℕ) (rest : List Section) (none : Section) (k : ℕ) → k < length ns
+    → getD (entries t ns ++ rest) k none ≡ entry t (getD ns k 0)
 unfolding entries
 struct-at t [] rest none k h = absurd (omega arith)
 struct-at t (s ∷ ns) rest none zero h = refl

@@ -15,7 +15,8 @@ use Rattle.model.specs.Rules.{passed}
 use Rattle.model.specs.Image.{Tree, treeOf, nodeCount, nodeOf, nodesOf, node, name, dimensions, width, number, I4, I8}
 use Rattle.model.specs.Containment.{role, Elements, IndexRange, DataArray, sectionOf, found}
 use Rattle.model.specs.Values.{sidsRules, size, typed, indexArray, complete, rangeValue, valueLawful, conforming, rangeOf, offsetsOf, connectivityOf}
-use Rattle.model.specs.Elements.{nodesPer, hasOffsets, taken, elementType, firstElement, lastElement, elementCount, startOffset, connectivityLength, elementStart, elementRules, lengthsFit, startsAtZero, rises, allRise, endsAtLength}
+use Rattle.model.specs.Elements.{nodesPer, hasOffsets, taken, elementType, firstElement, lastElement, elementCount, startOffset, connectivityLength}
+use Rattle.model.specs.Elements.{elementStart, elementRules, lengthsFit, startsAtZero, rises, allRise, endsAtLength}
 use Rattle.model.specs.Validation.{imageCheck}
 use Rattle.model.proofs.Logic.{untrue, and-first, and-second, or-left, or-right, or-cases, when}
 use Rattle.model.proofs.Walks.{every-at}

@@ -66,7 +66,8 @@ of-table : (b : List ℕ) → Numbered (tableCheck b)
 unfolding tableCheck headerCheck headerRules recordCheck recordCheckAt recordRules trailingCheck fromOne
 of-table b =
     of-then (headerCheck b) (recordCheck (treeOf b) then trailingCheck (treeOf b)) (of-check 0 (headerRules b) refl)
-    (of-then (recordCheck (treeOf b)) (trailingCheck (treeOf b)) (of-walk (recordCheckAt (treeOf b)) (λ i. of-check i (recordRules (treeOf b) i) refl) (treeOf b .count) 0)
+    (of-then (recordCheck (treeOf b)) (trailingCheck (treeOf b))
+    (of-walk (recordCheckAt (treeOf b)) (λ i. of-check i (recordRules (treeOf b) i) refl) (treeOf b .count) 0)
     (of-check (treeOf b .count) _ refl))
 
 of-node : (t : Tree) (i : ℕ) → Numbered (nodeCheckAt t i)
@@ -98,7 +99,8 @@ of-nodes t z zero s bytes = tt
 of-nodes t z (suc n) s bytes = of-into (useEntries t s (usesIn t z s) 0 bytes) _ (of-entries t s (usesIn t z s) 0 bytes) (λ later. of-nodes t z n (suc s) later)
 
 pub all-numbered : (b : List ℕ) → AllNumbered b
-unfolding validation sectionsAnswer sectionsCheck cornerAnswer cornerCheck elementCornersAnswer elementCornersCheck usageAnswer usageCheck usage pathAnswer pathCheck dataSizeAnswer valueAnswer valueCheck fromOne
+unfolding validation sectionsAnswer sectionsCheck cornerAnswer cornerCheck elementCornersAnswer elementCornersCheck usageAnswer usageCheck usage pathAnswer
+    pathCheck dataSizeAnswer valueAnswer valueCheck fromOne
 all-numbered b =
     record {
       of-validation = of-gives (imageCheck b) _ (of-image b);

@@ -27,7 +27,8 @@ module _ {A In Fits Lacks : Type 0} {rule : ℕ} {v : A} {a : Answer A} where
   case-rule d f (stored i j e) = (λ x. refused (sym x ∙ e), λ x. absurd (f j (x .1)))
 
   -- 41 and that rule are the only refusals
-  pub case-no-other : (other : ℕ) → (41 ≡ other → ⊥) → (rule ≡ other → ⊥) → ReaderCase In Fits Lacks rule v a → (why : Rejection) → a ≡ rejected why → why .rule ≡ other → ⊥
+  pub case-no-other : (other : ℕ) → (41 ≡ other → ⊥) → (rule ≡ other → ⊥) → ReaderCase In Fits Lacks rule v a → (why : Rejection) → a ≡ rejected why
+      → why .rule ≡ other → ⊥
   case-no-other other d f (outside n e) why x r = d (let q : _≡_ {A = ℕ} 41 other = cc in q)
   case-no-other other d f (lacking i n e) why x r = f (let q : _≡_ {A = ℕ} rule other = cc in q)
   case-no-other other d f (stored i j e) why x r = refused (sym x ∙ e)

@@ -7,7 +7,8 @@ use native.Mathlib.Numerals.{add-one}
 use lib.ListN.{getD, take, drop}
 use lib.Seq.{drop-drop, drop-nil, take-nil}
 use Rattle.model.specs.Bytes.{le, numbers}
-use Rattle.model.specs.Image.{Node, nodeOf, nodesOf, node, treeOf, nodeCount, recordAt, name, label, parent, dimensions, stored, number, width, dataOffset, dimensionOffset}
+use Rattle.model.specs.Image.{Node, nodeOf, nodesOf, node, treeOf, nodeCount, recordAt, name, label, parent, dimensions, stored, number, width}
+use Rattle.model.specs.Image.{dataOffset, dimensionOffset}
 
 -- the lowest byte, and the rest
 pub le-step : (w : ℕ) (b : List ℕ) (p : ℕ) → le (suc w) (drop p b) ≡ getD b p 0 + 256 * le w (drop (p + 1) b)

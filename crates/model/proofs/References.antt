@@ -12,8 +12,10 @@ use Rattle.model.specs.Bytes.{text, same, signed}
 use Rattle.model.specs.Rules.{passed}
 use Rattle.model.specs.Image.{Tree, treeOf, nodeCount, parent, stored, width}
 use Rattle.model.specs.Containment.{role, Zone, Elements, isZone, validatedAs, validated, sectionOf, mayHold}
-use Rattle.model.specs.Values.{sidsRules, reads, structured, unstructured, zoneTypeOf, indexDimension, vertexSize, cellSize, unstructuredSizes, zoneValue, typeLawful, valueLawful, placed, connectivityOf}
-use Rattle.model.specs.Elements.{NGON, NFACE, elementType, firstElement, lastElement, inRange, meets, overlap, overlaps, reference, connectivityLength, isNode, allNodes, faceSection, hasFace, faceOf, faceNumber, isFace, allFaces, elementRules}
+use Rattle.model.specs.Values.{sidsRules, reads, structured, unstructured, zoneTypeOf, indexDimension, vertexSize, cellSize, unstructuredSizes, zoneValue}
+use Rattle.model.specs.Values.{typeLawful, valueLawful, placed, connectivityOf}
+use Rattle.model.specs.Elements.{NGON, NFACE, elementType, firstElement, lastElement, inRange, meets, overlap, overlaps, reference, connectivityLength}
+use Rattle.model.specs.Elements.{isNode, allNodes, faceSection, hasFace, faceOf, faceNumber, isFace, allFaces, elementRules}
 use Rattle.model.specs.Validation.{imageCheck}
 use Rattle.model.proofs.Logic.{same-is, untrue, and-first, and-second, and-both, or-cases, when, neither}
 use Rattle.model.proofs.Walks.{every-at, some-by, some-at}

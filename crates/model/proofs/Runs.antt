@@ -9,7 +9,8 @@ use Rattle.model.specs.declared.Corner.the-variants as Corner
 use Rattle.model.specs.Rules.{Answer, rejected, answer, rejection, check, _then_}
 use Rattle.model.specs.Corner.{cornerAnswer}
 use Rattle.model.specs.Answers.{cornerTells}
-use Rattle.model.specs.Reads.{CornerRead, EntryRead, entriesIn, sectionAt, readAnswer, ReadState, Request, ReadMade, IsRead, ReadRun, done, next, AllOf, all-none, all-more}
+use Rattle.model.specs.Reads.{CornerRead, EntryRead, entriesIn, sectionAt, readAnswer, ReadState, Request, ReadMade, IsRead, ReadRun, done, next, AllOf}
+use Rattle.model.specs.Reads.{all-none, all-more}
 
 -- a read with an entry of the list is the corner reader's
 pub read-listed : (image entries : List ℕ) (k element corner : ℕ) → k < entriesIn entries
@@ -18,7 +19,8 @@ unfolding readAnswer check _then_
 read-listed image entries k element corner h = rw (lt-ltb k (entriesIn entries) h)
 
 -- and 40 where the list has none
-pub read-unlisted : (image entries : List ℕ) (k element corner : ℕ) → entriesIn entries ≤ k → readAnswer image entries k element corner ≡ rejected (rejection 40 0)
+pub read-unlisted : (image entries : List ℕ) (k element corner : ℕ) → entriesIn entries ≤ k
+    → readAnswer image entries k element corner ≡ rejected (rejection 40 0)
 unfolding readAnswer check _then_
 read-unlisted image entries k element corner h = rw (le-ltb k (entriesIn entries) h)
 

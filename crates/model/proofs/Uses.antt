@@ -17,8 +17,10 @@ use Rattle.model.specs.Rules.{rejected, answer, passed, repetition, _int
 use Rattle.model.specs.Image.{Tree, treeOf, nodeCount, parent, width}
 use Rattle.model.specs.Containment.{sectionOf}
 use Rattle.model.specs.Values.{connectivityOf}
-use Rattle.model.specs.Elements.{NFACE, elementType, connectivityLength, firstElement, lastElement, elementCount, inRange, faceSection, hasFace, faceOf, faceNumber, isFace, allFaces, reference, elementRules}
-use Rattle.model.specs.FaceUsage.{facesIn, faceCount, facePlace, usePlace, useSign, unused, elementHolding, useEntry, useEntries, usesIn, useNodes, usage, positiveUses, negativeUses, cellEntries}
+use Rattle.model.specs.Elements.{NFACE, elementType, connectivityLength, firstElement, lastElement, elementCount, inRange, faceSection, hasFace, faceOf}
+use Rattle.model.specs.Elements.{faceNumber, isFace, allFaces, reference, elementRules}
+use Rattle.model.specs.FaceUsage.{facesIn, faceCount, facePlace, usePlace, useSign, unused, elementHolding, useEntry, useEntries, usesIn, useNodes, usage}
+use Rattle.model.specs.FaceUsage.{positiveUses, negativeUses, cellEntries}
 use Rattle.model.specs.Validation.{imageCheck}
 use Rattle.model.proofs.Logic.{untrue, and-first, and-second, when}
 use Rattle.model.proofs.Walks.{every-at, Some, some-at, seek-holds, seek-before, sum-part}
@@ -119,7 +121,9 @@ module _ (t : Tree) (faces : ℕ) where
       minus : Bool
       minus = negative (width t (connectivityOf t s)) (reference t s k)
 
-      by-test : (u : Bool) → unused (cond minus 2 1) (getD bytes p 0) ≡ u → cond u (answer (set bytes p (getD bytes p 0 + cond minus 2 1))) (rejected (repetition s (elementHolding t s k))) ≡ answer after → Used faces 1 bytes after
+      by-test : (u : Bool) → unused (cond minus 2 1) (getD bytes p 0) ≡ u
+          → cond u (answer (set bytes p (getD bytes p 0 + cond minus 2 1))) (rejected (repetition s (elementHolding t s k))) ≡ answer after
+          → Used faces 1 bytes after
       by-test true f g =
           let x = getD bytes p 0 in
           let m = one-more minus x (b .small p) f in
@@ -132,7 +136,8 @@ module _ (t : Tree) (faces : ℕ) where
           })
       by-test false f g = refused g
 
-  use-entries : (s n k : ℕ) {bytes after : List ℕ} → Book faces bytes → ((j : ℕ) → k ≤ j → j < k + n → usePlace t s j < faces) → useEntries t s n k bytes ≡ answer after → Used faces n bytes after
+  use-entries : (s n k : ℕ) {bytes after : List ℕ} → Book faces bytes → ((j : ℕ) → k ≤ j → j < k + n → usePlace t s j < faces)
+      → useEntries t s n k bytes ≡ answer after → Used faces n bytes after
   unfolding useEntries _into_
   use-entries s zero k {bytes} {after} b h e = let q : bytes ≡ after = cc in rw (← q) (record { booked = b; more = omega arith })
   use-entries s (suc n) k {bytes} {after} b h e =
@@ -141,7 +146,8 @@ module _ (t : Tree) (faces : ℕ) where
       let rest = use-entries s n (suc k) (one .booked) (λ j l m. h j (omega arith) (omega arith)) (v .2) in
       record { booked = rest .booked; more = omega (arith, one .more, rest .more) }
 
-  use-nodes : (z n s : ℕ) {bytes after : List ℕ} → Book faces bytes → ((i j : ℕ) → s ≤ i → i < s + n → j < usesIn t z i → usePlace t i j < faces) → useNodes t z n s bytes ≡ answer after → Book faces after × (tally after + sumBefore (usesIn t z) s ≡ tally bytes + sumBefore (usesIn t z) (s + n))
+  use-nodes : (z n s : ℕ) {bytes after : List ℕ} → Book faces bytes → ((i j : ℕ) → s ≤ i → i < s + n → j < usesIn t z i → usePlace t i j < faces)
+      → useNodes t z n s bytes ≡ answer after → Book faces after × (tally after + sumBefore (usesIn t z) s ≡ tally bytes + sumBefore (usesIn t z) (s + n))
   unfolding useNodes sumBefore
   use-nodes z zero s {bytes} {after} b h e = let q : bytes ≡ after = cc in rw (← q) (b, rw add-zero)
   use-nodes z (suc n) s {bytes} {after} b h e =
@@ -165,10 +171,12 @@ module _ (b : List ℕ) (yes : imageCheck b ≡ passed) (z : ℕ) where
       t : Tree
       t = treeOf b
 
-      by-test : (u : Bool) → (sectionOf t z s && eqb (elementType t s) NFACE) ≡ u → k < cond u (connectivityLength t s) 0 → facePlace t (parent t s) (faceNumber t s k) < faceCount t z
+      by-test : (u : Bool) → (sectionOf t z s && eqb (elementType t s) NFACE) ≡ u → k < cond u (connectivityLength t s) 0
+          → facePlace t (parent t s) (faceNumber t s k) < faceCount t z
       by-test true e m =
           let i = section-is t z s (and-first (sectionOf t z s) _ e) in
-          let r = when (eqb (elementType t s) NFACE) (allFaces t s) (element-rule b yes 35 s l (i .is-validated) (i .elements)) (and-second (sectionOf t z s) _ e) in
+          let r = when (eqb (elementType t s) NFACE) (allFaces t s) (element-rule b yes 35 s l (i .is-validated) (i .elements))
+          (and-second (sectionOf t z s) _ e) in
           let f = every-at (isFace t s) (connectivityLength t s) 0 k r (omega arith) (omega arith) in
           rw (i .parent-is) (place-below t z (faceNumber t s k) (rw (i .parent-is) at f))
       by-test false e m = absurd (omega arith)

@@ -44,10 +44,12 @@ module _ (b : List ℕ) (s : Sound b) where
   validated-step (suc i) h z =
       let u = lower (suc i) h z in
       rw (ne-eqb (suc i) 0 z)
-      (ap (λ (r : Bool). joins (treeOf b) (suc i) && r) (enough (treeOf b) (nodeCount b) lower i (parent (treeOf b) (suc i)) (parent (treeOf b) (suc i)) (omega arith) (omega arith) (omega arith)))
+      (ap (λ (r : Bool). joins (treeOf b) (suc i)
+      && r) (enough (treeOf b) (nodeCount b) lower i (parent (treeOf b) (suc i)) (parent (treeOf b) (suc i)) (omega arith) (omega arith) (omega arith)))
 
   -- a child of a validated node that is no UserDefinedData_t is validated where its label is known
-  pub validated-child : (i p : ℕ) → i < nodeCount b → (i ≡ 0 → ⊥) → parent (treeOf b) i ≡ p → validated (treeOf b) p ≡ true → eqb (role (treeOf b) p) UserDefinedData ≡ false
+  pub validated-child : (i p : ℕ) → i < nodeCount b → (i ≡ 0 → ⊥) → parent (treeOf b) i ≡ p → validated (treeOf b) p ≡ true
+      → eqb (role (treeOf b) p) UserDefinedData ≡ false
       → validated (treeOf b) i ≡ ltb 0 (role (treeOf b) i)
   validated-child i p h z e v u = rw (validated-step i h z, e, v, u) (both (ltb 0 (role (treeOf b) i)))
     where

@@ -52,5 +52,6 @@ unfolding valuesFrom
 values-shift f g zero i j e = refl
 values-shift f g (suc k) i j e =
     let h : f i ≡ g j = simp add-zero at (e 0 (omega arith)) in
-    let r = values-shift f g k (suc i) (suc j) (λ m l. let p : suc i + m ≡ i + suc m = omega arith in let q : suc j + m ≡ j + suc m = omega arith in rw (p, q) (e (suc m) (omega arith))) in
+    let r = values-shift f g k (suc i) (suc j) (λ m l. let p : suc i + m ≡ i + suc m = omega arith in let q : suc j + m ≡ j + suc m = omega arith in
+    rw (p, q) (e (suc m) (omega arith))) in
     rw (h, r)

@@ -48,7 +48,8 @@ module _ (t : Tree) (z : ℕ) where
 module _ (b : List ℕ) (z : ℕ) (rest : List ℕ) (k : ℕ) (h : k < sectionCount (treeOf b) z) where
   pub entry-listed : k < entriesIn (given b z rest .entries)
   entry-listed =
-      let n : length (allNumbers (sectionEntries (treeOf b) z) ++ rest) ≡ 9 * sectionCount (treeOf b) z + length rest = rw length-append (rw (numbers-counted (treeOf b) z)) in
+      let n : length (allNumbers (sectionEntries (treeOf b) z) ++ rest) ≡ 9 * sectionCount (treeOf b) z + length rest =
+      rw length-append (rw (numbers-counted (treeOf b) z)) in
       omega arith
 
   pub entry-is : sectionAt (given b z rest .entries) k ≡ entry (treeOf b) (sectionNode (treeOf b) z k)

@@ -22,7 +22,8 @@ byte-pair x y m n h l = by-test (eqb x y) (eqb m n) refl refl
   where
     by-test : (a b : Bool) → eqb x y ≡ a → eqb m n ≡ b → eqb (x + 256 * m) (y + 256 * n) ≡ (a && b)
     by-test true true e f = let p = eqb-true x y e in let q = eqb-true m n f in eq-eqb (x + 256 * m) (y + 256 * n) (omega arith)
-    by-test true false e f = let p = eqb-true x y e in let q = eqb-false m n f in ne-eqb (x + 256 * m) (y + 256 * n) (λ (z : x + 256 * m ≡ y + 256 * n). q (omega arith))
+    by-test true false e f = let p = eqb-true x y e in let q = eqb-false m n f in
+        ne-eqb (x + 256 * m) (y + 256 * n) (λ (z : x + 256 * m ≡ y + 256 * n). q (omega arith))
     by-test false b e f = let q = eqb-false x y e in ne-eqb (x + 256 * m) (y + 256 * n) (λ (z : x + 256 * m ≡ y + 256 * n). q (omega arith))
 
 -- two lists of bytes are the same where their first words are, and what comes after them
@@ -67,7 +68,8 @@ module _ {n : ℕ} {a b : List ℕ} {p q d : ℕ} (l : Same n a p b q d) (h : p 
   module _ (w : ℕ) (k : d + w ≤ n) (test : Bool)
       (step : same (take (w + (n - (d + w))) (drop (p + d) a)) (take (w + (n - (d + w))) (drop (q + d) b))
       ≡ (test && same (take (n - (d + w)) (drop (p + d + w) a)) (take (n - (d + w)) (drop (q + d + w) b)))) where
-    whole : (test && same (take (n - (d + w)) (drop (p + (d + w)) a)) (take (n - (d + w)) (drop (q + (d + w)) b))) ≡ same (take n (drop p a)) (take n (drop q b))
+    whole : (test && same (take (n - (d + w)) (drop (p + (d + w)) a)) (take (n - (d + w)) (drop (q + (d + w)) b)))
+        ≡ same (take n (drop p a)) (take n (drop q b))
     whole =
         let e : n - d ≡ w + (n - (d + w)) = omega arith in
         let x : p + d + w ≡ p + (d + w) = omega arith in
@@ -108,7 +110,14 @@ module _ {n : ℕ} {a b : List ℕ} {p q d : ℕ} (l : Same n a p b q d) (h : p 
         let x : w ≤ length s = rw (length-take-le (w + r) (drop (p + d) a) (rw length-drop (omega arith))) (omega arith) in
         let y : w ≤ length t = rw (length-take-le (w + r) (drop (q + d) b) (rw length-drop (omega arith))) (omega arith) in
         same-word w s t x y (bytes-take (w + r) (drop (p + d) a) (bytes-drop (p + d) a f)) (bytes-take (w + r) (drop (q + d) b) (bytes-drop (q + d) b g))
-        ∙ rw (le-take w (w + r) (drop (p + d) a) (omega arith), le-take w (w + r) (drop (q + d) b) (omega arith), drop-take w r (drop (p + d) a), drop-take w r (drop (q + d) b), drop-drop w (p + d) a, drop-drop w (q + d) b)
+        ∙ rw (
+          le-take w (w + r) (drop (p + d) a) (omega arith),
+          le-take w (w + r) (drop (q + d) b) (omega arith),
+          drop-take w r (drop (p + d) a),
+          drop-take w r (drop (q + d) b),
+          drop-drop w (p + d) a,
+          drop-drop w (q + d) b,
+        )
 
     pub same-more-word : le w (drop (p + d) a) ≡ le w (drop (q + d) b) → Same n a p b q (d + w)
     same-more-word e = on w k _ word (eq-eqb _ _ e)

@@ -45,7 +45,8 @@ done {out₀} {all} {at} {out} {k} {rest} l h = by-rest rest (l .count) (l .whol
     by-rest (y ∷ ys) c w = absurd (omega arith)
 
 -- the bytes of a number
-pub word-more : {out₀ all : List ℕ} {at : ℕ} {out : List ℕ} {k : ℕ} (width r : ℕ) → Left out₀ all at out k (leBytes (width - k) r) → k < width → at + length all ≤ length out₀
+pub word-more : {out₀ all : List ℕ} {at : ℕ} {out : List ℕ} {k : ℕ} (width r : ℕ) → Left out₀ all at out k (leBytes (width - k) r) → k < width
+    → at + length all ≤ length out₀
     → Left out₀ all at (set out (at + k) (r % 256)) (k + 1) (leBytes (width - (k + 1)) (r / 256))
 word-more {out₀} {all} {at} {out} {k} width r l h g =
     let e : width - k ≡ suc (width - (k + 1)) = omega arith in

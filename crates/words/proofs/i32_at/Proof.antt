@@ -13,7 +13,11 @@ use Rattle.words.proofs.i32_at.Tie as tie
 cast-result : tie.Need-cast-result
 unfolding half
 cast-result c =
-    rw (toZ-ofZ (sfits-of {w = w64} {z = c .twos-complement .result} (c .twos-complement .ok)), c .twos-complement .ensures, signed-is 4 (c .before .u32-at .result))
+    rw (
+      toZ-ofZ (sfits-of {w = w64} {z = c .twos-complement .result} (c .twos-complement .ok)),
+      c .twos-complement .ensures,
+      signed-is 4 (c .before .u32-at .result),
+    )
     (fits32 _ (c .before .u32-at .ensures .1))
 
 returns : tie.Need-returns

@@ -29,4 +29,5 @@ returns : tie.Need-returns Inv-loop μ-loop
 returns c = done (c .before .loop .inv) (omega arith)
 
 pub put-bytes-spec : {M : Type 1} → statement M
-put-bytes-spec = tie.close (tie.spec Inv-loop μ-loop loop-holds (search needs) (search needs) slice-write-out (search needs) (search needs) loop-again same-length returns)
+put-bytes-spec = tie.close (tie.spec Inv-loop μ-loop loop-holds (search needs) (search needs) slice-write-out (search needs) (search needs) loop-again
+    same-length returns)

@@ -24,7 +24,8 @@ slice-write-out : tie.Need-slice-write-out Inv-loop μ-loop
 slice-write-out c = omega (arith, c .before .loop .inv .long)
 
 loop-again : tie.Need-loop-again Inv-loop μ-loop
-loop-again c = word-more (c .before .before .args .width) (c .before .loop .rest) (c .before .loop .inv) (omega arith) (rw (length-leBytes (c .before .before .args .width) (c .before .before .args .x)) (omega arith))
+loop-again c = word-more (c .before .before .args .width) (c .before .loop .rest) (c .before .loop .inv) (omega arith)
+    (rw (length-leBytes (c .before .before .args .width) (c .before .before .args .x)) (omega arith))
 
 same-length : tie.Need-same-length Inv-loop μ-loop
 same-length c = c .before .loop .inv .long

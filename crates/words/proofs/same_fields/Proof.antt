@@ -17,13 +17,17 @@ loop-holds : tie.Need-loop-holds Inv-loop μ-loop
 loop-holds c = same-start _ _ _ _ _
 
 returns : tie.Need-returns Inv-loop μ-loop
-returns c = let l = c .before .before .before .before in same-stop-word (l .loop .inv) (omega arith) (omega arith) 8 (omega arith) (λ i. omega (arith, l .before .before .shared-slice-known .given i)) (λ i. omega (arith, l .before .shared-slice-known2 .given i)) (λ e. c .if1 .taken (c .before .before .u64-at .ensures ∙ e ∙ sym (c .before .u64-at2 .ensures)))
+returns c = let l = c .before .before .before .before in
+    same-stop-word (l .loop .inv) (omega arith) (omega arith) 8 (omega arith) (λ i. omega (arith, l .before .before .shared-slice-known .given i))
+    (λ i. omega (arith, l .before .shared-slice-known2 .given i))
+    (λ e. c .if1 .taken (c .before .before .u64-at .ensures ∙ e ∙ sym (c .before .u64-at2 .ensures)))
 
 loop-again : tie.Need-loop-again Inv-loop μ-loop
 loop-again c =
     let l = c .before .before .before .before in
     let e : 8 * l .loop .j + 8 ≡ 8 * (l .loop .j + 1) = omega arith in
-    rw e at (same-more-word (l .loop .inv) (omega arith) (omega arith) 8 (omega arith) (λ i. omega (arith, l .before .before .shared-slice-known .given i)) (λ i. omega (arith, l .before .shared-slice-known2 .given i)) (sym (c .before .before .u64-at .ensures) ∙ c .if1 .left ∙ c .before .u64-at2 .ensures))
+    rw e at (same-more-word (l .loop .inv) (omega arith) (omega arith) 8 (omega arith) (λ i. omega (arith, l .before .before .shared-slice-known .given i))
+    (λ i. omega (arith, l .before .shared-slice-known2 .given i)) (sym (c .before .before .u64-at .ensures) ∙ c .if1 .left ∙ c .before .u64-at2 .ensures))
 
 returns-2 : tie.Need-returns-2 Inv-loop μ-loop
 returns-2 c = same-done (c .before .loop .inv) (omega arith) (omega arith) (omega arith)

@@ -15,12 +15,17 @@ u64-at-requires c κs = omega (arith, eight _ (c .before .before .pre .0) (c .if
 
 returns : tie.Need-returns
 unfolding half
-returns c = rw (toZ-ofZ (sfits-of {w = w64} {z = c .sign-extended .result} (c .sign-extended .ok)), c .before .before .if1 .taken) (c .sign-extended .ensures ∙ ap (twos 2147483648) (c .before .u32-at .ensures .0) ∙ signed-is 4 _)
+returns c = rw (toZ-ofZ (sfits-of {w = w64} {z = c .sign-extended .result} (c .sign-extended .ok)), c .before .before .if1 .taken)
+    (c .sign-extended .ensures ∙ ap (twos 2147483648) (c .before .u32-at .ensures .0) ∙ signed-is 4 _)
 
 returns-2 : tie.Need-returns-2
 unfolding half
 returns-2 c =
-    rw (toZ-ofZ (sfits-of {w = w64} {z = c .twos-complement .result} (c .twos-complement .ok)), eight _ (c .before .before .before .before .pre .0) (c .before .before .if1 .left))
+    rw (
+      toZ-ofZ (sfits-of {w = w64} {z = c .twos-complement .result} (c .twos-complement .ok)),
+      eight _ (c .before .before .before .before .pre .0)
+          (c .before .before .if1 .left),
+    )
     (c .twos-complement .ensures ∙ ap (twos 9223372036854775808) (c .before .u64-at .ensures) ∙ signed-is 8 _)
 
 pub signed-at-spec : {M : Type 1} → statement M
