@@ -10,10 +10,10 @@ use lib.ListN.{length, getD, drop}
 use lib.Ieee.Bits.{is-true}
 use mir.Syntax.{w8}
 use mir.Val.{Fits}
-use borrow.Author.Tests.{le-leb, lt-leb, leb-true, leb-false, eqb-true}
+use borrow.Author.Tests.{leb-true, leb-false, eqb-true}
 use Rattle.model.specs.Bytes.{le, half}
 use Rattle.model.specs.Corner.{widthLawful, inside, numberAt}
-use Rattle.model.proofs.Logic.{and-both, and-first, and-second, or-cases}
+use Rattle.model.proofs.Logic.{and-first, and-second, or-cases}
 use Rattle.model.proofs.Reading.{le-step}
 use Rattle.words.specs.Width.{isWidth}
 use Rattle.rows.specs.Rows.{Numbers}
@@ -70,13 +70,6 @@ module _ (b : List ℕ) (at w n : ℕ) (e : inside b at w n ≡ true) where
       let x = inside-numbers in
       let m = mul-le-mul-left {m = 4} {n = w} n (at-least w (x .wide)) in
       omega (arith, x .inside, m, mul-comm n w)
-
-  -- fewer of them
-  pub inside-fewer : (m : ℕ) → m ≤ n → inside b at w m ≡ true
-  unfolding inside
-  inside-fewer m h =
-      and-both (widthLawful w) (leb (at + w * m) (length b)) (and-first (widthLawful w) (leb (at + w * n) (length b)) e)
-      (le-leb (at + w * m) (length b) (omega (arith, inside-numbers .inside, mul-le-mul-left {m = m} {n = n} w h)))
 
 module _ (b : List ℕ) (at w n : ℕ) where
   pub inside-many : length b < 2 ^ 64 → 2 ^ 62 ≤ n → inside b at w n ≡ false
