@@ -1,7 +1,8 @@
+-- Half of the patterns of each width.
 use Rattle.model.specs.Bytes.{half}
 use Rattle.words.proofs.Signed.{eight}
-use Rattle.corners.proofs.spans.half_of.Statement.{statement}
-use Rattle.corners.proofs.spans.half_of.Tie as tie
+use Rattle.rows.proofs.half_of.Statement.{statement}
+use Rattle.rows.proofs.half_of.Tie as tie
 
 returns : tie.Need-returns
 unfolding half
