@@ -68,7 +68,8 @@ module _ {image entries reads : List ℕ} {numbers : List ℤ} {rules : List ℕ
 
 -- demand 3 of what the runner wrote: an accepted image, a zone of it, its section entries, reads that name entries of the list
 pub demand3-answered : {b reads : List ℕ} {z : ℕ} {rest : List ℕ} {numbers : List ℤ} {rules : List ℕ}
-    {b′ entries′ : List ℕ} {numbers′ : List ℤ} {rules′ : List ℕ} {n : ℕ} (c : Counts) → validation b ≡ answer c → isZone (treeOf b) z ≡ true → AllOf (Listed b z rest) (requestsOf reads)
+    {b′ entries′ : List ℕ} {numbers′ : List ℤ} {rules′ : List ℕ} {n : ℕ} (c : Counts)
+    → validation b ≡ answer c → isZone (treeOf b) z ≡ true → AllOf (Listed b z rest) (requestsOf reads)
     → ReadsAnswered b (given b z rest .entries) reads numbers rules (Count.Of n) b′ entries′ numbers′ rules′
     → AllOf (ReadHolds b z rest) (madeOf (given b z rest) reads numbers′ rules′)
 demand3-answered {b} {reads} {z} {rest} {numbers′ = numbers′} {rules′ = rules′} c e zone l a =
