@@ -6,8 +6,8 @@ use Rattle.model.specs.Image.{width, widths}
 use Rattle.sections.proofs.Parts.{absent-width}
 use native.Mathlib.Omega.{arith}
 use borrow.Author.Needs.{needs}
-use Rattle.sections.proofs.entries.width_at.Statement.{statement}
-use Rattle.sections.proofs.entries.width_at.Tie as tie
+use Rattle.sections.proofs.entry.width_at.Statement.{statement}
+use Rattle.sections.proofs.entry.width_at.Tie as tie
 
 returns : tie.Need-returns
 unfolding width

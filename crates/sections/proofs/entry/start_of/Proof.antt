@@ -3,8 +3,8 @@ use mathlib.Core.Path.{_∙_}
 use Rattle.sections.proofs.Parts.{present-start, absent-start}
 use native.Mathlib.Omega.{arith}
 use borrow.Author.Needs.{needs}
-use Rattle.sections.proofs.entries.start_of.Statement.{statement}
-use Rattle.sections.proofs.entries.start_of.Tie as tie
+use Rattle.sections.proofs.entry.start_of.Statement.{statement}
+use Rattle.sections.proofs.entry.start_of.Tie as tie
 
 returns : tie.Need-returns
 returns c = c .data-start .ensures .0 ∙ present-start _ _ (omega arith)
