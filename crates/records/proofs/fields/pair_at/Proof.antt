@@ -1,3 +1,4 @@
+-- Two bytes of a list, one after the other.
 use native.Mathlib.Omega.{arith}
 use mathlib.Core.Path.{sym}
 use borrow.Author.Needs.{needs}
