@@ -28,6 +28,7 @@ pub mod Demand3
 pub mod Demand3Calls
 pub mod Staging
 pub mod Parents
+pub mod SameNodes
 pub mod Known
 pub mod Joins
 pub mod Loops

@@ -1,9 +1,10 @@
 -- Tests and their joins.
-use Prim.Native.Nat.{ℕ, _≤_, _<_}
+use Prim.Native.Nat.{ℕ, zero, suc, _≤_, _<_}
 use mathlib.Core.Path.{_≡_, refl}
 use mathlib.Core.Bool.{Bool, true, false, cond, _&&_, _||_}
 use mathlib.Core.List.{List, [], _∷_}
 use native.Mathlib.Omega.{arith}
+use native.Mathlib.Decide.{ℕ-discrete}
 use lib.Dec.{leb, eqb}
 use mathlib.Core.Logic.{_⊎_, inl, inr}
 use borrow.Author.Tests.{leb-true, leb-false, le-leb, eqb-true}
@@ -23,6 +24,18 @@ and-second false b e = untrue e
 
 pub and-both : (a b : Bool) → a ≡ true → b ≡ true → (a && b) ≡ true
 and-both a b e f = rw (e, f)
+
+pub and-true : (a : Bool) → (a && true) ≡ a
+and-true true = refl
+and-true false = refl
+
+pub and-false : (a : Bool) → (a && false) ≡ false
+and-false true = refl
+and-false false = refl
+
+pub or-false : (a : Bool) → (a || false) ≡ a
+or-false true = refl
+or-false false = refl
 
 pub or-left : (a b : Bool) → a ≡ true → (a || b) ≡ true
 or-left a b e = rw e
@@ -85,3 +98,29 @@ same-is (x ∷ s) (y ∷ u) e =
     let p = eqb-true x y (and-first (eqb x y) (same s u) e) in
     let q = same-is s u (and-second (eqb x y) (same s u) e) in
     rw (p, q)
+
+-- the last arm of a match: a number that is none of the keys, beside what is known before
+abbrev pub NoneOf : Type 0 → List ℕ → ℕ → Type 0
+NoneOf A [] x = A
+NoneOf A (k ∷ ks) x = NoneOf (A × (x ≡ k → ⊥)) ks x
+
+pub none-known : (A : Type 0) (ks : List ℕ) (x : ℕ) → NoneOf A ks x → A
+none-known A [] x h = h
+none-known A (k ∷ ks) x h = none-known (A × (x ≡ k → ⊥)) ks x h .0
+
+-- where the keys are all numbers below n, a number up to n is n
+abbrev pub Apart : ℕ → ℕ → Type 0
+Apart zero x = Unit {0}
+Apart (suc n) x = Apart n x × (x ≡ n → ⊥)
+
+pub last-arm : (n x : ℕ) → Apart n x → x ≤ n → x ≡ n
+last-arm zero x a h = omega arith
+last-arm (suc n) x a h =
+    elim (ℕ-discrete x (suc n)) [
+      | yes q ↦ q
+      | no z ↦ absurd (a .1 (last-arm n x (a .0) (omega (arith, z))))
+    ]
+
+-- an arm of a match whose answer is a number of a table, and its bound
+pub listed : (f : ℕ → ℕ) (m : ℕ) {x k n : ℕ} → x ≡ k → n ≡ f k → leb n m ≡ true → (n ≡ f x) × (n ≤ m)
+listed f m {n = n} e h l = (rw e h, leb-true n m l)

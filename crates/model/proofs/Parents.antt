@@ -8,7 +8,8 @@ use native.Mathlib.Decide.{ℕ-discrete}
 use borrow.Author.Tests.{eqb-true, ltb-true, ne-eqb}
 use Rattle.model.specs.Image.{Tree, treeOf, nodeCount, parent}
 use Rattle.model.specs.Records.{parentLawful, noParent, sibling, namesake, recordCheckAt, recordRules}
-use Rattle.model.specs.Given.{RecordsTo, Sound}
+use Rattle.model.specs.Rules.{passed}
+use Rattle.model.specs.Given.{Sound}
 use Rattle.model.proofs.Passed.{check-pass}
 use Rattle.model.proofs.Accepted.{record-rule}
 
@@ -35,14 +36,14 @@ module _ (t : Tree) where
   unfolding namesake
   no-namesake i j e l h = rw (no-sibling i j e l h)
 
--- where the check has come to node i and rule 7 holds at it, rule 7 holds at each node up to it
-pub lawful-to : (b : List ℕ) (i : ℕ) → RecordsTo b i → parentLawful (treeOf b) i ≡ true → (j : ℕ) → j ≤ i → parentLawful (treeOf b) j ≡ true
-unfolding recordCheckAt recordRules
-lawful-to b i r e j l =
-    elim (ℕ-discrete i j) [
-      | yes q ↦ subst (λ (n : ℕ). parentLawful (treeOf b) n ≡ true) q e
-      | no n ↦ check-pass j (recordRules (treeOf b) j) (r .before j (omega (arith, n))) .0
-    ]
+  -- where the check has come to node i and rule 7 holds at it, rule 7 holds at each node up to it
+  pub lawful-to : (i : ℕ) → ((j : ℕ) → j < i → recordCheckAt t j ≡ passed) → parentLawful t i ≡ true → (j : ℕ) → j ≤ i → parentLawful t j ≡ true
+  unfolding recordCheckAt recordRules
+  lawful-to i before e j l =
+      elim (ℕ-discrete i j) [
+        | yes q ↦ subst (λ (n : ℕ). parentLawful t n ≡ true) q e
+        | no n ↦ check-pass j (recordRules t j) (before j (omega (arith, n))) .0
+      ]
 
 -- where rules 1 to 18 hold
 pub lawful-at : (b : List ℕ) → Sound b → (i : ℕ) → i < nodeCount b → parentLawful (treeOf b) i ≡ true

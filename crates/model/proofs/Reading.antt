@@ -4,10 +4,10 @@ use mathlib.Core.Path.{_≡_, refl, ap, _∙_}
 use mathlib.Core.List.{List, [], _∷_}
 use native.Mathlib.Omega.{arith}
 use native.Mathlib.Numerals.{add-one}
-use lib.ListN.{getD, take, drop}
+use lib.ListN.{length, getD, take, drop}
 use lib.Seq.{drop-drop, drop-nil, take-nil}
 use Rattle.model.specs.Bytes.{le, numbers}
-use Rattle.model.specs.Image.{Node, nodeOf, nodesOf, node, treeOf, nodeCount, recordAt, name, label, parent, dimensions, stored, number, width}
+use Rattle.model.specs.Image.{Node, Tree, nodeOf, nodesOf, node, treeOf, nodeCount, recordAt, name, label, parent, dimensions, stored, number, width}
 use Rattle.model.specs.Image.{dataOffset, dimensionOffset}
 
 -- the lowest byte, and the rest
@@ -32,7 +32,8 @@ drop-take (suc k) zero s = let e : 0 - suc k ≡ 0 = omega arith in rw e
 drop-take (suc k) (suc n) [] = rw take-nil
 drop-take (suc k) (suc n) (x ∷ s) = let e : suc n - suc k ≡ n - k = omega arith in rw e (drop-take k n s)
 
-nodesOf-at : (n : ℕ) (s : List ℕ) (i : ℕ) → i < n → getD (nodesOf n s) i (nodeOf []) ≡ nodeOf (drop (84 * i) s)
+-- node i of n records
+pub nodesOf-at : (n : ℕ) (s : List ℕ) (i : ℕ) → i < n → getD (nodesOf n s) i (nodeOf []) ≡ nodeOf (drop (84 * i) s)
 unfolding nodesOf
 nodesOf-at zero s i h = absurd (omega arith)
 nodesOf-at (suc n) s zero h = refl
@@ -78,7 +79,12 @@ module _ (b : List ℕ) (i : ℕ) (h : i < nodeCount b) where
   unfolding nodeOf
   data-size-at = ap (λ (x : Node). x .dataSize) (node-at b i h) ∙ ap (le 4) (drop-drop 80 (recordAt i) b)
 
--- number k of a row of numbers
+-- how many numbers a row has, and number k of it
+pub numbers-length : (w n : ℕ) (s : List ℕ) → length (numbers w n s) ≡ n
+unfolding numbers
+numbers-length w zero s = refl
+numbers-length w (suc n) s = ap suc (numbers-length w n (drop w s))
+
 pub numbers-at : (w n k : ℕ) (s : List ℕ) → k < n → getD (numbers w n s) k 0 ≡ le w (drop (w * k) s)
 unfolding numbers
 numbers-at w zero k s h = absurd (omega arith)
@@ -86,6 +92,11 @@ numbers-at w (suc n) zero s h = let e : w * 0 ≡ 0 = omega arith in rw e
 numbers-at w (suc n) (suc k) s h =
     let e : w + w * k ≡ w * suc k = omega arith in
     numbers-at w n k (drop w s) (omega arith) ∙ ap (le w) (drop-drop (w * k) w s ∙ ap (λ (m : ℕ). drop m s) e)
+
+-- a node has as many dimensions as its record says
+pub rank-is : (t : Tree) (i : ℕ) → length (dimensions t i) ≡ node t i .rank
+unfolding dimensions
+rank-is t i = numbers-length 8 (node t i .rank) _
 
 drops : (p q k : ℕ) (b : List ℕ) → drop k (drop q (drop p b)) ≡ drop (p + q + k) b
 drops p q k b = ap (drop k) (drop-drop q p b) ∙ drop-drop k (p + q) b

@@ -20,6 +20,19 @@ module _ (node rule : ℕ) (rest : List Rule) {t : Bool} where
   unfolding check
   kept e = rw e
 
+-- no rule is left
+pub no-rule : (node : ℕ) → check node [] ≡ passed
+unfolding check
+no-rule node = refl
+
+-- an answer that follows tests made in order: one test holds and the rest tells it, or one fails and it is that rule's
+module _ (node rule : ℕ) (rest : List Rule) {t : Bool} {x : Check} where
+  pub holds : t ≡ true → x ≡ check node rest → x ≡ check node (rule unless t ∷ rest)
+  holds e f = f ∙ sym (kept node rule rest e)
+
+  pub fails : t ≡ false → x ≡ rejected (rejection rule node) → x ≡ check node (rule unless t ∷ rest)
+  fails e f = f ∙ sym (broken node rule rest e)
+
 -- one group of rules, then the next
 pub check-append : (node : ℕ) (xs ys : List Rule) → check node (xs ++ ys) ≡ (check node xs then check node ys)
 unfolding check _then_

@@ -61,6 +61,12 @@ pub sumBefore-step : (f : ℕ → ℕ) (i : ℕ) → sumBefore f (i + 1) ≡ sum
 unfolding sumBefore
 sumBefore-step f i = rw add-one
 
+-- two tests that agree give one walk
+pub some-same : (p q : ℕ → Bool) (k i : ℕ) → ((j : ℕ) → i ≤ j → j < i + k → p j ≡ q j) → someFrom p k i ≡ someFrom q k i
+unfolding someFrom
+some-same p q zero i e = refl
+some-same p q (suc k) i e = rw (e i (omega arith) (omega arith), some-same p q k (suc i) (λ j l h. e j (omega arith) (omega arith)))
+
 -- what holds of every number holds of each
 pub every-at : (p : ℕ → Bool) (k i j : ℕ) → everyFrom p k i ≡ true → i ≤ j → j < i + k → p j ≡ true
 unfolding everyFrom

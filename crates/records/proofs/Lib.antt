@@ -1,2 +1,3 @@
 mod Codes
 pub mod Places
+pub mod Tables

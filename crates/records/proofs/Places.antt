@@ -4,16 +4,12 @@ use mathlib.Core.Path.{_≡_, refl}
 use mathlib.Core.List.{List}
 use lib.ListN.{drop}
 use Rattle.model.specs.Bytes.{le}
-use Rattle.model.specs.Image.{headerWord, nodeCount, dimensionOffset, dataOffset, treeOf}
+use Rattle.model.specs.Image.{headerWord, nodeCount, dataOffset, treeOf}
 
 module _ (b : List ℕ) where
   pub node-count-at : nodeCount b ≡ le 4 (drop 8 b)
   unfolding nodeCount headerWord
   node-count-at = refl
-
-  pub dimension-offset-at : dimensionOffset b ≡ le 4 (drop 16 b)
-  unfolding dimensionOffset headerWord
-  dimension-offset-at = refl
 
   pub data-offset-at : dataOffset b ≡ le 4 (drop 24 b)
   unfolding dataOffset headerWord

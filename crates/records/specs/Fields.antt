@@ -1,7 +1,8 @@
 -- What Header, RecordNumbers and Record hold, in the model's terms.
 use Prim.Native.Nat.{ℕ}
 use mathlib.Core.List.{List}
-use Rattle.model.specs.Image.{form, totalLength, nodeCount, recordOffset, dimensionOffset, wordCount, dataOffset, dataLength, Tree, node, name, label, parent}
+use Rattle.model.specs.Image.{form, totalLength, nodeCount, recordOffset, dimensionOffset, wordCount, dataOffset, dataLength}
+use Rattle.model.specs.Image.{Tree, node, name, label, parent}
 use Rattle.records.specs.declared.Header.{Header}
 use Rattle.records.specs.declared.RecordNumbers.{RecordNumbers}
 use Rattle.records.specs.declared.Record.{Record}

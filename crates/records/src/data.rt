@@ -10,22 +10,25 @@ ghost use Rattle.model.specs.Given.{Sound};
 ghost use Rattle.words.specs.Width.{isWidth};
 use super::Header;
 use super::Record;
+use super::node_table;
+use super::nodes;
 
 // Dimension k of node i, whose words lie within the image's.
 pub fn dimension(image: &[u8], i: usize, k: usize) -> u64
     requires { ⌜ Laid (now image) × (i < nodeCount (now image)) ⌝ }
-    requires { ⌜ (k < node (treeOf (now image)) i .rank) × (node (treeOf (now image)) i .firstWord + node (treeOf (now image)) i .rank ≤ wordCount (now image)) ⌝ }
+    requires { ⌜ (k < node (treeOf (now image)) i .rank)
+        × (node (treeOf (now image)) i .firstWord + node (treeOf (now image)) i .rank ≤ wordCount (now image)) ⌝ }
     ensures { λ r. ⌜ r ≡ getD (dimensions (treeOf (now (image .entry))) i) k 0 ⌝ }
 {
-    let words_at = words::u32_at(image, Header::DIMENSION_OFFSET) as usize;
-    let first = words::u32_at(image, Record::at(i) + Record::FIRST_WORD) as usize;
-    words::u64_at(image, words_at + 8 * first + 8 * k)
+    let count = words::u32_at(image, Header::NODE_COUNT) as usize;
+    nodes::dimension(node_table(image), count, i, k)
 }
 
 // Where the data of node i start, counted from the image's start.
 pub fn data_start(image: &[u8], i: usize) -> usize
     requires { ⌜ Sound (now image) × (i < nodeCount (now image)) ⌝ }
-    ensures { λ r. ⌜ (r ≡ treeOf (now (image .entry)) .areaAt + node (treeOf (now (image .entry))) i .dataAt) × (r + node (treeOf (now (image .entry))) i .dataSize ≤ length (now (image .entry))) ⌝ }
+    ensures { λ r. ⌜ (r ≡ treeOf (now (image .entry)) .areaAt + node (treeOf (now (image .entry))) i .dataAt)
+        × (r + node (treeOf (now (image .entry))) i .dataSize ≤ length (now (image .entry))) ⌝ }
 {
     let area = words::u32_at(image, Header::DATA_OFFSET) as usize;
     area + words::u32_at(image, Record::at(i) + Record::DATA_AT) as usize

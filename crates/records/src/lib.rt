@@ -1,20 +1,22 @@
-// The header, the node records, data types, dimension words and stored numbers, read from the image's bytes.
+// The header, the node records, data types, dimension words and stored numbers, read from the image's bytes. A node is read from the bytes of a table
+// (`nodes`), which an image has after its header.
 ghost use mathlib.Core.Path.{_≡_};
-ghost use Prim.Native.Nat.{_≤_, _<_};
-ghost use lib.ListN.{length};
+ghost use Prim.Native.Nat.{_+_, _≤_, _<_};
+ghost use lib.ListN.{length, drop};
 ghost use Rattle.model.specs.Image.{treeOf, nodeCount, recordAt, parent};
 ghost use Rattle.model.specs.Bounds.{Laid};
 ghost use Rattle.records.specs.Fields.{headerOf, numbersOf, recordOf};
+ghost use Rattle.records.specs.Table.{sizeOf};
 
 mod data; // data.rt: dimension words and stored numbers
 mod fields; // fields.rt: the fields of a record that are bytes
+pub mod nodes; // nodes.rt: the nodes of a table, by its bytes
 pub mod data_types; // data_types.rt: data types by their place among the eleven, and their widths
 
 pub use data::data_start;
 pub use data::dimension;
 pub use data::number;
 pub use data_types::data_type_of;
-pub use data_types::is_link;
 pub use data_types::width_at;
 pub use data_types::width_of;
 
@@ -67,6 +69,36 @@ impl Header {
     }
 }
 
+// How many nodes and dimension words a table has, and how many data bytes belong to it.
+pub struct TableSize {
+    pub nodes: usize,
+    pub words: u64,
+    pub bytes: u64,
+}
+
+impl TableSize {
+    // The size of the table of an image that has a header.
+    pub fn read(image: &[u8]) -> TableSize
+        requires { ⌜ 32 ≤ length (now image) ⌝ }
+        ensures { λ r. ⌜ r ≡ sizeOf (now (image .entry)) ⌝ }
+    {
+        TableSize {
+            nodes: words::u32_at(image, Header::NODE_COUNT) as usize,
+            words: words::u32_at(image, Header::WORD_COUNT),
+            bytes: words::u32_at(image, Header::DATA_LENGTH),
+        }
+    }
+}
+
+// The bytes of an image's table: all after its header.
+pub fn node_table(image: &[u8]) -> &[u8]
+    requires { ⌜ 32 ≤ length (now image) ⌝ }
+    ensures { λ r. ⌜ (now r ≡ drop 32 (now (image .entry))) × (length (now r) + 32 ≡ length (now (image .entry))) ⌝ }
+{
+    let from = Header::SIZE;
+    &image[from..]
+}
+
 // The numbers of a node record, for readers that leave its texts in place.
 pub struct RecordNumbers {
     pub rank: u64,
@@ -82,14 +114,7 @@ impl RecordNumbers {
         requires { ⌜ Laid (now image) × (i < nodeCount (now image)) ⌝ }
         ensures { λ r. ⌜ r ≡ numbersOf (treeOf (now (image .entry))) i ⌝ }
     {
-        let p = Record::at(i);
-        RecordNumbers {
-            rank: words::u16_at(image, p + Record::RANK),
-            first_word: words::u32_at(image, p + Record::FIRST_WORD),
-            parent: words::u32_at(image, p + Record::PARENT),
-            data_at: words::u32_at(image, p + Record::DATA_AT),
-            data_size: words::u32_at(image, p + Record::DATA_SIZE),
-        }
+        nodes::numbers(node_table(image), i)
     }
 }
 
@@ -139,21 +164,7 @@ impl Record {
         requires { ⌜ Laid (now image) × (i < nodeCount (now image)) ⌝ }
         ensures { λ r. ⌜ r ≡ recordOf (treeOf (now (image .entry))) i ⌝ }
     {
-        let p = Record::at(i);
-        let name = fields::text_at(image, p + Record::NAME);
-        let label = fields::text_at(image, p + Record::LABEL);
-        let data_type = fields::pair_at(image, p + Record::DATA_TYPE);
-        let numbers = RecordNumbers::read(image, i);
-        Record {
-            name,
-            label,
-            data_type,
-            rank: numbers.rank,
-            first_word: numbers.first_word,
-            parent: numbers.parent,
-            data_at: numbers.data_at,
-            data_size: numbers.data_size,
-        }
+        nodes::record(node_table(image), i)
     }
 }
 
@@ -162,5 +173,5 @@ pub fn parent_of(image: &[u8], i: usize) -> usize
     requires { ⌜ Laid (now image) × (i < nodeCount (now image)) ⌝ }
     ensures { λ r. ⌜ (r ≡ parent (treeOf (now (image .entry))) i) × (r < 4294967296) ⌝ }
 {
-    words::u32_at(image, Record::at(i) + Record::PARENT) as usize
+    nodes::parent_of(node_table(image), i)
 }

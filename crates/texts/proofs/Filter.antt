@@ -1,4 +1,4 @@
--- The filter of keys: what was marked stays marked, and an earlier sibling of one name would be mayBeMarked.
+-- The filter of keys: what was marked stays marked, and an earlier sibling of one name would be marked.
 use Prim.Native.Nat.{ℕ, _+_, _-_, _≤_, _<_}
 use mathlib.Core.Path.{_≡_, refl, sym, ap₂, _∙_}
 use mathlib.Core.Bool.{Bool, true, false, cond, _||_}
@@ -12,10 +12,9 @@ use borrow.Author.Count.{below-more}
 use borrow.Author.Tests.{eqb-true, eq-eqb, ne-eqb}
 use Rattle.model.specs.Image.{Tree, parent, name}
 use Rattle.model.specs.Records.{sibling, namesake, nameTaken}
-use Rattle.model.proofs.Walks.{someFrom-end}
+use Rattle.model.proofs.Loops.{some-start, some-done}
 use Rattle.model.proofs.Logic.{same-is, untrue, and-first, and-second, or-right}
 use Rattle.texts.specs.Keys.{nameKey, keyAt, placeOf, markOf, marked, withKey, mayBeMarked, Seen}
-use Rattle.texts.proofs.Laws.{some-from}
 
 pub key-small : (t : Tree) (i : ℕ) → keyAt t i < 4194304
 unfolding keyAt nameKey
@@ -90,5 +89,4 @@ module _ {t : Tree} {i : ℕ} {seen : List ℕ} (s : Seen t i seen) {key : ℕ} 
 
   pub not-taken : mayBeMarked seen key ≡ false → nameTaken t i ≡ false
   unfolding nameTaken
-  not-taken f =
-      sym (some-from (namesake t i) i i (omega arith) (unlike f)) ∙ someFrom-end (namesake t i) i i (omega arith)
+  not-taken f = sym (some-done (some-start (namesake t i) i i (omega arith) (unlike f)) (omega arith))

@@ -1,5 +1,5 @@
 -- Texts byte by byte, as loops over their bytes meet them.
-use Prim.Native.Nat.{ℕ, zero, suc, _+_, _-_, _≤_, _<_}
+use Prim.Native.Nat.{ℕ, zero, suc, _+_, _*_, _≤_, _<_}
 use mathlib.Core.Path.{_≡_, refl, sym, ap, _∙_}
 use mathlib.Core.Bool.{Bool, true, false, cond, not, _&&_, _||_}
 use mathlib.Core.List.{List, [], _∷_}
@@ -10,12 +10,14 @@ use lib.Dec.{eqb, leb}
 use lib.ListN.{length, getD, take, drop, length-drop, drop-of-length-le}
 use lib.Seq.{drop-drop, drop-cons, length-take-le, getD-take, getD-drop}
 use borrow.Author.Tests.{eq-eqb, ne-eqb, leb-true}
-use Rattle.model.specs.Lists.{among, someFrom}
+use Rattle.model.specs.Lists.{among}
 use Rattle.model.specs.Bytes.{le}
 use Rattle.model.specs.Records.{printable, labelLawful}
 use Rattle.model.proofs.Reading.{le-take}
-use Rattle.model.proofs.Walks.{someFrom-step}
-use Rattle.model.proofs.Logic.{untrue, and-first}
+use Rattle.model.proofs.Logic.{and-first, and-second, and-true, and-false}
+use Rattle.model.specs.Image.{Node, nodeOf, name, label}
+use Rattle.records.specs.Table.{allRecords}
+use Rattle.records.proofs.Tables.{field}
 use Rattle.texts.specs.Texts.{textAt, textByte, badByte, textBytes}
 
 module _ (b : List ℕ) (at : ℕ) (h : at + 32 ≤ length b) where
@@ -39,10 +41,6 @@ regroup true true true m = refl
 counted : (n : ℕ) (t r : Bool) → (eqb (n + cond t 0 1) 0 && r) ≡ (eqb n 0 && (t && r))
 counted n true r = rw (add-zero n)
 counted n false r = rw (ne-eqb (n + 1) 0 (λ (z : n + 1 ≡ 0). absurd (omega arith))) (sym (and-false (eqb n 0)))
-  where
-    and-false : (a : Bool) → (a && false) ≡ false
-    and-false true = refl
-    and-false false = refl
 
 -- a text's bytes from index k on
 module _ (z : ℕ) (s : List ℕ) (k : ℕ) (h : k < length s) where
@@ -62,10 +60,6 @@ module _ (b : List ℕ) (at : ℕ) (h : at + 32 ≤ length b) (k : ℕ) (l : k <
   pub byte-on : (z n : ℕ) → (eqb (n + badByte z x) 0 && textBytes z (drop (k + 1) (textAt b at))) ≡ (eqb n 0 && textBytes z (drop k (textAt b at)))
   byte-on z n = rw (bytes-step z (textAt b at) k below, byte-is) (counted n (textByte z x) (textBytes z (drop (k + 1) (textAt b at))))
 
-and-true : (a : Bool) → (a && true) ≡ a
-and-true true = refl
-and-true false = refl
-
 pub bytes-end : (z : ℕ) (b : List ℕ) (at : ℕ) → at + 32 ≤ length b → (k : ℕ) → 32 ≤ k → (ok : Bool) → (ok && textBytes z (drop k (textAt b at))) ≡ ok
 unfolding printable among
 bytes-end z b at h k l ok = rw (drop-of-length-le (textAt b at) {i = k} (rw (text-length b at h) l)) (and-true ok)
@@ -74,19 +68,11 @@ bytes-end z b at h k l ok = rw (drop-of-length-le (textAt b at) {i = k} (rw (tex
 module _ (z : ℕ) (s : List ℕ) where
   pub blank-first : getD s 0 32 ≡ 32 → (labelLawful s && not (among z s)) ≡ false
   unfolding labelLawful
-  blank-first e = rw (eq-eqb (getD s 0 32) 32 e) (both (printable s) (not (among z s)))
-    where
-      both : (p n : Bool) → (p && false && n) ≡ false
-      both true n = refl
-      both false n = refl
+  blank-first e = rw (eq-eqb (getD s 0 32) 32 e, and-false (printable s))
 
   pub not-blank : (getD s 0 32 ≡ 32 → ⊥) → (labelLawful s && not (among z s)) ≡ textBytes z s
   unfolding labelLawful
-  not-blank e = rw (ne-eqb (getD s 0 32) 32 e) (both (printable s) (not (among z s)))
-    where
-      both : (p n : Bool) → (p && true && n) ≡ (p && n)
-      both true n = refl
-      both false n = refl
+  not-blank e = rw (ne-eqb (getD s 0 32) 32 e, and-true (printable s))
 
 -- no text has a byte 0
 no-zero : (s : List ℕ) → printable s ≡ true → among 0 s ≡ false
@@ -94,11 +80,7 @@ unfolding printable among
 no-zero [] e = refl
 no-zero (x ∷ s) e =
     let l = leb-true 32 x (and-first (leb 32 x) _ (and-first (leb 32 x && leb x 126) _ e)) in
-    rw (ne-eqb 0 x (λ (q : 0 ≡ x). absurd (omega arith))) (no-zero s (tail (leb 32 x && leb x 126) e))
-  where
-    tail : (t : Bool) → (t && printable s) ≡ true → printable s ≡ true
-    tail true q = q
-    tail false q = untrue q
+    rw (ne-eqb 0 x (λ (q : 0 ≡ x). absurd (omega arith))) (no-zero s (and-second (leb 32 x && leb x 126) (printable s) e))
 
 pub no-zero-barred : (s : List ℕ) → (labelLawful s && not (among 0 s)) ≡ labelLawful s
 unfolding labelLawful
@@ -119,18 +101,12 @@ le-within (suc k) w (suc n) (x ∷ s) h = le-within k w n s (omega arith)
 pub word-of : (b : List ℕ) (at k : ℕ) → k + 8 ≤ 32 → le 8 (drop k (textAt b at)) ≡ le 8 (drop (at + k) b)
 word-of b at k h = le-within k 8 32 (drop at b) h ∙ ap (le 8) (drop-drop k at b)
 
--- a search that ends at i, one that goes on, one that is at its end
-module _ (p : ℕ → Bool) (n i : ℕ) where
-  pub some-here : i < n → p i ≡ true → someFrom p (n - i) i ≡ true
-  some-here h e = rw e at (someFrom-step p n i h)
+-- the texts of a record
+module _ (s : List ℕ) (i : ℕ) (h : i < 4096) where
+  pub name-in : textAt s (84 * i + 0) ≡ name (allRecords s) i
+  unfolding name nodeOf
+  name-in = sym (field s 4096 i h (λ (x : Node). x .name) (take 32) 0 (λ r. refl))
 
-  pub some-on : i < n → p i ≡ false → someFrom p (n - (i + 1)) (i + 1) ≡ someFrom p (n - i) i
-  some-on h e = sym (rw e at (someFrom-step p n i h))
-
--- numbers at which a test fails need no look
-pub some-from : (p : ℕ → Bool) (n i : ℕ) → i ≤ n → ((j : ℕ) → j < i → p j ≡ false) → someFrom p (n - i) i ≡ someFrom p n 0
-some-from p n zero h f = let e : n - 0 ≡ n = omega arith in rw e
-some-from p n (suc i) h f =
-    let s = someFrom-step p n i (omega arith) in
-    let r = some-from p n i (omega arith) (λ j l. f j (omega arith)) in
-    sym (rw (f i (omega arith), add-one i) at s) ∙ r
+  pub label-in : textAt s (84 * i + 32) ≡ label (allRecords s) i
+  unfolding label nodeOf
+  label-in = sym (field s 4096 i h (λ (x : Node). x .label) (take 32) 32 (λ r. refl))

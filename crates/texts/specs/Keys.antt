@@ -1,4 +1,4 @@
--- Keys of names, and the filter of the keys mayBeMarked so far.
+-- Keys of names, and the filter of the keys met so far.
 use Prim.Native.Nat.{ℕ, _+_, _*_, _/_, _%_, _≤_, _<_}
 use mathlib.Core.Path.{_≡_}
 use mathlib.Core.Bool.{Bool, true, cond, _||_}

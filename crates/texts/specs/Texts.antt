@@ -1,4 +1,4 @@
--- Texts of 32 bytes in an image, byte by byte.
+-- Texts of 32 bytes in a table, byte by byte.
 use Prim.Native.Nat.{ℕ}
 use mathlib.Core.Bool.{Bool, cond, not, _&&_}
 use mathlib.Core.List.{List}

@@ -1,12 +1,12 @@
-// Keys of names, and a filter of the keys mayBeMarked so far: it tells at once of most names that no earlier sibling has them.
+// Keys of names, and a filter of the keys met so far: it tells at once of most names that no earlier sibling has them.
 ghost use mathlib.Core.Path.{_≡_};
 ghost use Prim.Native.Nat.{_+_, _≤_, _<_};
 ghost use lib.ListN.{length};
-ghost use Rattle.model.specs.Image.{treeOf, nodeCount};
-ghost use Rattle.model.specs.Bounds.{Laid};
+ghost use Rattle.records.specs.Table.{allRecords, HasRecord};
 ghost use Rattle.texts.specs.Texts.{textAt};
 ghost use Rattle.texts.specs.Keys.{textSum, keyAt, marked, mayBeMarked, withKey};
 use records::Record;
+use records::nodes;
 
 // Keys are below this prime. It and the factors of the words spread names that share most of their bytes; no answer depends on them.
 const KEYS: u64 = 4100011;
@@ -14,28 +14,28 @@ const KEYS: u64 = 4100011;
 // So many keys share a place of the filter.
 const SHARE: usize = 256;
 
-// What a place holds where marks that differ mayBeMarked.
+// What a place holds where marks that differ were made.
 const MANY: u16 = 65535;
 
 // The four words of the text at `at`, each by its factor.
-fn text_sum(image: &[u8], at: usize) -> u64
-    requires { ⌜ at + 32 ≤ length (now image) ⌝ }
-    ensures { λ r. ⌜ (r ≡ textSum (textAt (now (image .entry)) at)) × (r ≤ 30000000000000) ⌝ }
+fn text_sum(table: &[u8], at: usize) -> u64
+    requires { ⌜ at + 32 ≤ length (now table) ⌝ }
+    ensures { λ r. ⌜ (r ≡ textSum (textAt (now (table .entry)) at)) × (r ≤ 30000000000000) ⌝ }
 {
-    let a = words::u64_at(image, at) % KEYS;
-    let b = words::u64_at(image, at + 8) % KEYS;
-    let c = words::u64_at(image, at + 16) % KEYS;
-    let d = words::u64_at(image, at + 24) % KEYS;
+    let a = words::u64_at(table, at) % KEYS;
+    let b = words::u64_at(table, at + 8) % KEYS;
+    let c = words::u64_at(table, at + 16) % KEYS;
+    let d = words::u64_at(table, at + 24) % KEYS;
     a * 1000003 + b * 1500007 + c * 2000003 + d * 2500009
 }
 
 // The key of node i, a number from its name and its parent: siblings of one name have one key.
-pub fn name_key(image: &[u8], i: usize) -> usize
-    requires { ⌜ Laid (now image) × (i < nodeCount (now image)) ⌝ }
-    ensures { λ r. ⌜ r ≡ keyAt (treeOf (now (image .entry))) i ⌝ }
+pub fn name_key(table: &[u8], i: usize) -> usize
+    requires { ⌜ HasRecord (now table) i ⌝ }
+    ensures { λ r. ⌜ r ≡ keyAt (allRecords (now (table .entry))) i ⌝ }
 {
-    let sum = text_sum(image, Record::at(i) + Record::NAME);
-    let up = records::parent_of(image, i) as u64;
+    let sum = text_sum(table, Record::SIZE * i + Record::NAME);
+    let up = nodes::parent_of(table, i) as u64;
     ((sum + up * 3000017) % KEYS) as usize
 }
 

@@ -4,18 +4,18 @@ ghost use mathlib.Core.Bool.{true, not, _&&_};
 ghost use Prim.Native.Nat.{_+_, _≤_, _<_};
 ghost use lib.ListN.{length};
 ghost use Rattle.model.specs.Lists.{among};
-ghost use Rattle.model.specs.Image.{treeOf, nodeCount, name, label, parent};
+ghost use Rattle.model.specs.Image.{name, label, parent};
 ghost use Rattle.model.specs.Records.{nameLawful, labelLawful, namesake, nameTaken, parentLawful};
-ghost use Rattle.model.specs.Bounds.{Laid};
-ghost use Rattle.model.specs.Given.{RecordsTo};
+ghost use Rattle.records.specs.Table.{allRecords, HasRecord, LawfulBefore};
 ghost use Rattle.texts.specs.Texts.{textAt, textByte, badByte, textBytes};
 ghost use Rattle.texts.specs.Keys.{keyAt, Seen};
 
-mod keys; // keys.rt: keys of names, and a filter of those mayBeMarked
+mod keys; // keys.rt: keys of names, and a filter of those met so far
 
 pub use keys::add_key;
 pub use keys::name_key;
 use records::Record;
+use records::nodes;
 
 const BLANK: u8 = 32;
 
@@ -42,69 +42,69 @@ fn bad(x: u8, barred: u8) -> u8
 }
 
 // Whether all 32 bytes from `at` may. It counts those that may not: a loop with no way out of it.
-fn all_text_bytes(image: &[u8], at: usize, barred: u8) -> bool
-    requires { ⌜ at + 32 ≤ length (now image) ⌝ }
-    ensures { λ r. ⌜ r ≡ textBytes barred (textAt (now (image .entry)) at) ⌝ }
+fn all_text_bytes(table: &[u8], at: usize, barred: u8) -> bool
+    requires { ⌜ at + 32 ≤ length (now table) ⌝ }
+    ensures { λ r. ⌜ r ≡ textBytes barred (textAt (now (table .entry)) at) ⌝ }
 {
     let mut n: u8 = 0;
     let mut k: usize = 0;
     while k < 32 {
-        n += bad(image[at + k], barred);
+        n += bad(table[at + k], barred);
         k += 1;
     }
     n == 0
 }
 
 // Whether the 32 bytes from `at` are a lawful text without the barred byte.
-fn is_text(image: &[u8], at: usize, barred: u8) -> bool
-    requires { ⌜ at + 32 ≤ length (now image) ⌝ }
-    ensures { λ r. ⌜ r ≡ (labelLawful (textAt (now (image .entry)) at) && not (among barred (textAt (now (image .entry)) at))) ⌝ }
+fn is_text(table: &[u8], at: usize, barred: u8) -> bool
+    requires { ⌜ at + 32 ≤ length (now table) ⌝ }
+    ensures { λ r. ⌜ r ≡ (labelLawful (textAt (now (table .entry)) at) && not (among barred (textAt (now (table .entry)) at))) ⌝ }
 {
-    if image[at] == BLANK {
+    if table[at] == BLANK {
         return false;
     }
-    all_text_bytes(image, at, barred)
+    all_text_bytes(table, at, barred)
 }
 
 // Rule 9: whether the name of node i is lawful. A name has no slash.
-pub fn name_lawful(image: &[u8], i: usize) -> bool
-    requires { ⌜ Laid (now image) × (i < nodeCount (now image)) ⌝ }
-    ensures { λ r. ⌜ r ≡ nameLawful (name (treeOf (now (image .entry))) i) ⌝ }
+pub fn name_lawful(table: &[u8], i: usize) -> bool
+    requires { ⌜ HasRecord (now table) i ⌝ }
+    ensures { λ r. ⌜ r ≡ nameLawful (name (allRecords (now (table .entry))) i) ⌝ }
 {
-    is_text(image, Record::at(i) + Record::NAME, SLASH)
+    is_text(table, Record::SIZE * i + Record::NAME, SLASH)
 }
 
 // Rule 10: whether the label of node i is lawful. Byte 0 is barred, as it is in every text.
-pub fn label_lawful(image: &[u8], i: usize) -> bool
-    requires { ⌜ Laid (now image) × (i < nodeCount (now image)) ⌝ }
-    ensures { λ r. ⌜ r ≡ labelLawful (label (treeOf (now (image .entry))) i) ⌝ }
+pub fn label_lawful(table: &[u8], i: usize) -> bool
+    requires { ⌜ HasRecord (now table) i ⌝ }
+    ensures { λ r. ⌜ r ≡ labelLawful (label (allRecords (now (table .entry))) i) ⌝ }
 {
-    is_text(image, Record::at(i) + Record::LABEL, 0)
+    is_text(table, Record::SIZE * i + Record::LABEL, 0)
 }
 
 // Whether node j has the parent `up` of node i, and its name.
-fn is_namesake(image: &[u8], i: usize, up: usize, j: usize) -> bool
-    requires { ⌜ Laid (now image) × (i < nodeCount (now image)) ⌝ }
-    requires { ⌜ (up ≡ parent (treeOf (now image)) i) × (j < nodeCount (now image)) ⌝ }
-    ensures { λ r. ⌜ r ≡ namesake (treeOf (now (image .entry))) i j ⌝ }
+fn is_namesake(table: &[u8], i: usize, up: usize, j: usize) -> bool
+    requires { ⌜ HasRecord (now table) i × HasRecord (now table) j ⌝ }
+    requires { ⌜ up ≡ parent (allRecords (now table)) i ⌝ }
+    ensures { λ r. ⌜ r ≡ namesake (allRecords (now (table .entry))) i j ⌝ }
 {
-    if records::parent_of(image, j) != up {
+    if nodes::parent_of(table, j) != up {
         return false;
     }
     words::same_fields(
-        image,
-        Record::at(j) + Record::NAME,
-        image,
-        Record::at(i) + Record::NAME,
+        table,
+        Record::SIZE * j + Record::NAME,
+        table,
+        Record::SIZE * i + Record::NAME,
     )
 }
 
 // Rule 11: whether an earlier sibling of node i has its name. It would have the key too, so most nodes need no search. Siblings
 // stand after the parent, so the search starts there.
-pub fn name_taken(image: &[u8], i: usize, key: usize, seen: &[u16]) -> bool
-    requires { ⌜ RecordsTo (now image) i × (parentLawful (treeOf (now image)) i ≡ true) ⌝ }
-    requires { ⌜ (key ≡ keyAt (treeOf (now image)) i) × Seen (treeOf (now image)) i (now seen) ⌝ }
-    ensures { λ r. ⌜ r ≡ nameTaken (treeOf (now (image .entry))) i ⌝ }
+pub fn name_taken(table: &[u8], i: usize, key: usize, seen: &[u16]) -> bool
+    requires { ⌜ HasRecord (now table) i × (LawfulBefore (now table) i × (parentLawful (allRecords (now table)) i ≡ true)) ⌝ }
+    requires { ⌜ (key ≡ keyAt (allRecords (now table)) i) × Seen (allRecords (now table)) i (now seen) ⌝ }
+    ensures { λ r. ⌜ r ≡ nameTaken (allRecords (now (table .entry))) i ⌝ }
 {
     if i == 0 {
         return false;
@@ -112,10 +112,10 @@ pub fn name_taken(image: &[u8], i: usize, key: usize, seen: &[u16]) -> bool
     if !keys::may_be_marked(seen, key) {
         return false;
     }
-    let up = records::parent_of(image, i);
+    let up = nodes::parent_of(table, i);
     let mut j = up + 1;
     while j < i {
-        if is_namesake(image, i, up, j) {
+        if is_namesake(table, i, up, j) {
             return true;
         }
         j += 1;

@@ -1,3 +1,4 @@
+-- 1 where the byte may not stand, as the test says.
 use native.Mathlib.Omega.{arith}
 use borrow.Author.Needs.{needs}
 use Rattle.texts.proofs.bad.Statement.{statement}

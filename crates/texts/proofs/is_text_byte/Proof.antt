@@ -1,3 +1,4 @@
+-- The three tests in their order.
 use borrow.Author.Tests.{lt-leb, le-leb}
 use Rattle.texts.proofs.is_text_byte.Statement.{statement}
 use Rattle.texts.proofs.is_text_byte.Tie as tie

@@ -1,21 +1,13 @@
-use native.Mathlib.Omega.{arith}
-use Prim.Native.Nat.{_+_, _<_}
-use mathlib.Core.Path.{_≡_}
+-- The name is a text without a slash.
 use borrow.Author.Needs.{needs}
-use Rattle.model.specs.Image.{nodeCount, recordAt}
 use Rattle.model.specs.Records.{nameLawful}
-use Rattle.model.proofs.Reading.{name-at}
+use Rattle.texts.proofs.Laws.{name-in}
 use Rattle.texts.proofs.name_lawful.Statement.{statement}
 use Rattle.texts.proofs.name_lawful.Tie as tie
 
 returns : tie.Need-returns
 unfolding nameLawful
-returns c =
-    let a = c .before .before .before .args in
-    let b = a .image .now in
-    let h : a .i < nodeCount b = omega arith in
-    let e : c .before .at .result + 0 ≡ recordAt (a .i) = omega arith in
-    rw (name-at b (a .i) h, ← e) (c .is-text .ensures)
+returns c = let d = c .before .before in rw (name-in (d .args .table .now) (d .args .i) (d .pre .0)) at (c .is-text .ensures)
 
 pub name-lawful-spec : {M : Type 1} → statement M
 name-lawful-spec = tie.close (tie.spec (search needs) (search needs) (search needs) returns)

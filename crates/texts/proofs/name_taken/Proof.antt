@@ -1,24 +1,24 @@
--- A key that was not mayBeMarked has no earlier sibling. Else the siblings from j on decide; up to the parent there is none.
+-- A key that was not marked has no earlier sibling of its name. Else the siblings from j on decide; up to the parent there is none.
 use native.Mathlib.Omega.{arith}
-use Prim.Native.Nat.{_+_, _-_, _≤_, _<_}
+use Prim.Native.Nat.{_+_, _-_, _<_}
 use mathlib.Core.Path.{_≡_, sym, _∙_}
 use borrow.Author.Needs.{needs}
 use borrow.Author.Tests.{not-true}
 use Rattle.model.specs.Lists.{someFrom}
-use Rattle.model.specs.Image.{treeOf, parent}
+use Rattle.model.specs.Image.{parent}
 use Rattle.model.specs.Records.{namesake, nameTaken}
-use Rattle.model.proofs.Walks.{someFrom-end}
-use Rattle.model.proofs.Parents.{parent-lower, no-namesake, lawful-to}
-use Rattle.texts.proofs.Laws.{some-from, some-here, some-on}
+use Rattle.model.proofs.Loops.{SomeLeft, some-start, some-more, some-stop, some-done}
+use Rattle.model.proofs.Parents.{parent-lower, no-namesake}
+use Rattle.records.specs.Table.{allRecords}
 use Rattle.texts.proofs.Filter.{key-fits, not-taken}
 use Rattle.texts.proofs.name_taken.Statement.{statement}
 use Rattle.texts.proofs.name_taken.Tie as tie
 
 abbrev Inv-loop : tie.InvT-loop
-Inv-loop image i key seen up j₀ j = (j ≤ i) × (someFrom (namesake (treeOf image) i) (i - j) j ≡ nameTaken (treeOf image) i)
+Inv-loop table i key seen up j₀ j = SomeLeft (namesake (allRecords table) i) i j (nameTaken (allRecords table) i)
 
 abbrev μ-loop : tie.MeasureT-loop
-μ-loop image i key seen up j₀ j = i - j
+μ-loop table i key seen up j₀ j = i - j
 
 returns : tie.Need-returns Inv-loop μ-loop
 unfolding nameTaken someFrom
@@ -36,25 +36,21 @@ loop-holds : tie.Need-loop-holds Inv-loop μ-loop
 unfolding nameTaken
 loop-holds c =
     let d = c .before .before .before .before .before .before in
-    let b = d .args .image .now in
+    let p = d .pre .0 .1 in
     let i = d .args .i in
-    let t = treeOf b in
-    let u : parent t i < i = parent-lower t i (d .pre .0 .1) (c .before .before .before .if1 .left) in
+    let t = allRecords (d .args .table .now) in
+    let u : parent t i < i = parent-lower t i (p .1) (c .before .before .before .if1 .left) in
     let e = c .parent-of .ensures .0 in
-    (omega arith, some-from (namesake t i) i (c .parent-of .result + 1) (omega arith) (λ k l. no-namesake t i k (lawful-to b i (d .pre .0 .0) (d .pre .0 .1) k (omega arith)) (omega arith) (omega arith)))
+    some-start (namesake t i) i (c .parent-of .result + 1) (omega arith) (λ k l. no-namesake t i k (p .0 k (omega arith)) (omega arith) (omega arith))
 
 returns-3 : tie.Need-returns-3 Inv-loop μ-loop
-returns-3 c =
-    let l = c .before .before .before in
-    sym (some-here _ _ (l .loop .j) (omega arith) (sym (c .before .is-namesake .ensures) ∙ c .if3 .taken)) ∙ l .loop .inv .1
+returns-3 c = some-stop (c .before .before .before .loop .inv) (omega arith) (sym (c .before .is-namesake .ensures) ∙ c .if3 .taken)
 
 loop-again : tie.Need-loop-again Inv-loop μ-loop
-loop-again c =
-    let l = c .before .before .before in
-    (omega arith, some-on _ _ (l .loop .j) (omega arith) (sym (c .before .is-namesake .ensures) ∙ c .if3 .left) ∙ l .loop .inv .1)
+loop-again c = some-more (c .before .before .before .loop .inv) (omega arith) (sym (c .before .is-namesake .ensures) ∙ c .if3 .left)
 
 returns-4 : tie.Need-returns-4 Inv-loop μ-loop
-returns-4 c = sym (someFrom-end _ _ (c .before .loop .j) (omega arith)) ∙ c .before .loop .inv .1
+returns-4 c = some-done (c .before .loop .inv) (omega arith)
 
 pub name-taken-spec : {M : Type 1} → statement M
 name-taken-spec =

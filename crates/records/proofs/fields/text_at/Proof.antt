@@ -14,8 +14,8 @@ returns : tie.Need-returns
 returns c =
     let a = c .before .before .before .before .before .args in
     let e : a .at + 32 - a .at ≡ 32 = omega arith in
-    let s = take 32 (drop (a .at) (a .image .now)) in
-    let l : length s ≡ 32 = length-take-le 32 (drop (a .at) (a .image .now)) (rw length-drop (omega arith)) in
+    let s = take 32 (drop (a .at) (a .table .now)) in
+    let l : length s ≡ 32 = length-take-le 32 (drop (a .at) (a .table .now)) (rw length-drop (omega arith)) in
     rw e at (c .before .put-bytes .ensures) ∙ filled (replicate 32 0) s (rw l (lit≤ tt))
 
 pub text-at-spec : {M : Type 1} → statement M

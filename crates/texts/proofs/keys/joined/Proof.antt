@@ -1,3 +1,4 @@
+-- A place that held nothing or this mark holds the mark, any other holds that there are many.
 use borrow.Author.Tests.{eq-eqb, ne-eqb}
 use Rattle.texts.proofs.keys.joined.Statement.{statement}
 use Rattle.texts.proofs.keys.joined.Tie as tie

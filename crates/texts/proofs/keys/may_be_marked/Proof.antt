@@ -1,3 +1,4 @@
+-- The mark of many keys, or the key's own.
 use mathlib.Core.Path.{refl}
 use borrow.Author.Needs.{needs}
 use borrow.Author.Tests.{eq-eqb, ne-eqb}
