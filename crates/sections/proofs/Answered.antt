@@ -24,7 +24,7 @@ use Rattle.model.proofs.Bounds.{sound}
 use Rattle.model.proofs.Sections.{zone-is}
 use Rattle.index.specs.Index.{Index}
 use Rattle.sections.specs.After.{EntriesDue, answeredCount}
-use Rattle.sections.proofs.Filling.{all-taken}
+use Rattle.sections.proofs.Filling.{Filled, all-taken}
 
 -- an image that passed
 pub accepted : (b : List ℕ) → imageCheck b ≡ passed → Accepted b
@@ -104,12 +104,14 @@ pub nothing-written : (b : List ℕ) (out : List Section) → over out (entries 
 unfolding over entries
 nothing-written b out = refl
 
--- with n entries written
-pub answered-memory : (b : List ℕ) (z : ℕ) (out : List Section) (r : Count) {n : ℕ} → countTells r ≡ sectionsAnswer b z (length out) → n ≡ answeredCount r
-    → over out (entries (treeOf b) (take n (sectionNodes (treeOf b) z))) ≡ sectionsMemory b z out
+-- with all entries written that the answer tells of
+pub answered-memory : {b : List ℕ} {z n at i : ℕ} {out ws : List Section} → Filled b z n out ws at i → n ≤ i → (r : Count) → countTells r ≡ sectionsAnswer b z (length out)
+    → n ≡ answeredCount r → ws ≡ sectionsMemory b z out
 unfolding sectionsMemory
-answered-memory b z out (Count.Of m) e f =
+answered-memory {b} {z} {n} {at} {i} {out} f h (Count.Of m) e g =
     let c = counts b z (length out) e in
-    rw (f ∙ c .all, all-taken) (count-leaves b z (length out) out (over out (sectionEntries (treeOf b) z)) e)
-answered-memory b z out (Count.Rejected x) e f =
-    rw f (nothing-written b out ∙ rejection-leaves b z (length out) out (over out (sectionEntries (treeOf b) z)) e)
+    let k : i ≡ length (sectionNodes (treeOf b) z) = omega (arith, f .few, g, c .all) in
+    f .stored ∙ rw (k, all-taken) (count-leaves b z (length out) out (over out (sectionEntries (treeOf b) z)) e)
+answered-memory {b} {z} {n} {at} {i} {out} f h (Count.Rejected x) e g =
+    let k : i ≡ 0 = omega (arith, f .few, g) in
+    f .stored ∙ rw k (nothing-written b out ∙ rejection-leaves b z (length out) out (over out (sectionEntries (treeOf b) z)) e)

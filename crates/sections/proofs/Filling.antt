@@ -5,7 +5,7 @@ use mathlib.Core.List.{List, [], _∷_, _++_, append-assoc}
 use native.Mathlib.Omega.{arith}
 use native.Mathlib.Numerals.{add-one}
 use native.Mathlib.Nat.{add-zero}
-use lib.ListN.{length, getD, take, drop, set, length-append, length-drop}
+use lib.ListN.{length, getD, take, drop, set, length-append, length-drop, length-set}
 use lib.Seq.{sets, sets-eq, take-suc, take-append-seam, drop-append-add, drop-drop, getD-drop, length-take-le, take-length}
 use Rattle.model.specs.declared.Section.{Section}
 use Rattle.model.specs.Lists.{over}
@@ -13,7 +13,7 @@ use Rattle.model.specs.Image.{Tree, treeOf, nodeCount}
 use Rattle.model.specs.Given.{Sound, Accepted}
 use Rattle.model.specs.Sections.{sectionNodes, entry, entries, sectionEntries, entryNumbers, allNumbers}
 use Rattle.model.proofs.Flat.{numbers-length, entries-length}
-use Rattle.sections.specs.After.{sectionsAfter}
+use Rattle.sections.specs.After.{sectionsAfter, Onward, EntriesDue}
 use Rattle.sections.proofs.After.{next-is, next-section, after-next, all-after}
 
 module _ {A : Type 0} where
@@ -91,6 +91,39 @@ module _ {b : List ℕ} {z i k : ℕ} (v : Visited b z i k) (h : k < length (sec
         inside = next-section b z i (v .inside) some-left a .inside;
         rest = after-next b z i (v .inside) some-left ∙ ap (drop 1) (v .rest) ∙ drop-drop 1 k (sectionNodes (treeOf b) z);
       })
+
+-- i of the n entries that are due are stored in out, the last at node at
+pub record Filled (b : List ℕ) (z n : ℕ) (out ws : List Section) (at i : ℕ) : Type 0 where
+  pub few : i ≤ n
+  pub stored : ws ≡ over out (entries (treeOf b) (take i (sectionNodes (treeOf b) z)))
+  pub same : length ws ≡ length out
+  pub visited : 0 < n → Visited b z at i
+
+pub none-stored : {b index : List ℕ} {z n : ℕ} {out : List Section} → EntriesDue b index z (length out) n → Filled b z n out out z 0
+unfolding over entries
+none-stored {b} d = record { few = omega arith; stored = refl; same = refl; visited = λ h. none-visited b (d .accepted-where h .sound) _ (d .zone-where h) }
+
+module _ {b index : List ℕ} {z n at i : ℕ} {out ws : List Section} (d : EntriesDue b index z (length out) n) (f : Filled b z n out ws at i) (h : i < n) where
+  some : 0 < n
+  some = omega arith
+
+  inside : i < length (sectionNodes (treeOf b) z)
+  inside = omega (arith, d .all-where some)
+
+  pub onward : Onward b index z at
+  onward =
+      let v = f .visited some in
+      record { indexed = d .index-where some; accepted = d .accepted-where some; inside = v .inside; some = some-left v inside }
+
+  pub one-stored : {e : Section} → e ≡ entry (treeOf b) (getD (sectionsAfter (treeOf b) z at) 0 0) → Filled b z n out (set ws i e) (e .node) (i + 1)
+  one-stored {e} q =
+      let v = f .visited some in
+      record {
+        few = omega arith;
+        stored = store-entry (treeOf b) (sectionNodes (treeOf b) z) i inside out ws e (f .stored) (next-entry v inside q) (omega (arith, d .few, d .all-where some));
+        same = length-set ws i e ∙ f .same;
+        visited = λ l. one-visited v inside (d .accepted-where some) q;
+      }
 
 -- all of them
 pub all-taken : (t : Tree) (z : ℕ) → entries t (take (length (sectionNodes t z)) (sectionNodes t z)) ≡ sectionEntries t z

@@ -1,4 +1,6 @@
 pub mod Walk
+pub mod Steps
+pub mod Listed
 pub mod After
 pub mod Parts
 pub mod Filling

@@ -1,31 +1,13 @@
 // Section entries as structs.
 ghost use mathlib.Core.Path.{_≡_};
 ghost use lib.ListN.{length};
-ghost use Rattle.model.specs.Lists.{over};
-ghost use Rattle.model.specs.Image.{treeOf};
 ghost use Rattle.model.specs.Answers.{countTells};
 ghost use Rattle.model.specs.Sections.{sectionsAnswer, sectionsMemory};
-ghost use Rattle.sections.specs.After.{firstEntries, EntriesDue};
 use super::answers::answered_count;
 use super::answers::sections_answer;
 use super::zones::entry_after;
 use model::Count;
 use model::Section;
-
-// Writes the first n entries of the zone's sections to the front of `out`, in node order; the rest stays.
-fn fill_list(out: &mut [Section], image: &[u8], index: &[u16], zone: u64, n: usize)
-    requires { ⌜ EntriesDue (now image) (now index) zone (length (now out)) n ⌝ }
-    ensures { λ _. ⌜ now (out .exit) ≡ over (now (out .entry)) (firstEntries (treeOf (now (image .entry))) zone n) ⌝ }
-{
-    let mut at = zone;
-    let mut i = 0;
-    while i < n {
-        let e = entry_after(image, index, zone, at);
-        at = e.node;
-        out[i] = e;
-        i += 1;
-    }
-}
 
 // The section entries of a zone: validation's rejection first, then rule 40, then 46; the entries are written to the front of `out` in node order,
 // their count is answered, and the rest of `out` stays. A rejection leaves `out` as it was.
@@ -34,6 +16,14 @@ pub fn list_sections(out: &mut [Section], image: &[u8], zone: u64) -> Count
 {
     let mut index: [u16; 16384] = [0; 16384];
     let answer = sections_answer(image, &mut index, zone, out.len());
-    fill_list(out, image, &index, zone, answered_count(answer));
+    let n = answered_count(answer);
+    let mut at = zone;
+    let mut i = 0;
+    while i < n {
+        let e = entry_after(image, &index, zone, at);
+        at = e.node;
+        out[i] = e;
+        i += 1;
+    }
     answer
 }
