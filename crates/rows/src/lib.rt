@@ -1,11 +1,12 @@
 // Rows of numbers of 4 or 8 bytes each in an image: start offsets, connectivities.
 ghost use mathlib.Core.Path.{_≡_};
-ghost use Prim.Native.Nat.{_<_};
+ghost use Prim.Native.Nat.{_-_, _<_};
 ghost use lib.Dec.{T};
+ghost use Rattle.model.specs.Lists.{seekFrom};
 ghost use Rattle.model.specs.Bytes.{half, negative, magnitude, signed};
 ghost use Rattle.model.specs.Corner.{inside, numberAt};
 ghost use Rattle.words.specs.Width.{isWidth};
-ghost use Rattle.rows.specs.Rows.{Numbers};
+ghost use Rattle.rows.specs.Rows.{Numbers, endsAfterAt};
 
 // n numbers of `width` bytes each, from the byte `at` on.
 pub struct Row {
@@ -88,4 +89,20 @@ pub fn magnitude_at(image: &[u8], row: Row, k: usize) -> u64
     } else {
         words::magnitude64(words::i64_at(image, at + 8 * k))
     }
+}
+
+// Of a row of start offsets, one more than there are elements: the first element that ends after entry k; how many there are where none does.
+pub fn ends_after(image: &[u8], row: Row, k: u64) -> usize
+    requires { ⌜ Numbers (now image) (row .at) (row .width) (row .n) × (0 < row .n) ⌝ }
+    ensures { λ r. ⌜ (r ≡ seekFrom (endsAfterAt (now (image .entry)) row k) (row .n - 1) 0) × (r < row .n) ⌝ }
+{
+    let n = row.n - 1;
+    let mut j: usize = 0;
+    while j < n {
+        if k < number_at(image, row, j + 1) {
+            return j;
+        }
+        j += 1;
+    }
+    n
 }

@@ -1,10 +1,10 @@
-// The bytes that are lent: one for each face, 0 unused, 1 used forward, 2 reversed, 3 both.
+// The bytes of face usage: one for each face, 0 unused, 1 used forward, 2 reversed, 3 both.
 ghost use mathlib.Core.Path.{_≡_};
 ghost use mathlib.Core.List.{_++_};
 ghost use Prim.Native.Nat.{_≤_, _<_};
 ghost use lib.ListN.{length, getD, drop, replicate};
 ghost use Rattle.model.specs.FaceUsage.{unused};
-ghost use Rattle.faces.specs.Uses.{signOf, afterUse};
+ghost use Rattle.ledger.specs.Marks.{signOf, afterUse};
 
 // Makes the first n bytes 0; the others stay.
 pub fn clear(out: &mut [u8], n: usize)
