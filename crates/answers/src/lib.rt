@@ -46,18 +46,20 @@ pub fn put_answer(out: &mut [u8], answer: ExportAnswer, n: usize) -> u64
     answer.rule
 }
 
-// A rule, a node and four values.
-fn with_words(
-    rule: u64,
-    node: u64,
-    first: u64,
-    second: u64,
-    third: u64,
-    fourth: u64,
-) -> ExportAnswer
-    ensures { λ r. ⌜ (r .rule ≡ rule) × (r .words ≡ node ∷ first ∷ second ∷ third ∷ fourth ∷ []) ⌝ }
+// An answer with four values: no rule, no node.
+fn answered(first: u64, second: u64, third: u64, fourth: u64) -> ExportAnswer
+    ensures { λ r. ⌜ (r .rule ≡ 0) × (r .words ≡ 0 ∷ first ∷ second ∷ third ∷ fourth ∷ []) ⌝ }
 {
-    let words = [node, first, second, third, fourth];
+    let words = [0, first, second, third, fourth];
+    ExportAnswer { rule: 0, words }
+}
+
+// A rejection: its rule, its node, an element, and no more.
+fn rejected(r: Rejection, element: u64) -> ExportAnswer
+    ensures { λ a. ⌜ (a .rule ≡ r .rule) × (a .words ≡ r .node ∷ element ∷ 0 ∷ 0 ∷ 0 ∷ []) ⌝ }
+{
+    let rule = r.rule;
+    let words = [r.node, element, 0, 0, 0];
     ExportAnswer { rule, words }
 }
 
@@ -81,8 +83,8 @@ pub fn validation_answer(v: Validation) -> ExportAnswer
             skipped,
             zones,
             sections,
-        } => with_words(0, 0, validated, skipped, zones, sections),
-        Validation::Rejected(r) => with_words(r.rule, r.node, 0, 0, 0, 0),
+        } => answered(validated, skipped, zones, sections),
+        Validation::Rejected(r) => rejected(r, 0),
     }
 }
 
@@ -91,8 +93,8 @@ pub fn count_answer(c: Count) -> ExportAnswer
     ensures { λ r. ⌜ (r .rule ≡ ruleOf (countTells c)) × (take 2 (r .words) ≡ countWords (countTells c)) ⌝ }
 {
     match c {
-        Count::Of(n) => with_words(0, 0, n, 0, 0, 0),
-        Count::Rejected(r) => with_words(r.rule, r.node, 0, 0, 0, 0),
+        Count::Of(n) => answered(n, 0, 0, 0),
+        Count::Rejected(r) => rejected(r, 0),
     }
 }
 
@@ -101,8 +103,8 @@ pub fn usage_answer(u: FaceUsage) -> ExportAnswer
     ensures { λ r. ⌜ (r .rule ≡ ruleOf (usageTells u)) × (take 3 (r .words) ≡ usageWords (usageTells u)) ⌝ }
 {
     match u {
-        FaceUsage::Faces(n) => with_words(0, 0, 0, n, 0, 0),
-        FaceUsage::Rejected(r) => with_words(r.rule, r.node, r.element, 0, 0, 0),
+        FaceUsage::Faces(n) => answered(0, n, 0, 0),
+        FaceUsage::Rejected(r) => rejected(r, r.element),
     }
 }
 
@@ -110,7 +112,7 @@ pub fn usage_answer(u: FaceUsage) -> ExportAnswer
 fn single_answer(bits: u32) -> ExportAnswer
     ensures { λ r. ⌜ (r .rule ≡ 0) × (take 3 (r .words) ≡ 0 ∷ 2 ∷ bits ∷ []) ⌝ }
 {
-    with_words(0, 0, 2, bits as u64, 0, 0)
+    answered(2, bits as u64, 0, 0)
 }
 
 // An array value: node, kind, bits.
@@ -119,12 +121,12 @@ pub fn value_answer(v: ArrayValue) -> ExportAnswer
     ensures { λ r. ⌜ (r .rule ≡ ruleOf (valueTells v)) × (take 3 (r .words) ≡ valueWords (valueTells v)) ⌝ }
 {
     match v {
-        ArrayValue::Whole(x) => with_words(0, 0, 1, whole_bits(x), 0, 0),
+        ArrayValue::Whole(x) => answered(1, whole_bits(x), 0, 0),
         ArrayValue::Single(x) => single_answer(f32::to_bits(x)),
-        ArrayValue::Double(x) => with_words(0, 0, 3, f64::to_bits(x), 0, 0),
+        ArrayValue::Double(x) => answered(3, f64::to_bits(x), 0, 0),
         ArrayValue::SingleNan(bits) => single_answer(bits),
-        ArrayValue::DoubleNan(bits) => with_words(0, 0, 3, bits, 0, 0),
-        ArrayValue::Rejected(r) => with_words(r.rule, r.node, 0, 0, 0, 0),
+        ArrayValue::DoubleNan(bits) => answered(3, bits, 0, 0),
+        ArrayValue::Rejected(r) => rejected(r, 0),
     }
 }
 
@@ -138,8 +140,8 @@ pub fn size_answer(d: DataSize) -> ExportAnswer
             i,
             j,
             k,
-        } => with_words(0, 0, directions, i, j, k),
-        DataSize::Rejected(r) => with_words(r.rule, r.node, 0, 0, 0, 0),
+        } => answered(directions, i, j, k),
+        DataSize::Rejected(r) => rejected(r, 0),
     }
 }
 

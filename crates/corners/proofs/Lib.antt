@@ -1,4 +1,2 @@
-pub mod Widths
 pub mod Ranges
 pub mod Outcomes
-pub mod Elements

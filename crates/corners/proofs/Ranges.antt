@@ -15,7 +15,7 @@ use Rattle.model.specs.Corner.{inside, entryStart, startsBefore, readable}
 use Rattle.corners.specs.declared.spans.Span.{Span}
 use Rattle.corners.specs.declared.spans.Span.the-variants as Span
 use Rattle.corners.specs.Spans.{provided, fixedSpan, rangeBetween, offsetSpan, spanOf, SpanIn, SpanInside}
-use Rattle.corners.proofs.Widths.{same-test}
+use Rattle.rows.proofs.Rows.{same-test}
 
 -- the product of k and at most 27 nodes, from the product of k / 32
 module _ (k m : ℕ) (few : m ≤ 27) where
@@ -111,7 +111,8 @@ span-is b e k = by-type (hasOffsets (e .«element_type»)) refl
     by-type true q = rw q (by-offsets (ltb 0 (nodesPer (e .«element_type»))) _ _ _ _ _)
     by-type false q = rw q (by-nodes (ltb 0 (nodesPer (e .«element_type»))) _ _ _ _ (has-node k (nodesPer (e .«element_type»))))
 
-pub span-outside : (b : List ℕ) (e : Section) (k : ℕ) → inside b (e .«connectivity_at») (e .«connectivity_width») (e .«connectivity_length») ≡ false → Span.Unreadable ≡ spanOf b e k
+pub span-outside : (b : List ℕ) (e : Section) (k : ℕ)
+    → inside b (e .«connectivity_at») (e .«connectivity_width») (e .«connectivity_length») ≡ false → Span.Unreadable ≡ spanOf b e k
 span-outside b e k q = rw (span-is, q)
 
 pub span-inside : (b : List ℕ) (e : Section) (s : Span) → inside b (e .«connectivity_at») (e .«connectivity_width») (e .«connectivity_length») ≡ true

@@ -12,6 +12,7 @@ use Rattle.model.specs.Lists.{over}
 use Rattle.model.specs.Rules.{_unless_, Answer, check, _gives_, leaves}
 use Rattle.model.specs.Corner.{inside, numberAt, entryStart, readable}
 use Rattle.model.specs.ReadList.{valuesFrom}
+use Rattle.rows.specs.declared.Row.{Row}
 use Rattle.corners.specs.declared.spans.Span.{Span}
 use Rattle.corners.specs.declared.spans.Span.the-variants as Span
 
@@ -57,6 +58,14 @@ cornerIn b e start end corner =
     check 0 (42 unless (leb 1 corner && leb corner (end - start)) ∷ [])
     gives signed (e .«connectivity_width») (numberAt b (e .«connectivity_at») (e .«connectivity_width») (start + (corner - 1)))
 
+-- n numbers of a row, from number `start` on, signed; those of an entry's connectivity
+abbrev pub rowValues : List ℕ → Row → ℕ → ℕ → List ℤ
+rowValues b r start n = valuesFrom (λ k. signed (r .width) (numberAt b (r .at) (r .width) (start + k))) n 0
+
+abbrev pub elementValues : List ℕ → Section → ℕ → ℕ → List ℤ
+elementValues b e start n =
+    rowValues b (record { at = e .«connectivity_at»; width = e .«connectivity_width»; n = e .«connectivity_length» }) start n
+
 -- the same of all corners at once: 46, and how many they are; the numbers in front of the lent memory
 unfoldable pub cornersIn : ℕ → ℕ → ℕ → Answer ℕ
 cornersIn start end room = check 0 (46 unless leb (end - start) room ∷ []) gives (end - start)
@@ -64,4 +73,4 @@ cornersIn start end room = check 0 (46 unless leb (end - start) room ∷ []) giv
 unfoldable pub cornersInMemory : List ℕ → Section → ℕ → ℕ → List ℤ → List ℤ
 cornersInMemory b e start end out =
     leaves (cornersIn start end (length out)) out
-    (over out (valuesFrom (λ k. signed (e .«connectivity_width») (numberAt b (e .«connectivity_at») (e .«connectivity_width») (start + k))) (end - start) 0))
+    (over out (elementValues b e start (end - start)))

@@ -4,14 +4,11 @@ ghost use Prim.Native.Nat.{_+_, _≤_, _<_};
 ghost use mathlib.Core.Bool.{true};
 ghost use lib.ListN.{length};
 ghost use Rattle.model.specs.Lists.{over};
-ghost use Rattle.model.specs.Bytes.{signed};
-ghost use Rattle.model.specs.Corner.{inside, numberAt};
-ghost use Rattle.model.specs.ReadList.{valuesFrom};
+ghost use Rattle.model.specs.Corner.{inside};
+ghost use Rattle.rows.specs.Rows.{Numbers};
 ghost use Rattle.model.specs.ElementCorners.{elementCornersAnswer, elementCornersMemory};
 ghost use Rattle.model.specs.Answers.{countTells};
-ghost use Rattle.corners.specs.Spans.{cornersIn, cornersInMemory};
-use super::rows::inside;
-use super::rows::signed_number_at;
+ghost use Rattle.corners.specs.Spans.{rowValues, cornersIn, cornersInMemory};
 use super::spans::Span;
 use super::spans::fixed_span;
 use super::spans::offset_span;
@@ -20,30 +17,53 @@ use element_types::nodes_per;
 use model::Count;
 use model::Rejection;
 use model::Section;
+use rows::Row;
+use rows::inside;
+use rows::signed_number_at;
 
 // Writes n numbers of a row, from number `start` on, in front of lent memory; the rest stays.
-fn put_row(image: &[u8], at: u64, width: u64, start: u64, n: usize, out: &mut [i64])
-    requires { ⌜ inside (now image) at width (start + n) ≡ true ⌝ }
-    requires { ⌜ n ≤ length (now out) ⌝ }
-    ensures { λ _. ⌜ now (out .exit) ≡ over (now (out .entry)) (valuesFrom (λ k. signed width (numberAt (now (image .entry)) at width (start + k))) n 0) ⌝ }
+fn put_row(image: &[u8], row: Row, start: usize, n: usize, out: &mut [i64])
+    requires { ⌜ Numbers (now image) (row .at) (row .width) (row .n) × ((start + n ≤ row .n) × (n ≤ length (now out))) ⌝ }
+    ensures { λ _. ⌜ now (out .exit) ≡ over (now (out .entry)) (rowValues (now (image .entry)) row start n) ⌝ }
 {
     let mut k: usize = 0;
     while k < n {
-        out[k] = signed_number_at(image, at, width, start + k as u64);
+        out[k] = signed_number_at(image, row, start + k);
         k += 1;
     }
 }
 
 // The same for either width: each has a loop of its own.
-fn put_numbers(image: &[u8], at: u64, width: u64, start: u64, n: usize, out: &mut [i64])
-    requires { ⌜ inside (now image) at width (start + n) ≡ true ⌝ }
-    requires { ⌜ n ≤ length (now out) ⌝ }
-    ensures { λ _. ⌜ now (out .exit) ≡ over (now (out .entry)) (valuesFrom (λ k. signed width (numberAt (now (image .entry)) at width (start + k))) n 0) ⌝ }
+fn put_numbers(image: &[u8], row: Row, start: usize, n: usize, out: &mut [i64])
+    requires { ⌜ Numbers (now image) (row .at) (row .width) (row .n) × ((start + n ≤ row .n) × (n ≤ length (now out))) ⌝ }
+    ensures { λ _. ⌜ now (out .exit) ≡ over (now (out .entry)) (rowValues (now (image .entry)) row start n) ⌝ }
 {
-    if width == 4 {
-        put_row(image, at, 4, start, n, out);
+    let at = row.at;
+    let count = row.n;
+    if row.width == 4 {
+        put_row(
+            image,
+            Row {
+                at,
+                width: 4,
+                n: count,
+            },
+            start,
+            n,
+            out,
+        );
     } else {
-        put_row(image, at, 8, start, n, out);
+        put_row(
+            image,
+            Row {
+                at,
+                width: 8,
+                n: count,
+            },
+            start,
+            n,
+            out,
+        );
     }
 }
 
@@ -51,15 +71,19 @@ fn put_numbers(image: &[u8], at: u64, width: u64, start: u64, n: usize, out: &mu
 fn corners_in(image: &[u8], section: Section, start: u64, end: u64, out: &mut [i64]) -> Count
     requires { ⌜ (start < end) × (end ≤ section .«connectivity_length»)
         × (inside (now image) (section .«connectivity_at») (section .«connectivity_width») (section .«connectivity_length») ≡ true) ⌝ }
-    ensures { λ r. ⌜ (countTells r ≡ cornersIn start end (length (now (out .entry)))) × (now (out .exit) ≡ cornersInMemory (now (image .entry)) section start end (now (out .entry))) ⌝ }
+    ensures { λ r. ⌜ (countTells r ≡ cornersIn start end (length (now (out .entry))))
+        × (now (out .exit) ≡ cornersInMemory (now (image .entry)) section start end (now (out .entry))) ⌝ }
 {
     let n = end - start;
     if (out.len() as u64) < n {
         return Count::Rejected(Rejection::at(46, 0));
     }
-    let at = section.connectivity_at;
-    let width = section.connectivity_width;
-    put_numbers(image, at, width, start, n as usize, out);
+    let connectivity = Row {
+        at: section.connectivity_at as usize,
+        width: section.connectivity_width as usize,
+        n: section.connectivity_length as usize,
+    };
+    put_numbers(image, connectivity, start as usize, n as usize, out);
     Count::Of(n)
 }
 

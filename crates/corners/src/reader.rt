@@ -6,12 +6,13 @@ ghost use Rattle.model.specs.Corner.{inside};
 ghost use Rattle.model.specs.Answers.{cornerTells};
 ghost use Rattle.model.specs.Reads.{CornerRead};
 ghost use Rattle.corners.specs.Spans.{cornerIn};
-use super::rows::signed_number_at;
 use super::spans::Span;
 use super::spans::element_span;
 use model::Corner;
 use model::Rejection;
 use model::Section;
+use rows::Row;
+use rows::signed_number_at;
 
 // A corner, counted from 1, of the element that stands from `start` on and before `end` in the connectivity.
 fn corner_in(image: &[u8], section: Section, start: u64, end: u64, corner: u64) -> Corner
@@ -25,9 +26,13 @@ fn corner_in(image: &[u8], section: Section, start: u64, end: u64, corner: u64) 
     if end - start < corner {
         return Corner::Rejected(Rejection::at(42, 0));
     }
-    let at = section.connectivity_at;
-    let width = section.connectivity_width;
-    Corner::Number(signed_number_at(image, at, width, start + (corner - 1)))
+    let connectivity = Row {
+        at: section.connectivity_at as usize,
+        width: section.connectivity_width as usize,
+        n: section.connectivity_length as usize,
+    };
+    let k = start + (corner - 1);
+    Corner::Number(signed_number_at(image, connectivity, k as usize))
 }
 
 // The number stored at an element's corner; 41, then 43, then 42. The image stays as it is.

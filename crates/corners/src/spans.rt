@@ -2,14 +2,15 @@
 ghost use mathlib.Core.Path.{_≡_};
 ghost use Prim.Native.Nat.{_≤_, _<_, _^_};
 ghost use lib.Dec.{T};
-ghost use Rattle.model.specs.Bytes.{half};
 ghost use Rattle.words.specs.Width.{isWidth};
 ghost use Rattle.corners.specs.Spans.{SpanIn, SpanInside, fixedSpan, rangeBetween, offsetSpan, spanOf};
-use super::rows::inside;
-use super::rows::number_at;
 use element_types::has_offsets;
 use element_types::nodes_per;
 use model::Section;
+use rows::Row;
+use rows::half_of;
+use rows::inside;
+use rows::number_at;
 
 // From `start` on and before `end`, counted from 0.
 pub enum Span {
@@ -39,20 +40,8 @@ pub fn fixed_span(k: u64, nodes: u64, length: u64) -> Span
     }
 }
 
-// Half of the bit patterns of a width: the others are negative.
-fn half_of(width: u64) -> u64
-    requires { ⌜ T (isWidth width) ⌝ }
-    ensures { λ r. ⌜ r ≡ half width ⌝ }
-{
-    if width == 4 {
-        0x8000_0000
-    } else {
-        0x8000_0000_0000_0000
-    }
-}
-
 // An element from a start offset to the next one, as their bits.
-fn range_between(start: u64, end: u64, width: u64, length: u64) -> Span
+fn range_between(start: u64, end: u64, width: usize, length: u64) -> Span
     requires { ⌜ T (isWidth width) ⌝ }
     ensures { λ r. ⌜ (r ≡ rangeBetween width start end length) × SpanIn length r ⌝ }
 {
@@ -76,10 +65,16 @@ pub fn offset_span(image: &[u8], at: u64, width: u64, k: u64, length: u64) -> Sp
     if 0x4000_0000_0000_0000 <= k {
         return Span::Unreadable;
     }
-    if inside(image, at, width, k + 2) {
-        let start = number_at(image, at, width, k);
-        let end = number_at(image, at, width, k + 1);
-        return range_between(start, end, width, length);
+    let n = k + 2;
+    if inside(image, at, width, n) {
+        let offsets = Row {
+            at: at as usize,
+            width: width as usize,
+            n: n as usize,
+        };
+        let start = number_at(image, offsets, k as usize);
+        let end = number_at(image, offsets, k as usize + 1);
+        return range_between(start, end, width as usize, length);
     }
     Span::Unreadable
 }

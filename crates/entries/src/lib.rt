@@ -1,17 +1,40 @@
-// A section entry from a list of numbers, and from bytes.
+// Section entries as numbers and as bytes: written to a list of numbers, read from one, read from bytes.
 ghost use mathlib.Core.Path.{_≡_};
-ghost use Prim.Native.Nat.{_≤_, _<_};
+ghost use Prim.Native.Nat.{_+_, _≤_, _<_};
 ghost use lib.ListN.{length};
+ghost use lib.Seq.{sets};
+ghost use Rattle.model.specs.Sections.{entryLength, entryNumbers};
 ghost use Rattle.model.specs.Reads.{entriesIn, sectionAt};
-ghost use Rattle.model.specs.Exports.{sectionIn};
+ghost use Rattle.model.specs.Exports.{sectionSize, sectionIn};
 use model::Section;
 
-// The k-th entry of a list, nine numbers to an entry.
+// How many numbers an entry has, and how many bytes as 64-bit words.
+pub const ENTRY_LENGTH: usize = 9;
+
+pub const ENTRY_BYTES: usize = 72;
+
+// Writes the numbers of an entry to `out` from k on; the rest stays.
+pub fn put_entry(out: &mut [u64], k: usize, e: Section)
+    requires { ⌜ k + entryLength ≤ length (now out) ⌝ }
+    ensures { λ _. ⌜ now (out .exit) ≡ sets (now (out .entry)) k (entryNumbers e) ⌝ }
+{
+    out[k] = e.node;
+    out[k + 1] = e.element_type;
+    out[k + 2] = e.first;
+    out[k + 3] = e.last;
+    out[k + 4] = e.offsets_at;
+    out[k + 5] = e.offsets_width;
+    out[k + 6] = e.connectivity_at;
+    out[k + 7] = e.connectivity_width;
+    out[k + 8] = e.connectivity_length;
+}
+
+// The k-th entry of a list.
 pub fn section_at(entries: &[u64], k: usize) -> Section
     requires { ⌜ k < entriesIn (now entries) ⌝ }
     ensures { λ r. ⌜ r ≡ sectionAt (now (entries .entry)) k ⌝ }
 {
-    let i = 9 * k;
+    let i = ENTRY_LENGTH * k;
     Section {
         node: entries[i],
         element_type: entries[i + 1],
@@ -25,9 +48,9 @@ pub fn section_at(entries: &[u64], k: usize) -> Section
     }
 }
 
-// The entry in the first 72 bytes: nine words.
+// The entry in the first bytes, as 64-bit words.
 pub fn section_in(s: &[u8]) -> Section
-    requires { ⌜ 72 ≤ length (now s) ⌝ }
+    requires { ⌜ sectionSize ≤ length (now s) ⌝ }
     ensures { λ r. ⌜ r ≡ sectionIn (now (s .entry)) ⌝ }
 {
     Section {

@@ -8,7 +8,7 @@ use lib.ListN.{getD}
 use lib.Dec.{eqb}
 use borrow.Author.Tests.{eqb-true, lt-ltb}
 use Rattle.model.specs.Lists.{seekFrom}
-use Rattle.model.specs.Image.{treeOf, nodeCount, wordCount, node, dimensions, dataType, width, widths}
+use Rattle.model.specs.Image.{treeOf, nodeCount, wordCount, node, dimensions, width}
 use Rattle.model.specs.Given.{Sound, Accepted}
 use Rattle.model.specs.Containment.{found, sectionOf}
 use Rattle.model.specs.Values.{flat, size, offsetsOf, connectivityOf}
@@ -18,24 +18,23 @@ use Rattle.model.proofs.Logic.{and-first, and-second}
 use Rattle.model.proofs.Bounds.{node-placed}
 use Rattle.model.proofs.Conforming.{section-is}
 use Rattle.model.proofs.InZone.{role-is, connectivity, offsets, offsets-size}
+use Rattle.rows.specs.declared.Row.{Row}
+use Rattle.rows.specs.Rows.{endsAfterAt}
 use Rattle.index.specs.Index.{Index}
 use Rattle.types.proofs.StoredNumbers.{rank-is}
 use Rattle.elements.specs.Given.{Stores, Indexed}
 use Rattle.elements.proofs.Stored.{startOf, stores-row, stores-number, connectivity-stores, offsets-stores}
-use Rattle.faces.specs.declared.rows.Row.{Row}
 use Rattle.faces.specs.declared.zone_sections.Span.{Span}
 use Rattle.faces.specs.ZoneSections.{Cells, Spans}
-use Rattle.faces.specs.Rows.{RowOf, endsAfterAt}
-use Rattle.faces.specs.Uses.{References}
+use Rattle.faces.specs.Uses.{RowOf, References}
 use Rattle.faces.proofs.Accepted.{section-by, own-zone, count-read, cells-faces}
 
 -- the numbers of node j, as they were read
-pub row-read : {b : List ℕ} → Sound b → {j n : ℕ} → Stores b j n → {at d w : ℕ} → at ≡ startOf b j → d ≡ dataType (treeOf b) j → w ≡ getD widths d 0
+pub row-read : {b : List ℕ} → Sound b → {j n : ℕ} → Stores b j n → {at w : ℕ} → at ≡ startOf b j → w ≡ width (treeOf b) j
     → RowOf b j n (record { at = at; width = w; n = n })
-unfolding width
-row-read {b} s {j} {n} g {at} {d} {w} p f q =
-    let v : w ≡ width (treeOf b) j = q ∙ ap (λ (y : ℕ). getD widths y 0) f in
-    rw (p, v) (record { long = refl; numbers = stores-row s g; wide = refl; stored = stores-number s g })
+row-read s g p q =
+    let x = stores-row s g in
+    rw (p, q) (record { long = refl; numbers = record { wide = x .wide; inside = x .inside }; wide = refl; stored = stores-number s g })
 
 -- two searches with tests that agree
 seek-same : (p q : ℕ → Bool) (k i : ℕ) → ((j : ℕ) → i ≤ j → j < i + k → p j ≡ q j) → seekFrom p k i ≡ seekFrom q k i

@@ -1,6 +1,5 @@
 pub mod Accepted
 pub mod Gathering
-pub mod Marks
 pub mod Arrays
 pub mod Runs
 pub mod Whole

@@ -17,9 +17,16 @@ use Rattle.model.specs.Given.{Accepted}
 use Rattle.model.specs.Elements.{faceOf, faceNumber}
 use Rattle.model.specs.Corner.{numberAt}
 use Rattle.model.specs.FaceUsage.{facePlace, faceCount, unused, elementHolding, usePlace, useSign, useEntry, useEntries, usesIn, useNodes}
-use Rattle.faces.specs.declared.rows.Row.{Row}
-use Rattle.faces.specs.Uses.{signOf, afterUse, UsedAt, used, Used, Reference}
+use Rattle.rows.specs.declared.Row.{Row}
+use Rattle.ledger.specs.Marks.{signOf, afterUse}
+use Rattle.faces.specs.Uses.{Tables, UsedAt, used, Used, Reference}
+use Rattle.faces.specs.declared.uses.Faces.{Faces}
 use Rattle.faces.proofs.Accepted.{place-below}
+
+-- memory of the same length serves the tables as well
+pub tables-kept : {b : List ℕ} {f : Faces} {firsts reach places : List ℕ} {h o h′ o′ : ℕ} → Tables b f firsts reach places h o → h′ ≡ h → o′ ≡ o
+    → Tables b f firsts reach places h′ o′
+tables-kept t e g = rw (e, g) t
 
 -- one use, as it was made
 pub use-is : (t : Tree) (z w x : ℕ) (bytes : List ℕ) {f p : ℕ} {minus u free : Bool} {after : List ℕ}

@@ -1,4 +1,3 @@
 pub mod ZoneSections
-pub mod Rows
 pub mod Ranges
 pub mod Uses

@@ -1,28 +1,33 @@
 -- Uses of a zone's faces, as the functions here tell them: bytes that are lent, each with a bit for each sign.
-use Prim.Native.Nat.{ℕ, _+_, _<_}
+use Prim.Native.Nat.{ℕ, _≤_, _<_}
 use mathlib.Core.Path.{_≡_}
-use mathlib.Core.Bool.{Bool, true, cond}
+use mathlib.Core.Bool.{Bool, true}
 use mathlib.Core.List.{List}
-use lib.ListN.{getD, set, drop}
+use lib.ListN.{getD, drop}
 use Rattle.model.specs.declared.Stage.{Stage}
 use Rattle.model.specs.declared.Stage.the-variants as Stage
 use Rattle.model.specs.Bytes.{negative, magnitude}
 use Rattle.model.specs.Rules.{Answer, rejected, answer}
-use Rattle.model.specs.Image.{Tree, treeOf, parent, width}
+use Rattle.model.specs.Image.{Tree, treeOf, nodeCount, parent, width, number}
+use Rattle.model.specs.Given.{Accepted}
 use Rattle.model.specs.Values.{connectivityOf}
 use Rattle.model.specs.Elements.{reference, faceNumber, faceOf}
 use Rattle.model.specs.Corner.{numberAt}
-use Rattle.model.specs.FaceUsage.{facePlace, unused, usesIn}
-use Rattle.elements.specs.Arrays.{Numbers}
-use Rattle.faces.specs.declared.rows.Row.{Row}
+use Rattle.model.specs.FaceUsage.{faceCount, facePlace, unused, usesIn}
+use Rattle.rows.specs.declared.Row.{Row}
+use Rattle.rows.specs.Rows.{Numbers}
+use Rattle.ledger.specs.Marks.{signOf, afterUse}
+use Rattle.faces.specs.declared.uses.Faces.{Faces}
 use Rattle.faces.specs.ZoneSections.{Cells}
+use Rattle.faces.specs.Ranges.{Ranges}
 
--- the bit of a sign, and the bytes after a use of the face at place p where that bit was free or not
-abbrev pub signOf : Bool → ℕ
-signOf reversed = cond reversed 2 1
-
-abbrev pub afterUse : Bool → ℕ → ℕ → List ℕ → List ℕ
-afterUse free sign p bytes = cond free (set bytes p (getD bytes p 0 + sign)) bytes
+-- the tables hold the faces of a zone, and there is room for the hints and for a byte a face
+pub record Tables (b : List ℕ) (f : Faces) (firsts reach places : List ℕ) (hints out : ℕ) : Type 0 where
+  pub accepted : Accepted b
+  pub ranges : Ranges (treeOf b) (f .zone) (nodeCount b) firsts reach places (f .count)
+  pub shifted : f .shift ≤ 52
+  pub hinted : 4096 ≤ hints
+  pub room : faceCount (treeOf b) (f .zone) ≤ out
 
 -- what the reference x of w bytes does to the bytes
 pub record UsedAt (t : Tree) (z w x : ℕ) (bytes : List ℕ) (free : Bool) (after : List ℕ) : Type 0 where
@@ -38,6 +43,13 @@ used (Stage.Rejected r) bytes = rejected r
 pub record Used (faces : ℕ) (run : Answer (List ℕ)) (bytes : List ℕ) (r : Stage) (after : List ℕ) : Type 0 where
   pub tells : run ≡ used r after
   pub rest : drop faces after ≡ drop faces bytes
+
+-- the row of the n numbers of node j
+pub record RowOf (b : List ℕ) (j n : ℕ) (r : Row) : Type 0 where
+  pub long : r .n ≡ n
+  pub numbers : Numbers b (r .at) (r .width) (r .n)
+  pub wide : width (treeOf b) j ≡ r .width
+  pub stored : (k : ℕ) → k < n → number (treeOf b) j k ≡ numberAt b (r .at) (r .width) k
 
 -- number k of a row is reference k of cell section s, to a face of zone z
 pub record Reference (b index : List ℕ) (z s : ℕ) (r : Row) (k : ℕ) : Type 0 where

@@ -2,17 +2,26 @@
 ghost use mathlib.Core.Path.{_≡_};
 ghost use Prim.Native.Nat.{_<_};
 ghost use Rattle.model.specs.Image.{treeOf, nodeCount};
-ghost use Rattle.model.specs.Given.{Accepted};
+ghost use Rattle.model.specs.Given.{Sound, Accepted};
 ghost use Rattle.model.specs.FaceUsage.{elementHolding};
+ghost use Rattle.elements.specs.Given.{Stores};
 ghost use Rattle.index.specs.Index.{Index};
 ghost use Rattle.faces.specs.ZoneSections.{Cells};
-ghost use Rattle.faces.specs.Uses.{References};
-use super::rows::Row;
-use super::rows::ends_after;
-use super::rows::row_of;
+ghost use Rattle.faces.specs.Uses.{RowOf, References};
 use super::zone_sections::has_type;
 use super::zone_sections::span_of;
 use element_types::NFACE;
+use rows::Row;
+
+// The n numbers of node j.
+fn row_of(image: &[u8], j: usize, n: usize) -> Row
+    requires { ⌜ Sound (now image) × Stores (now image) j n ⌝ }
+    ensures { λ r. ⌜ RowOf (now (image .entry)) j n r ⌝ }
+{
+    let at = records::data_start(image, j);
+    let width = records::width_at(image, j);
+    Row { at, width, n }
+}
 
 // The references of node s, where it is a cell section of zone z; none where it is not.
 pub fn references_of(image: &[u8], index: &[u16], z: usize, s: usize) -> Row
@@ -40,5 +49,5 @@ pub fn element_holding(image: &[u8], index: &[u16], s: usize, k: usize) -> u64
     let first = span.first;
     let n = (span.last - first) as usize + 2;
     let offsets = row_of(image, sids::offsets_of(image, index, s), n);
-    first + ends_after(image, offsets, k as u64) as u64
+    first + rows::ends_after(image, offsets, k as u64) as u64
 }

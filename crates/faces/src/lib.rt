@@ -9,10 +9,8 @@ ghost use Rattle.model.specs.Validation.{imageCheck};
 ghost use Rattle.index.specs.Index.{Index};
 
 mod cells; // cells.rt: the references of the zone's cells
-mod ledger; // ledger.rt: the bytes that are lent
 mod places; // places.rt: the zone's faces by ranges, and their places
-mod rows; // rows.rt: rows of numbers
-mod zone_sections; // zone_sections.rt: the sections of a zone
+mod zone_sections; // zone_sections.rt: the sections of a zone by type
 mod uses; // uses.rt: the references, one after the other
 mod zone; // zone.rt: a zone's usage
 
@@ -49,7 +47,8 @@ fn usage_after(
 // The usage of a zone's faces: validation's rejection, then 40, 44, 45, or how many faces the zone has, a byte for each written in front of `out`. On 45
 // those bytes are 0; every other rejection leaves `out` as it was, and bytes after them never change.
 pub fn face_usage(image: &[u8], zone: u64, out: &mut [u8]) -> FaceUsage
-    ensures { λ r. ⌜ (usageTells r ≡ usageAnswer (now (image .entry)) zone (length (now (out .entry)))) × (now (out .exit) ≡ usageMemory (now (image .entry)) zone (now (out .entry))) ⌝ }
+    ensures { λ r. ⌜ (usageTells r ≡ usageAnswer (now (image .entry)) zone (length (now (out .entry))))
+        × (now (out .exit) ≡ usageMemory (now (image .entry)) zone (now (out .entry))) ⌝ }
 {
     let mut index: [u16; 16384] = [0; 16384];
     let mut firsts: [u64; 2048] = [0; 2048];

@@ -7,26 +7,25 @@ ghost use lib.Dec.{ltb};
 ghost use Rattle.model.specs.Bytes.{magnitude};
 ghost use Rattle.model.specs.Corner.{numberAt};
 ghost use Rattle.model.specs.Image.{treeOf, nodeCount};
-ghost use Rattle.model.specs.Given.{Accepted};
 ghost use Rattle.model.specs.Elements.{faceOf};
 ghost use Rattle.model.specs.FaceUsage.{faceCount, usesIn, useEntries, useNodes};
-ghost use Rattle.elements.specs.Arrays.{Numbers};
+ghost use Rattle.rows.specs.Rows.{Numbers};
 ghost use Rattle.index.specs.Index.{Index};
-ghost use Rattle.faces.specs.Ranges.{Ranges};
-ghost use Rattle.faces.specs.Uses.{UsedAt, Used, References};
+ghost use Rattle.faces.specs.Uses.{Tables, UsedAt, Used};
 use super::cells::element_holding;
 use super::cells::references_of;
-use super::ledger::use_face;
-use super::rows::Row;
-use super::rows::is_reversed;
+use ledger::use_face;
 use model::Rejection;
 use model::Stage;
+use rows::Row;
+use rows::is_negative;
+use rows::magnitude_at;
 
 // The faces of a zone in the tables: how many entries there are, and by how many bits a face's number is shifted to its hint.
-struct Faces {
-    zone: usize,
-    count: usize,
-    shift: u64,
+pub struct Faces {
+    pub zone: usize,
+    pub count: usize,
+    pub shift: u64,
 }
 
 // The place of face f, which entry j holds.
@@ -53,44 +52,40 @@ fn use_entry(
 ) -> usize
     requires { ⌜ Numbers (now image) (row .at) (row .width) (row .n) × (k < row .n) ⌝ }
     requires { ⌜ faceOf (treeOf (now image)) (faces .zone) (magnitude (row .width) (numberAt (now image) (row .at) (row .width) k)) ≡ true ⌝ }
-    requires { ⌜ Accepted (now image)
-        × Ranges (treeOf (now image)) (faces .zone) (nodeCount (now image)) (now firsts) (now reach) (now places) (faces .count) ⌝ }
-    requires { ⌜ ((faces .shift ≤ 52) × (4096 ≤ length (now hints))) × (faceCount (treeOf (now image)) (faces .zone) ≤ length (now out)) ⌝ }
+    requires { ⌜ Tables (now image) faces (now firsts) (now reach) (now places) (length (now hints)) (length (now out)) ⌝ }
     ensures { λ r. ⌜ UsedAt (treeOf (now (image .entry))) (faces .zone) (row .width) (numberAt (now (image .entry)) (row .at) (row .width) k)
         (now (out .entry)) (ltb r (faces .count)) (now (out .exit)) ⌝ }
 {
     let count = faces.count;
-    let f = elements::arrays::magnitude_at(image, row.at, row.width, row.n, k);
+    let f = magnitude_at(image, row, k);
     let j = ranges::find_near(firsts, reach, count, hints, faces.shift, last, f);
     let p = place_of(firsts, places, j, f);
-    if !use_face(out, p, is_reversed(image, row, k)) {
+    if !use_face(out, p, is_negative(image, row, k)) {
         return count;
     }
     j
 }
 
-// Uses the faces of the references of node s; 45 at the first that is used twice with one sign.
+// Uses the faces of the references of node s, where it is a cell section of the zone; 45 at the first that is used twice with one sign.
 fn use_entries(
     image: &[u8],
     index: &[u16],
     faces: Faces,
     s: usize,
-    row: Row,
     firsts: &[u64],
     reach: &[u64],
     places: &[u64],
     hints: &mut [u16],
     out: &mut [u8],
 ) -> Stage
-    requires { ⌜ References (now image) (now index) (faces .zone) s row ⌝ }
-    requires { ⌜ Accepted (now image)
-        × Ranges (treeOf (now image)) (faces .zone) (nodeCount (now image)) (now firsts) (now reach) (now places) (faces .count) ⌝ }
-    requires { ⌜ ((faces .shift ≤ 52) × (4096 ≤ length (now hints))) × (faceCount (treeOf (now image)) (faces .zone) ≤ length (now out)) ⌝ }
+    requires { ⌜ Index (now image) (now index) × (s < nodeCount (now image)) ⌝ }
+    requires { ⌜ Tables (now image) faces (now firsts) (now reach) (now places) (length (now hints)) (length (now out)) ⌝ }
     ensures { λ r. ⌜ Used (faceCount (treeOf (now (image .entry))) (faces .zone))
         (useEntries (treeOf (now (image .entry))) s (usesIn (treeOf (now (image .entry))) (faces .zone) s) 0 (now (out .entry)))
         (now (out .entry)) r (now (out .exit)) ⌝ }
 {
     let count = faces.count;
+    let row = references_of(image, index, faces.zone, s);
     let mut last: usize = 0;
     let mut k: usize = 0;
     while k < row.n {
@@ -120,42 +115,23 @@ fn use_entries(
 pub fn use_nodes(
     image: &[u8],
     index: &[u16],
-    z: usize,
+    faces: Faces,
     firsts: &[u64],
     reach: &[u64],
     places: &[u64],
-    count: usize,
     hints: &mut [u16],
     out: &mut [u8],
 ) -> Stage
-    requires { ⌜ (Accepted (now image) × Index (now image) (now index)) × (4096 ≤ length (now hints)) ⌝ }
-    requires { ⌜ Ranges (treeOf (now image)) z (nodeCount (now image)) (now firsts) (now reach) (now places) count ⌝ }
-    requires { ⌜ faceCount (treeOf (now image)) z ≤ length (now out) ⌝ }
-    ensures { λ r. ⌜ Used (faceCount (treeOf (now (image .entry))) z)
-        (useNodes (treeOf (now (image .entry))) z (nodeCount (now (image .entry))) 0 (now (out .entry))) (now (out .entry)) r (now (out .exit)) ⌝ }
+    requires { ⌜ Index (now image) (now index) ⌝ }
+    requires { ⌜ Tables (now image) faces (now firsts) (now reach) (now places) (length (now hints)) (length (now out)) ⌝ }
+    ensures { λ r. ⌜ Used (faceCount (treeOf (now (image .entry))) (faces .zone))
+        (useNodes (treeOf (now (image .entry))) (faces .zone) (nodeCount (now (image .entry))) 0 (now (out .entry)))
+        (now (out .entry)) r (now (out .exit)) ⌝ }
 {
-    let shift = ranges::shift_for(ranges::top_of(firsts, reach, count, 0));
-    let faces = Faces {
-        zone: z,
-        count,
-        shift,
-    };
     let nodes = labels::node_count(image);
     let mut i: usize = 0;
     while i < nodes {
-        let row = references_of(image, index, z, i);
-        let s = use_entries(
-            image,
-            index,
-            faces,
-            i,
-            row,
-            firsts,
-            reach,
-            places,
-            hints,
-            out,
-        );
+        let s = use_entries(image, index, faces, i, firsts, reach, places, hints, out);
         let Stage::Pass = s else {
             return s;
         };

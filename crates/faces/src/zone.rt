@@ -6,15 +6,16 @@ ghost use lib.ListN.{length};
 ghost use Rattle.model.specs.Lists.{over};
 ghost use Rattle.model.specs.Rules.{answer, _into_};
 ghost use Rattle.model.specs.Answers.{usageTells};
-ghost use Rattle.model.specs.Image.{treeOf, nodeCount};
+ghost use Rattle.model.specs.Image.{treeOf};
 ghost use Rattle.model.specs.Given.{Accepted};
 ghost use Rattle.model.specs.Containment.{isZone};
 ghost use Rattle.model.specs.FaceUsage.{faceCount, usage, usageBytes, usageAnswer, usageMemory};
 ghost use Rattle.index.specs.Index.{Index};
-ghost use Rattle.faces.specs.Ranges.{Ranges};
-use super::ledger::clear;
+ghost use Rattle.faces.specs.Uses.{Tables};
 use super::places::gather;
+use super::uses::Faces;
 use super::uses::use_nodes;
+use ledger::clear;
 use model::FaceUsage;
 use model::Rejection;
 use model::Stage;
@@ -23,28 +24,29 @@ use model::Stage;
 fn fill(
     image: &[u8],
     index: &[u16],
-    z: usize,
+    faces: Faces,
     firsts: &[u64],
     reach: &[u64],
     places: &[u64],
-    count: usize,
     hints: &mut [u16],
     out: &mut [u8],
 ) -> FaceUsage
-    requires { ⌜ (Accepted (now image) × Index (now image) (now index)) × (4096 ≤ length (now hints)) ⌝ }
-    requires { ⌜ Ranges (treeOf (now image)) z (nodeCount (now image)) (now firsts) (now reach) (now places) count ⌝ }
-    requires { ⌜ faceCount (treeOf (now image)) z ≤ length (now out) ⌝ }
-    ensures { λ r. ⌜ (usageTells r ≡ (usage (treeOf (now (image .entry))) z into λ bytes. answer (faceCount (treeOf (now (image .entry))) z)))
-        × (now (out .exit) ≡ over (now (out .entry)) (usageBytes (faceCount (treeOf (now (image .entry))) z) (usage (treeOf (now (image .entry))) z))) ⌝ }
+    requires { ⌜ Index (now image) (now index) ⌝ }
+    requires { ⌜ Tables (now image) faces (now firsts) (now reach) (now places) (length (now hints)) (length (now out)) ⌝ }
+    ensures { λ r. ⌜ usageTells r
+        ≡ (usage (treeOf (now (image .entry))) (faces .zone) into λ bytes. answer (faceCount (treeOf (now (image .entry))) (faces .zone))) ⌝ }
+    ensures { λ r. ⌜ now (out .exit)
+        ≡ over (now (out .entry)) (usageBytes (faceCount (treeOf (now (image .entry))) (faces .zone)) (usage (treeOf (now (image .entry))) (faces .zone))) ⌝ }
 {
-    let faces = places[count];
-    clear(out, faces as usize);
-    let s = use_nodes(image, index, z, firsts, reach, places, count, hints, out);
+    let count = faces.count;
+    let n = places[count];
+    clear(out, n as usize);
+    let s = use_nodes(image, index, faces, firsts, reach, places, hints, out);
     let Stage::Pass = s else {
-        clear(out, faces as usize);
+        clear(out, n as usize);
         return FaceUsage::Rejected(s.rejection());
     };
-    FaceUsage::Faces(faces)
+    FaceUsage::Faces(n)
 }
 
 // The usage of the faces of zone z: 44 where out is too short, 45 where a face is used twice with one sign. Bytes after the first F stay.
@@ -67,5 +69,11 @@ pub fn zone_usage(
     if (out.len() as u64) < places[count] {
         return FaceUsage::Rejected(Rejection::at(44, 0));
     }
-    fill(image, index, z, firsts, reach, &places, count, hints, out)
+    let shift = ranges::shift_for(ranges::top_of(firsts, reach, count, 0));
+    let faces = Faces {
+        zone: z,
+        count,
+        shift,
+    };
+    fill(image, index, faces, firsts, reach, &places, hints, out)
 }

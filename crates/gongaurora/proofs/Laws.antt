@@ -41,19 +41,20 @@ unfolding sizeWords
 size-five (rejected r) = refl
 size-five (answer s) = refl
 
--- too few bytes: 46, and nothing is written
-module _ {A : Type 0} (n : ℕ) (out : List ℕ) (a : Answer A) (words : List ℕ) (e : length words ≡ n) where
-  pub short : length out < 8 * n → (46 ≡ exportRule n out a) × (out ≡ exportBytes out words)
+-- an answer of n words
+module _ {A : Type 0} (words : Answer A → List ℕ) (n : ℕ) (long : (a : Answer A) → length (words a) ≡ n) (out : List ℕ) (a : Answer A) where
+  -- too few bytes: 46, and nothing is written
+  pub short : length out < 8 * n → (46 ≡ exportRule n out a) × (out ≡ exportBytes out (words a))
   unfolding exportRule exportBytes wordsFit check _then_ leaves ruleOf
-  short h = (rw (lt-leb (8 * n) (length out) h), rw (e, lt-leb (8 * n) (length out) h))
+  short h = (rw (lt-leb (8 * n) (length out) h), rw (long a, lt-leb (8 * n) (length out) h))
 
   -- enough: the rule of the call, and its words
-  pub long : {r : ℕ} {answers left : List ℕ} → 8 * n ≤ length out → r ≡ ruleOf a → answers ≡ words → left ≡ over out (allBytes 8 answers)
-      → (r ≡ exportRule n out a) × (left ≡ exportBytes out words)
+  pub enough : {r rule : ℕ} {given left : List ℕ} {x : Answer A} → 8 * n ≤ length out → x ≡ a → (rule ≡ ruleOf x) × (given ≡ words x)
+      → (r ≡ rule) × (left ≡ over out (allBytes 8 given)) → (r ≡ exportRule n out a) × (left ≡ exportBytes out (words a))
   unfolding exportRule exportBytes wordsFit check _then_ leaves
-  long h p q s =
+  enough h e p q =
       let l = le-leb (8 * n) (length out) h in
-      (p ∙ rw l, s ∙ ap (λ (v : List ℕ). over out (allBytes 8 v)) q ∙ rw (e, l))
+      (q .0 ∙ p .0 ∙ rw (e, l), q .1 ∙ ap (λ (v : List ℕ). over out (allBytes 8 v)) (p .1) ∙ rw (e, long a, l))
 
 module _ {B : Type 0} (n : ℕ) (out : List ℕ) (memory left : List B) where
   pub memory-short : length out < 8 * n → memory ≡ exportMemory n out memory left

@@ -9,7 +9,8 @@ ghost use Rattle.model.specs.FaceUsage.{usageAnswer, usageMemory};
 ghost use Rattle.model.specs.Path.{pathAnswer, pathMemory};
 ghost use Rattle.model.specs.ArrayValue.{valueAnswer};
 ghost use Rattle.model.specs.DataSize.{dataSizeAnswer};
-ghost use Rattle.model.specs.Exports.{validationWords, countWords, usageWords, valueWords, sizeWords, exportRule, exportBytes, exportMemory, CornerExport, ElementExport};
+ghost use Rattle.model.specs.Exports.{validationWords, countWords, usageWords, valueWords, sizeWords};
+ghost use Rattle.model.specs.Exports.{exportRule, exportBytes, exportMemory, CornerExport, ElementExport};
 use answers::count_answer;
 use answers::put_answer;
 use answers::put_corner;
@@ -19,18 +20,18 @@ use answers::usage_answer;
 use answers::validation_answer;
 use answers::value_answer;
 
-// How many bytes each answer has.
-const VALIDATION_BYTES: usize = 40;
+// How many words each answer has, of 8 bytes each.
+const VALIDATION_WORDS: usize = 5;
 
-const SECTIONS_BYTES: usize = 16;
+const SECTIONS_WORDS: usize = 2;
 
-const USAGE_BYTES: usize = 24;
+const USAGE_WORDS: usize = 3;
 
-const PATH_BYTES: usize = 16;
+const PATH_WORDS: usize = 2;
 
-const VALUE_BYTES: usize = 24;
+const VALUE_WORDS: usize = 3;
 
-const SIZE_BYTES: usize = 40;
+const SIZE_WORDS: usize = 5;
 
 // Whether the image meets every rule. The answer, five words: node, nodes validated, nodes skipped, zones, sections.
 #[no_mangle]
@@ -38,13 +39,17 @@ pub extern "C" fn gongaurora_export_validate(image: &[u8], answer: &mut [u8]) ->
     ensures { λ r. ⌜ r ≡ exportRule 5 (now (answer .entry)) (validation (now (image .entry))) ⌝ }
     ensures { λ _. ⌜ now (answer .exit) ≡ exportBytes (now (answer .entry)) (validationWords (validation (now (image .entry)))) ⌝ }
 {
-    if answer.len() < VALIDATION_BYTES {
+    if answer.len() < 8 * VALIDATION_WORDS {
         return 46; // no verdict is made
     }
-    put_answer(answer, validation_answer(validation::validate(image)), 5)
+    put_answer(
+        answer,
+        validation_answer(validation::validate(image)),
+        VALIDATION_WORDS,
+    )
 }
 
-// The number at an element's corner, of the 72 bytes of a section entry: 8 bytes in front of `number` where the rule is 0; else they stay as they were.
+// The number at an element's corner, of the bytes of a section entry: 8 bytes in front of `number` where the rule is 0; else they stay as they were.
 // Rule 46 where the section has fewer bytes or `number` has no room, then the reader's.
 #[no_mangle]
 pub extern "C" fn gongaurora_export_read_corner(
@@ -54,9 +59,10 @@ pub extern "C" fn gongaurora_export_read_corner(
     corner: u64,
     number: &mut [u8],
 ) -> u64
-    ensures { λ r. ⌜ CornerExport (now (image .entry)) (now (section .entry)) element corner (now (number .entry)) r (now (image .exit)) (now (section .exit)) (now (number .exit)) ⌝ }
+    ensures { λ r. ⌜ CornerExport (now (image .entry)) (now (section .entry)) element corner (now (number .entry))
+        r (now (image .exit)) (now (section .exit)) (now (number .exit)) ⌝ }
 {
-    if section.len() < 72 {
+    if section.len() < entries::ENTRY_BYTES {
         return 46;
     }
     if number.len() < 8 {
@@ -68,7 +74,7 @@ pub extern "C" fn gongaurora_export_read_corner(
     )
 }
 
-// All corners of an element in front of `out`, of the nine numbers of a section entry; their count, 0 of a refusal, in front of `count`.
+// All corners of an element in front of `out`, of the numbers of a section entry; their count, 0 of a refusal, in front of `count`.
 // Rule 46 where the section has fewer numbers or `count` has no room, and then nothing is written; then the reader's, which leave `out` as it was.
 #[no_mangle]
 pub extern "C" fn gongaurora_export_read_element(
@@ -78,9 +84,10 @@ pub extern "C" fn gongaurora_export_read_element(
     out: &mut [i64],
     count: &mut [u8],
 ) -> u64
-    ensures { λ r. ⌜ ElementExport (now (image .entry)) (now (section .entry)) element (now (out .entry)) (now (count .entry)) r (now (image .exit)) (now (section .exit)) (now (out .exit)) (now (count .exit)) ⌝ }
+    ensures { λ r. ⌜ ElementExport (now (image .entry)) (now (section .entry)) element (now (out .entry)) (now (count .entry))
+        r (now (image .exit)) (now (section .exit)) (now (out .exit)) (now (count .exit)) ⌝ }
 {
-    if section.len() < 9 {
+    if section.len() < entries::ENTRY_LENGTH {
         return 46;
     }
     if count.len() < 8 {
@@ -92,7 +99,7 @@ pub extern "C" fn gongaurora_export_read_element(
     )
 }
 
-// The section entries of a zone, nine numbers each, in front of `out`. The answer, two words: node, count of entries.
+// The section entries of a zone as flat numbers in front of `out`. The answer, two words: node, count of entries.
 #[no_mangle]
 pub extern "C" fn gongaurora_export_sections(
     image: &[u8],
@@ -101,16 +108,18 @@ pub extern "C" fn gongaurora_export_sections(
     answer: &mut [u8],
 ) -> u64
     ensures { λ r. ⌜ r ≡ exportRule 2 (now (answer .entry)) (sectionsAnswer (now (image .entry)) zone (length (now (out .entry)) / 9)) ⌝ }
-    ensures { λ _. ⌜ now (answer .exit) ≡ exportBytes (now (answer .entry)) (countWords (sectionsAnswer (now (image .entry)) zone (length (now (out .entry)) / 9))) ⌝ }
-    ensures { λ _. ⌜ now (out .exit) ≡ exportMemory 2 (now (answer .entry)) (now (out .entry)) (sectionNumbersMemory (now (image .entry)) zone (now (out .entry))) ⌝ }
+    ensures { λ _. ⌜ now (answer .exit)
+        ≡ exportBytes (now (answer .entry)) (countWords (sectionsAnswer (now (image .entry)) zone (length (now (out .entry)) / 9))) ⌝ }
+    ensures { λ _. ⌜ now (out .exit)
+        ≡ exportMemory 2 (now (answer .entry)) (now (out .entry)) (sectionNumbersMemory (now (image .entry)) zone (now (out .entry))) ⌝ }
 {
-    if answer.len() < SECTIONS_BYTES {
+    if answer.len() < 8 * SECTIONS_WORDS {
         return 46;
     }
     put_answer(
         answer,
         count_answer(sections::section_entries(image, zone, out)),
-        2,
+        SECTIONS_WORDS,
     )
 }
 
@@ -126,10 +135,14 @@ pub extern "C" fn gongaurora_export_face_usage(
     ensures { λ _. ⌜ now (answer .exit) ≡ exportBytes (now (answer .entry)) (usageWords (usageAnswer (now (image .entry)) zone (length (now (out .entry))))) ⌝ }
     ensures { λ _. ⌜ now (out .exit) ≡ exportMemory 3 (now (answer .entry)) (now (out .entry)) (usageMemory (now (image .entry)) zone (now (out .entry))) ⌝ }
 {
-    if answer.len() < USAGE_BYTES {
+    if answer.len() < 8 * USAGE_WORDS {
         return 46;
     }
-    put_answer(answer, usage_answer(faces::face_usage(image, zone, out)), 3)
+    put_answer(
+        answer,
+        usage_answer(faces::face_usage(image, zone, out)),
+        USAGE_WORDS,
+    )
 }
 
 // The path of a node in front of `out`. The answer, two words: node, length.
@@ -144,10 +157,14 @@ pub extern "C" fn gongaurora_export_path(
     ensures { λ _. ⌜ now (answer .exit) ≡ exportBytes (now (answer .entry)) (countWords (pathAnswer (now (image .entry)) node (length (now (out .entry))))) ⌝ }
     ensures { λ _. ⌜ now (out .exit) ≡ exportMemory 2 (now (answer .entry)) (now (out .entry)) (pathMemory (now (image .entry)) node (now (out .entry))) ⌝ }
 {
-    if answer.len() < PATH_BYTES {
+    if answer.len() < 8 * PATH_WORDS {
         return 46;
     }
-    put_answer(answer, count_answer(paths::path(image, node, out)), 2)
+    put_answer(
+        answer,
+        count_answer(paths::path(image, node, out)),
+        PATH_WORDS,
+    )
 }
 
 // Value k of a node's array, counted from 1. The answer, three words: node, kind (1 whole, 2 single, 3 double), bits (a whole number's at 64 bits).
@@ -161,13 +178,13 @@ pub extern "C" fn gongaurora_export_array_value(
     ensures { λ r. ⌜ r ≡ exportRule 3 (now (answer .entry)) (valueAnswer (now (image .entry)) node k) ⌝ }
     ensures { λ _. ⌜ now (answer .exit) ≡ exportBytes (now (answer .entry)) (valueWords (valueAnswer (now (image .entry)) node k)) ⌝ }
 {
-    if answer.len() < VALUE_BYTES {
+    if answer.len() < 8 * VALUE_WORDS {
         return 46;
     }
     put_answer(
         answer,
         value_answer(array_values::array_value(image, node, k)),
-        3,
+        VALUE_WORDS,
     )
 }
 
@@ -177,8 +194,12 @@ pub extern "C" fn gongaurora_export_data_size(image: &[u8], node: u64, answer: &
     ensures { λ r. ⌜ r ≡ exportRule 5 (now (answer .entry)) (dataSizeAnswer (now (image .entry)) node) ⌝ }
     ensures { λ _. ⌜ now (answer .exit) ≡ exportBytes (now (answer .entry)) (sizeWords (dataSizeAnswer (now (image .entry)) node)) ⌝ }
 {
-    if answer.len() < SIZE_BYTES {
+    if answer.len() < 8 * SIZE_WORDS {
         return 46;
     }
-    put_answer(answer, size_answer(validation::data_size(image, node)), 5)
+    put_answer(
+        answer,
+        size_answer(validation::data_size(image, node)),
+        SIZE_WORDS,
+    )
 }

@@ -14,7 +14,8 @@ use Rattle.model.specs.Validation.{Counts, validation}
 use Rattle.model.specs.Corner.{cornerCheck, cornerAnswer}
 use Rattle.model.specs.Answers.{cornerTells}
 use Rattle.model.specs.Reads.{readAnswer, ReadState, IsRead, ReadRun, done, next, AllOf}
-use Rattle.model.specs.ReadList.{requestsIn, requestAt, answerAt, ruleOf, numberOf, cornerFrom, valuesFrom, readsCheck, ReadsAnswered, madeAt, requestsOf, madeOf}
+use Rattle.model.specs.ReadList.{requestsIn, requestAt, answerAt, ruleOf, numberOf, cornerFrom, valuesFrom}
+use Rattle.model.specs.ReadList.{readsCheck, ReadsAnswered, madeAt, requestsOf, madeOf}
 use Rattle.model.specs.Demand3.{given, Listed, ReadHolds}
 use Rattle.model.proofs.Passed.{gives-check}
 use Rattle.model.proofs.Demand3.{demand3}
@@ -66,8 +67,9 @@ module _ {image entries reads : List ℕ} {numbers : List ℤ} {rules : List ℕ
       (run-of (record { image = image; entries = entries }) reads numbers′ rules′ (requestsIn reads) 0 (λ j l h. written j (omega arith)))
 
 -- demand 3 of what the runner wrote: an accepted image, a zone of it, its section entries, reads that name entries of the list
-pub demand3-answered : {b reads : List ℕ} {z : ℕ} {rest : List ℕ} {numbers : List ℤ} {rules : List ℕ} {b′ entries′ : List ℕ} {numbers′ : List ℤ} {rules′ : List ℕ}
-    {n : ℕ} (c : Counts) → validation b ≡ answer c → isZone (treeOf b) z ≡ true → AllOf (Listed b z rest) (requestsOf reads)
+pub demand3-answered : {b reads : List ℕ} {z : ℕ} {rest : List ℕ} {numbers : List ℤ} {rules : List ℕ}
+    {b′ entries′ : List ℕ} {numbers′ : List ℤ} {rules′ : List ℕ} {n : ℕ} (c : Counts)
+    → validation b ≡ answer c → isZone (treeOf b) z ≡ true → AllOf (Listed b z rest) (requestsOf reads)
     → ReadsAnswered b (given b z rest .entries) reads numbers rules (Count.Of n) b′ entries′ numbers′ rules′
     → AllOf (ReadHolds b z rest) (madeOf (given b z rest) reads numbers′ rules′)
 demand3-answered {b} {reads} {z} {rest} {numbers′ = numbers′} {rules′ = rules′} c e zone l a =

@@ -1,4 +1,4 @@
-// Corner reads with the entries of a flat list, nine numbers each: one of them, and a list of them.
+// Corner reads with the entries of a flat list: one of them, and a list of them.
 ghost use mathlib.Core.Path.{_≡_};
 ghost use Prim.Native.Nat.{_<_};
 ghost use Rattle.model.specs.Answers.{cornerTells};
@@ -20,7 +20,7 @@ pub fn one_read(
     ensures { λ r. ⌜ EntryRead (now (image .entry)) (now (entries .entry)) which element «corner_number» r (now (image .exit)) (now (entries .exit)) ⌝ }
 {
     let k = which as usize;
-    if k < entries.len() / 9 {
+    if k < entries.len() / entries::ENTRY_LENGTH {
         return corner(
             image,
             entries::section_at(entries, k),

@@ -129,19 +129,3 @@ module _ {b index : List ℕ} {z n at i : ℕ} {out ws : List Section} (d : Entr
 pub all-taken : (t : Tree) (z : ℕ) → entries t (take (length (sectionNodes t z)) (sectionNodes t z)) ≡ sectionEntries t z
 unfolding sectionEntries
 all-taken t z = ap (entries t) (take-length (sectionNodes t z))
-
--- the nine stores of an entry
-pub nine : (l : List ℕ) (k : ℕ) (e : Section)
-    → set (set (set (set (set (set (set (set (set l k (e .node)) (k + 1) (e .«element_type»)) (k + 2) (e .first)) (k + 3) (e .last)) (k + 4) (e .«offsets_at»)) (k + 5) (e .«offsets_width»)) (k + 6) (e .«connectivity_at»)) (k + 7) (e .«connectivity_width»)) (k + 8) (e .«connectivity_length»)
-    ≡ sets l k (entryNumbers e)
-unfolding entryNumbers
-nine l k e =
-    let p : k + 1 ≡ suc k = omega arith in
-    let q : k + 2 ≡ suc (suc k) = omega arith in
-    let r : k + 3 ≡ suc (suc (suc k)) = omega arith in
-    let s : k + 4 ≡ suc (suc (suc (suc k))) = omega arith in
-    let t : k + 5 ≡ suc (suc (suc (suc (suc k)))) = omega arith in
-    let u : k + 6 ≡ suc (suc (suc (suc (suc (suc k))))) = omega arith in
-    let v : k + 7 ≡ suc (suc (suc (suc (suc (suc (suc k)))))) = omega arith in
-    let w : k + 8 ≡ suc (suc (suc (suc (suc (suc (suc (suc k))))))) = omega arith in
-    rw (p, q, r, s, t, u, v, w)

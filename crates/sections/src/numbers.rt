@@ -1,39 +1,20 @@
 // Section entries as flat numbers, nine to an entry.
 ghost use mathlib.Core.Path.{_≡_};
-ghost use Prim.Native.Nat.{_+_, _*_, _/_, _≤_, _<_};
+ghost use Prim.Native.Nat.{_*_, _/_, _≤_, _<_};
 ghost use lib.ListN.{length};
-ghost use lib.Seq.{sets};
 ghost use Rattle.model.specs.Lists.{over};
 ghost use Rattle.model.specs.Image.{treeOf, nodeCount};
 ghost use Rattle.model.specs.Rules.{passed};
 ghost use Rattle.model.specs.Given.{Accepted};
 ghost use Rattle.model.specs.Validation.{imageCheck};
 ghost use Rattle.index.specs.Index.{Index};
-ghost use Rattle.model.specs.Sections.{sectionNodes, sectionEntries, entryNumbers, allNumbers, sectionsAnswer, sectionNumbersMemory};
+ghost use Rattle.model.specs.Sections.{sectionNodes, sectionEntries, allNumbers, sectionsAnswer, sectionNumbersMemory};
 ghost use Rattle.model.specs.Answers.{countTells};
 use super::answers::sections_answer;
 use super::zones::entry_after;
+use entries::ENTRY_LENGTH;
+use entries::put_entry;
 use model::Count;
-use model::Section;
-
-// How many numbers an entry has.
-pub const ENTRY_LENGTH: usize = 9;
-
-// Writes the numbers of an entry to `out` from k on.
-fn put_entry(out: &mut [u64], k: usize, e: Section)
-    requires { ⌜ k + 9 ≤ length (now out) ⌝ }
-    ensures { λ _. ⌜ now (out .exit) ≡ sets (now (out .entry)) k (entryNumbers e) ⌝ }
-{
-    out[k] = e.node;
-    out[k + 1] = e.element_type;
-    out[k + 2] = e.first;
-    out[k + 3] = e.last;
-    out[k + 4] = e.offsets_at;
-    out[k + 5] = e.offsets_width;
-    out[k + 6] = e.connectivity_at;
-    out[k + 7] = e.connectivity_width;
-    out[k + 8] = e.connectivity_length;
-}
 
 // Writes the entries of the zone's n sections to the front of `out`, in node order; the rest stays.
 fn fill(image: &[u8], index: &[u16], zone: u64, n: usize, out: &mut [u64])

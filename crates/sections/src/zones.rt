@@ -8,7 +8,7 @@ ghost use Rattle.model.specs.Containment.{sectionOf};
 ghost use Rattle.index.specs.Index.{Index};
 ghost use Rattle.model.specs.Sections.{sectionNodes, entry};
 ghost use Rattle.sections.specs.After.{sectionsAfter, Onward};
-use super::entries::entry_of;
+use super::entry::entry_of;
 use model::Section;
 
 // The first section of the zone after node i; the node count where there is none.

@@ -1,3 +1,4 @@
+-- The first n words are there, and are written in front.
 use native.Mathlib.Omega.{arith}
 use mathlib.Core.Path.{refl, sym}
 use borrow.Author.Needs.{needs}

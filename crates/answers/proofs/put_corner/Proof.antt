@@ -1,3 +1,4 @@
+-- By the case of the answer: a number is written as its 64 bits, a rejection writes nothing.
 use mathlib.Core.Path.{refl, _∙_}
 use borrow.Author.Needs.{needs, sfits-of}
 use mir.Syntax.{w64}

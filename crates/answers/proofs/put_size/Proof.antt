@@ -1,3 +1,4 @@
+-- By the case of the answer: the size or 0 is written.
 use mathlib.Core.Path.{refl, _∙_}
 use borrow.Author.Needs.{needs}
 use Rattle.model.specs.ReadList.{ruleOf}

@@ -41,4 +41,5 @@ returns c =
 
 pub put-words-spec : {M : Type 1} → statement M
 put-words-spec =
-    tie.close (tie.spec Inv-loop μ-loop loop-holds (search needs) (search needs) (search needs) put-word-requires (search needs) (search needs) loop-again same-length returns)
+    tie.close (tie.spec Inv-loop μ-loop loop-holds (search needs) (search needs) (search needs) put-word-requires (search needs) (search needs)
+    loop-again same-length returns)

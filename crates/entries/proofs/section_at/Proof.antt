@@ -1,3 +1,4 @@
+-- Each field is read at the entry's place and its own.
 use mathlib.Core.Path.{refl}
 use borrow.Author.Needs.{needs}
 use Rattle.model.specs.Reads.{sectionAt}

@@ -12,5 +12,5 @@ usage-after-requires c κs =
     (v .ensures, (omega (arith, k .1 .1 .0), omega (arith, k .1 .1 .1 .0), omega (arith, k .1 .1 .1 .1 .0)))
 
 pub face-usage-spec : {M : Type 1} → statement M
-face-usage-spec = tie.close (tie.spec (λ c. refl) (λ c. refl) (λ c. refl) (λ c. refl) (λ c κs. search needs) (search needs) (search needs) (search needs) (search needs)
-    usage-after-requires (search needs) (λ c. c .before .before .before .before .before .usage-after .ensures))
+face-usage-spec = tie.close (tie.spec (λ c. refl) (λ c. refl) (λ c. refl) (λ c. refl) (λ c κs. search needs) (search needs) (search needs) (search needs)
+    (search needs) usage-after-requires (search needs) (λ c. c .before .before .before .before .before .usage-after .ensures))

@@ -15,7 +15,8 @@ returns c =
     (usage-refused (d .args .image .now) (d .args .zone) (d .args .out .now) (not-accepted _ _ _ (rejects (d .pre .0 .0) (c .before .enum-told2 .given .1))))
 
 is-zone-requires : tie.Need-is-zone-requires
-is-zone-requires c κs = let p = c .before .before .before .before .before .before .before .before .pre .0 in p .1 (p .0 ∙ passes (p .0) (c .enum-told .given .1))
+is-zone-requires c κs =
+    let p = c .before .before .before .before .before .before .before .before .pre .0 in p .1 (p .0 ∙ passes (p .0) (c .enum-told .given .1))
 
 returns-2 : tie.Need-returns-2
 returns-2 c =

@@ -1,15 +1,15 @@
+-- Too few bytes for the answer: 46; else the call's rule, its words in front.
 use native.Mathlib.Omega.{arith}
 use mathlib.Core.Path.{ap, _∙_}
 use borrow.Author.Needs.{needs}
 use lib.ListN.{length}
-use Rattle.model.specs.ReadList.{ruleOf}
 use Rattle.model.specs.Exports.{valueWords}
-use Rattle.gongaurora.proofs.Laws.{value-three, short, long}
+use Rattle.gongaurora.proofs.Laws.{value-three, short, enough}
 use Rattle.gongaurora.proofs.gongaurora_export_array_value.Statement.{statement}
 use Rattle.gongaurora.proofs.gongaurora_export_array_value.Tie as tie
 
 returns : tie.Need-returns
-returns c = short 3 _ _ _ (value-three _) (c .if1 .taken)
+returns c = short valueWords 3 value-three _ _ (c .if1 .taken)
 
 put-answer-requires : tie.Need-put-answer-requires
 put-answer-requires c κs = (ap length (c .value-answer .ensures .1) ∙ value-three _, omega arith)
@@ -17,11 +17,9 @@ put-answer-requires c κs = (ap length (c .value-answer .ensures .1) ∙ value-t
 returns-2 : tie.Need-returns-2
 returns-2 c =
     let d = c .before .before in
-    let words = d .before .value-answer .ensures in
     let call = d .before .before .array-value .ensures in
-    let room = d .before .before .before .before .if1 .left in
-    long 3 _ _ _ (value-three _) room (d .put-answer .ensures .0 ∙ words .0 ∙ ap ruleOf (call .0)) (words .1 ∙ ap valueWords (call .0)) (d .put-answer .ensures .1)
+    enough valueWords 3 value-three _ _ (d .before .before .before .before .if1 .left) (call .0) (d .before .value-answer .ensures) (d .put-answer .ensures)
 
 pub gongaurora-export-array-value-spec : {M : Type 1} → statement M
 gongaurora-export-array-value-spec =
-    tie.close (tie.spec returns (search needs) (λ c κs. c .array-value .ensures .1) put-answer-requires (search needs) returns-2)
+    tie.close (tie.spec (search needs) returns (search needs) (λ c κs. c .array-value .ensures .1) put-answer-requires (search needs) returns-2)

@@ -1,15 +1,15 @@
+-- Too few bytes for the answer: 46; else the call's rule, its words in front, and its memory.
 use native.Mathlib.Omega.{arith}
 use mathlib.Core.Path.{ap, _∙_}
 use borrow.Author.Needs.{needs}
 use lib.ListN.{length}
-use Rattle.model.specs.ReadList.{ruleOf}
 use Rattle.model.specs.Exports.{usageWords}
-use Rattle.gongaurora.proofs.Laws.{usage-three, short, long, memory-short, memory-long}
+use Rattle.gongaurora.proofs.Laws.{usage-three, short, enough, memory-short, memory-long}
 use Rattle.gongaurora.proofs.gongaurora_export_face_usage.Statement.{statement}
 use Rattle.gongaurora.proofs.gongaurora_export_face_usage.Tie as tie
 
 returns : tie.Need-returns
-returns c = let s = short 3 _ _ _ (usage-three _) (c .if1 .taken) in (s .0, (s .1, memory-short 3 _ _ _ (c .if1 .taken)))
+returns c = let s = short usageWords 3 usage-three _ _ (c .if1 .taken) in (s .0, (s .1, memory-short 3 _ _ _ (c .if1 .taken)))
 
 put-answer-requires : tie.Need-put-answer-requires
 put-answer-requires c κs = (ap length (c .usage-answer .ensures .1) ∙ usage-three _, omega arith)
@@ -17,12 +17,11 @@ put-answer-requires c κs = (ap length (c .usage-answer .ensures .1) ∙ usage-t
 returns-2 : tie.Need-returns-2
 returns-2 c =
     let d = c .before .before in
-    let words = d .before .usage-answer .ensures in
     let call = d .before .before .before .before .face-usage .ensures in
     let room = d .before .before .before .before .before .before .before .if1 .left in
-    let answers = long 3 _ _ _ (usage-three _) room (d .put-answer .ensures .0 ∙ words .0 ∙ ap ruleOf (call .0)) (words .1 ∙ ap usageWords (call .0)) (d .put-answer .ensures .1) in
+    let answers = enough usageWords 3 usage-three _ _ room (call .0) (d .before .usage-answer .ensures) (d .put-answer .ensures) in
     (answers .0, (answers .1, call .1 ∙ memory-long 3 _ _ _ room))
 
 pub gongaurora-export-face-usage-spec : {M : Type 1} → statement M
 gongaurora-export-face-usage-spec =
-    tie.close (tie.spec returns (search needs) (search needs) put-answer-requires (search needs) (search needs) returns-2)
+    tie.close (tie.spec (search needs) returns (search needs) (search needs) put-answer-requires (search needs) (search needs) returns-2)

@@ -1,3 +1,4 @@
+-- The three numbers of a request are the read that is made.
 use borrow.Author.Needs.{needs}
 use Rattle.model.specs.ReadList.{answerAt, requestAt}
 use Rattle.reads.proofs.answer_at.Statement.{statement}

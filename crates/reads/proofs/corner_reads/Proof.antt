@@ -100,12 +100,5 @@ pub corner-reads-spec : {M : Type 1} → statement M
 corner-reads-spec =
     tie.close
     (tie.spec Inv-loop μ-loop (search needs) returns (search needs) returns-2 loop-holds (λ c κs. omega arith) (search needs) (search needs) (λ c. omega arith)
-    (search needs)
-    (search needs)
-    (λ c. omega arith)
-    (search needs)
-    (λ c. omega arith)
-    loop-again
-    (λ c. c .before .loop .inv .length-kept)
-    (λ c. c .before .loop .inv .length-kept-2)
-    returns-3)
+    (search needs) (search needs) (λ c. omega arith) (search needs) (λ c. omega arith) loop-again (λ c. c .before .loop .inv .length-kept)
+    (λ c. c .before .loop .inv .length-kept-2) returns-3)

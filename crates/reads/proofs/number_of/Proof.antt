@@ -1,3 +1,4 @@
+-- By the case of the answer.
 use borrow.Author.Needs.{needs, sfits-of}
 use mir.Syntax.{w64}
 use mir.Facts.{toZ-ofZ}

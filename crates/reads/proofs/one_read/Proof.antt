@@ -1,3 +1,4 @@
+-- An entry that the list has is read with; any other is refused with 40.
 use mathlib.Core.Path.{refl, sym, _∙_, ap}
 use borrow.Author.Needs.{needs}
 use Rattle.model.specs.Rules.{rejected}

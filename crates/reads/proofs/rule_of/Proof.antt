@@ -1,3 +1,4 @@
+-- By the case of the answer.
 use borrow.Author.Needs.{needs}
 use Rattle.model.specs.ReadList.{ruleOf}
 use Rattle.reads.proofs.rule_of.Statement.{statement}

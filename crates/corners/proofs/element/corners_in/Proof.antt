@@ -4,8 +4,8 @@ use native.Mathlib.Omega.{arith}
 use mathlib.Core.Path.{_≡_, ap, _∙_}
 use borrow.Author.Needs.{needs}
 use Rattle.model.specs.Rules.{rejected}
-use Rattle.corners.proofs.Widths.{inside-fewer}
-use Rattle.corners.proofs.Elements.{too-short, long-enough}
+use Rattle.rows.proofs.Rows.{inside-numbers}
+use Rattle.corners.proofs.Outcomes.{too-short, long-enough}
 use Rattle.corners.proofs.element.corners_in.Statement.{statement}
 use Rattle.corners.proofs.element.corners_in.Tie as tie
 
@@ -14,9 +14,7 @@ returns c = let r = too-short _ _ _ _ _ (c .before .if1 .taken) in (ap rejected 
 
 put-numbers-requires : tie.Need-put-numbers-requires
 put-numbers-requires c κs =
-    let d = c .before .before .before in
-    let e : d .args .start + (d .args .end - d .args .start) ≡ d .args .end = omega (arith, d .pre) in
-    (rw e (inside-fewer _ _ _ _ _ (d .pre .1) (d .pre .2)), c .before .if1 .left)
+    let d = c .before .before .before in (inside-numbers _ _ _ _ (d .pre .2), (omega arith, c .before .if1 .left))
 
 returns-2 : tie.Need-returns-2
 returns-2 c =

@@ -1,3 +1,4 @@
+-- The span tells the element's size, and its connectivity lies inside the image.
 use native.Mathlib.Omega.{arith}
 use mathlib.Core.Path.{ap}
 use borrow.Author.Needs.{needs, sfits-of}
@@ -6,7 +7,7 @@ use mir.Syntax.{w64}
 use mir.Facts.{toZ-ofZ}
 use Rattle.model.specs.Rules.{answer, check, _then_, _gives_}
 use Rattle.corners.specs.Spans.{cornerIn}
-use Rattle.corners.proofs.Widths.{inside-width, inside-at}
+use Rattle.rows.proofs.Rows.{inside-numbers}
 use Rattle.corners.proofs.reader.corner_in.Statement.{statement}
 use Rattle.corners.proofs.reader.corner_in.Tie as tie
 
@@ -20,7 +21,7 @@ returns-2 c = rw (c .at2 .ensures) (simp (le-leb _ _ (c .before .before .if1 .le
 
 signed-number-at-requires : tie.Need-signed-number-at-requires
 signed-number-at-requires c κs =
-    let p = c .before .before .before .pre in (inside-width _ _ _ _ (p .2), inside-at _ _ _ _ _ (omega arith) (p .2))
+    let p = c .before .before .before .pre in (inside-numbers _ _ _ _ (p .2), omega arith)
 
 returns-3 : tie.Need-returns-3
 unfolding cornerIn check _gives_ _then_

@@ -9,7 +9,7 @@ use denote.Ref.{now}
 use lib.ListN.{length}
 use Rattle.model.specs.Corner.{inside}
 use Rattle.corners.specs.Spans.{offsetSpan}
-use Rattle.corners.proofs.Widths.{inside-width, inside-at, inside-many}
+use Rattle.rows.proofs.Rows.{inside-numbers, inside-many}
 use Rattle.corners.proofs.spans.offset_span.Statement.{statement}
 use Rattle.corners.proofs.spans.offset_span.Tie as tie
 
@@ -24,13 +24,13 @@ within : (c : tie.Then2) → let a = c .before .before .before .before .args in 
 within c = sym (c .before .inside .ensures) ∙ c .if2 .taken
 
 number-at-requires : tie.Need-number-at-requires
-number-at-requires c κs = (inside-width _ _ _ _ (within c), inside-at _ _ _ _ _ (omega arith) (within c))
+number-at-requires c κs = (inside-numbers _ _ _ _ (within c), omega arith)
 
 number-at-requires-2 : tie.Need-number-at-requires-2
-number-at-requires-2 c κs = (inside-width _ _ _ _ (within (c .before)), inside-at _ _ _ _ _ (omega arith) (within (c .before)))
+number-at-requires-2 c κs = (inside-numbers _ _ _ _ (within (c .before)), omega arith)
 
 range-between-requires : tie.Need-range-between-requires
-range-between-requires c κs = inside-width _ _ _ _ (within (c .before .before))
+range-between-requires c κs = inside-numbers _ _ _ _ (within (c .before .before)) .wide
 
 returns-2 : tie.Need-returns-2
 unfolding offsetSpan

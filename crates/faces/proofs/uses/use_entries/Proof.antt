@@ -8,33 +8,37 @@ use borrow.Author.Tests.{lt-ltb, le-ltb}
 use Rattle.model.specs.Rules.{repetition}
 use Rattle.model.specs.Image.{treeOf}
 use Rattle.model.specs.FaceUsage.{faceCount, usesIn, useEntries}
-use Rattle.faces.proofs.Runs.{Left, left-more, left-stop, left-done, entries-start, entries-step, entries-end, entry-face, entry-used, entry-repeated}
+use Rattle.faces.proofs.Runs.{tables-kept, Left, left-more, left-stop, left-done, entries-start, entries-step, entries-end}
+use Rattle.faces.proofs.Runs.{entry-face, entry-used, entry-repeated}
 use Rattle.faces.proofs.uses.use_entries.Statement.{statement}
 use Rattle.faces.proofs.uses.use_entries.Tie as tie
 
 abbrev Inv-loop : tie.InvT-loop
-Inv-loop image index faces s row firsts reach places hints₀ out₀ count last₀ k₀ hints out last k =
+Inv-loop image index faces s firsts reach places hints₀ out₀ count row last₀ k₀ hints out last k =
     ((k ≤ row .n) × (length hints ≡ length hints₀))
     × Left (faceCount (treeOf image) (faces .zone)) (useEntries (treeOf image) s (usesIn (treeOf image) (faces .zone) s) 0 out₀) out₀
     (useEntries (treeOf image) s (row .n - k) k out) out
 
 abbrev μ-loop : tie.MeasureT-loop
-μ-loop image index faces s row firsts reach places hints₀ out₀ count last₀ k₀ hints out last k = row .n - k
+μ-loop image index faces s firsts reach places hints₀ out₀ count row last₀ k₀ hints out last k = row .n - k
+
+references-of-requires : tie.Need-references-of-requires Inv-loop μ-loop
+references-of-requires c κs = let p = c .before .before .before .before .before .before .before .pre in (p .1 .accepted, p .0)
 
 loop-holds : tie.Need-loop-holds Inv-loop μ-loop
-loop-holds c = ((omega arith, refl), entries-start _ _ _ (c .before .before .before .before .before .before .before .pre .0 .long) _ _)
+loop-holds c = ((omega arith, refl), entries-start _ _ _ (c .references-of .ensures .long) _ _)
 
 use-entry-requires : tie.Need-use-entry-requires Inv-loop μ-loop
 use-entry-requires c κs =
-    let l = c .before .before .before .before .loop in
-    let p = c .before .before .before .before .before .before .before .before .before .before .before .before .pre in
-    let e = p .0 .each (l .k) (omega arith) in
-    ((p .0 .numbers, omega arith), (entry-face e, (p .1 .0, ((p .1 .1 .0 .0, omega (arith, l .inv .0 .1)), omega (arith, l .inv .1 .long)))))
+    let l = c .before .before .before .before in
+    let r = l .before .references-of .ensures in
+    let t = tables-kept (l .before .before .before .before .before .before .before .before .before .pre .1) (l .loop .inv .0 .1) (l .loop .inv .1 .long) in
+    ((r .numbers, omega arith), (entry-face (r .each (l .loop .k) (omega arith)), t))
 
 element-holding-requires : tie.Need-element-holding-requires Inv-loop μ-loop
 element-holding-requires c κs =
     let t = c .before .before .before .before .before .before .before .before in
-    let l = t .before .before in l .before .before .before .before .before .before .before .before .pre .0 .each (l .loop .k) (t .if1 .taken) .cells
+    let l = t .before .before in l .before .references-of .ensures .each (l .loop .k) (t .if1 .taken) .cells
 
 same-length : tie.Need-same-length Inv-loop μ-loop
 same-length c =
@@ -50,26 +54,30 @@ returns : tie.Need-returns Inv-loop μ-loop
 returns c =
     let u = c .before .before .before .before .before .before .before in
     let t = u .before .before .before in
-    let l = t .before .before .loop in
-    let d = t .before .before .before .before .before .before .before .before .before .before in
+    let l = t .before .before in
+    let d = l .before .before .before .before .before .before .before .before .before in
     let a = d .args in
+    let n = l .before .references-of in
     let h = t .if1 .taken in
-    left-stop (l .inv .1) (λ later. useEntries (treeOf (a .image .now)) (a .s) (a .row .n - (l .k + 1)) (l .k + 1) later) (entries-step _ _ _ _ _ h)
-    (entry-repeated (d .pre .0 .each (l .k) h) (l .out) (u .use-entry .ensures) (d .pre .1 .0 .0) (le-ltb _ _ (c .before .before .if2 .taken))
+    left-stop (l .loop .inv .1) (λ later. useEntries (treeOf (a .image .now)) (a .s) (n .result .n - (l .loop .k + 1)) (l .loop .k + 1) later)
+    (entries-step _ _ _ _ _ h)
+    (entry-repeated (n .ensures .each (l .loop .k) h) (l .loop .out) (u .use-entry .ensures) (d .pre .1 .accepted) (le-ltb _ _ (c .before .before .if2 .taken))
     (c .repeated .ensures ∙ ap (repetition (a .s)) (c .before .element-holding .ensures))) refl
 
 loop-again : tie.Need-loop-again Inv-loop μ-loop
 loop-again c =
     let u = c .before .before .before .before .before in
     let t = u .before .before .before in
-    let l = t .before .before .loop in
-    let d = t .before .before .before .before .before .before .before .before .before .before in
+    let l = t .before .before in
+    let d = l .before .before .before .before .before .before .before .before .before in
     let a = d .args in
+    let n = l .before .references-of in
     let h = t .if1 .taken in
     let k = u .use-entry .kept .1 .1 .1 .1 .1 .1 .1 in (
-      (omega arith, k .0 ∙ l .inv .0 .1),
-      left-more (l .inv .1) (λ later. useEntries (treeOf (a .image .now)) (a .s) (a .row .n - (l .k + 1)) (l .k + 1) later) (entries-step _ _ _ _ _ h)
-          (entry-used (d .pre .0 .each (l .k) h) (l .out) (u .use-entry .ensures) (d .pre .1 .0 .0) (lt-ltb _ _ (c .if2 .left)))
+      (omega arith, k .0 ∙ l .loop .inv .0 .1),
+      left-more (l .loop .inv .1) (λ later. useEntries (treeOf (a .image .now)) (a .s) (n .result .n - (l .loop .k + 1)) (l .loop .k + 1) later)
+          (entries-step _ _ _ _ _ h)
+          (entry-used (n .ensures .each (l .loop .k) h) (l .loop .out) (u .use-entry .ensures) (d .pre .1 .accepted) (lt-ltb _ _ (c .if2 .left)))
           refl (k .1 .1 .0),
     )
 
@@ -83,5 +91,5 @@ returns-2 : tie.Need-returns-2 Inv-loop μ-loop
 returns-2 c = left-done (c .before .before .loop .inv .1) (entries-end _ _ _ _ _ (c .if1 .left))
 
 pub use-entries-spec : {M : Type 1} → statement M
-use-entries-spec = tie.close (tie.spec Inv-loop μ-loop loop-holds use-entry-requires element-holding-requires (search needs) same-length same-length-2 returns
-    (search needs) (search needs) loop-again same-length-3 same-length-4 returns-2)
+use-entries-spec = tie.close (tie.spec Inv-loop μ-loop references-of-requires loop-holds use-entry-requires element-holding-requires (search needs) same-length
+    same-length-2 returns (search needs) (search needs) loop-again same-length-3 same-length-4 returns-2)

@@ -9,31 +9,48 @@ use Rattle.faces.proofs.zone.zone_usage.Statement.{statement}
 use Rattle.faces.proofs.zone.zone_usage.Tie as tie
 
 array-read-if1 : tie.Need-array-read-if1
-array-read-if1 c = omega (arith, few-ranges (c .before .before .before .before .before .before .before .before .before .before .before .before .before .before .before .pre .0 .0 .0) (c .before .before .before .before .before .gather .ensures))
+array-read-if1 c =
+    let m = c .before .before .before .before .before in
+    omega (arith, few-ranges (m .before .before .before .before .before .before .before .before .before .before .pre .0 .0 .0) (m .gather .ensures))
 
 returns : tie.Need-returns
 returns c =
-    let d = c .before .before .before .before .before .before .before .before .before .before .before .before .before .before .before .before .before in
+    let m = c .before .before .before .before .before .before .before in
+    let d = m .before .before .before .before .before .before .before .before .before .before in
     let p = d .pre .0 in
     let w = usage-refused (d .args .image .now) (d .args .z) (d .args .out .now)
-    (too-short _ _ _ (p .0 .0 .image) (p .1) (omega (arith, all-faces (p .0 .0) (c .before .before .before .before .before .before .before .gather .ensures), c .before .if1 .taken))) in
+    (too-short _ _ _ (p .0 .0 .image) (p .1) (omega (arith, all-faces (p .0 .0) (m .gather .ensures), c .before .if1 .taken))) in
     (ap rejected (c .at .ensures) ∙ w .0, w .1)
+
+top-of-requires : tie.Need-top-of-requires
+top-of-requires c κs = (c .before .before .before .before .before .before .before .before .gather .ensures .gathered .ordered, omega arith)
 
 fill-requires : tie.Need-fill-requires
 fill-requires c κs =
-    let p = c .before .before .before .before .before .before .before .before .before .before .before .before .before .before .before .before .before .before .before .before .before .pre in
-    let g = c .before .before .before .before .before .before .before .before .before .before .before .gather .ensures in
-    ((p .0 .0, p .1 .2), (g, omega (arith, all-faces (p .0 .0 .0) g, c .before .before .before .before .before .if1 .left)))
+    let m = c .before .before .before .before .before .before .before .before .before .before .before .before .before .before .before in
+    let p = m .before .before .before .before .before .before .before .before .before .before .pre in
+    let g = m .gather .ensures in (
+      p .0 .0 .1,
+      record {
+        accepted = p .0 .0 .0;
+        ranges = g;
+        shifted = c .before .before .before .before .before .shift-for .ensures;
+        hinted = p .1 .2;
+        room = omega (arith, all-faces (p .0 .0 .0) g, c .before .before .before .before .before .before .before .before .before .if1 .left);
+      },
+    )
 
 returns-2 : tie.Need-returns-2
 returns-2 c =
-    let d = c .before .before .before .before .before .before .before .before .before .before .before .before .before .before .before .before .before .before .before .before .before .before .before .before .before .before in
+    let i = c .before .before .before .before .before .before .before .before .before .before .before .before .before .before in
+    let m = i .before .before .before .before .before .before in
+    let d = m .before .before .before .before .before .before .before .before .before .before in
     let p = d .pre .0 in
     let f = c .before .before .before .before .fill .ensures in
     let w = usage-accepted (d .args .image .now) (d .args .z) (d .args .out .now)
-    (long-enough _ _ _ (p .0 .0 .image) (p .1) (omega (arith, all-faces (p .0 .0) (c .before .before .before .before .before .before .before .before .before .before .before .before .before .before .before .before .gather .ensures), c .before .before .before .before .before .before .before .before .before .before .if1 .left))) in
+    (long-enough _ _ _ (p .0 .0 .image) (p .1) (omega (arith, all-faces (p .0 .0) (m .gather .ensures), i .if1 .left))) in
     (f .0 ∙ sym (w .0), f .1 ∙ sym (w .1))
 
 pub zone-usage-spec : {M : Type 1} → statement M
 zone-usage-spec = tie.close (tie.spec (λ c. refl) (λ c κs. search needs) (search needs) array-read-if1 (search needs) (search needs) (search needs) returns
-    (search needs) fill-requires (search needs) (search needs) (search needs) (search needs) returns-2)
+    top-of-requires (search needs) (search needs) fill-requires (search needs) (search needs) (search needs) (search needs) returns-2)

@@ -1,0 +1,57 @@
+-- The three children are where the index has them; an accepted image has them conforming, so that their numbers are the entry's.
+use Rattle.sections.proofs.Parts.{section-kind, own-has, first-has, last-has, found-inside, found-flat, entry-made}
+use borrow.Author.Needs.{needs}
+use Rattle.sections.proofs.entry.entry_of.Statement.{statement}
+use Rattle.sections.proofs.entry.entry_of.Tie as tie
+
+range-requires : tie.Need-range-requires
+range-requires c κs = let p = c .before .before .pre in ((p .1, p .0 .inside), section-kind (p .0))
+
+offsets-requires : tie.Need-offsets-requires
+offsets-requires c κs = let p = c .before .before .before .pre in ((p .1, p .0 .inside), section-kind (p .0))
+
+connectivity-requires : tie.Need-connectivity-requires
+connectivity-requires c κs = let p = c .before .before .before .before .pre in ((p .1, p .0 .inside), section-kind (p .0))
+
+whole-requires : tie.Need-whole-requires
+whole-requires c κs = let p = c .before .before .before .before .before .pre .0 in (p .accepted .sound, own-has p)
+
+whole-requires-2 : tie.Need-whole-requires-2
+whole-requires-2 c κs =
+    let r = c .before .before .before in
+    let p = r .before .before .before .pre .0 in
+    (p .accepted .sound, first-has p (r .range .ensures .0))
+
+whole-requires-3 : tie.Need-whole-requires-3
+whole-requires-3 c κs =
+    let r = c .before .before .before .before in
+    let p = r .before .before .before .pre .0 in
+    (p .accepted .sound, last-has p (r .range .ensures .0))
+
+size-of-requires : tie.Need-size-of-requires
+size-of-requires c κs =
+    let d = c .before .before .before .before .before .before .before in
+    let p = d .before .before .before .before .before .pre .0 in
+    ((p .accepted .sound, found-inside p (d .connectivity .ensures .0)), found-flat p (d .connectivity .ensures .0))
+
+returns : tie.Need-returns
+returns c =
+    let w = c .before .before .before .before .before in
+    let d = w .before .before .before in
+    let r = d .before .before in
+    rw (
+      c .size-of .ensures,
+      c .before .width-at2 .ensures,
+      c .before .before .start-of2 .ensures,
+      c .before .before .before .width-at .ensures,
+      c .before .before .before .before .start-of .ensures,
+      w .whole3 .ensures,
+      w .before .whole2 .ensures,
+      w .before .before .whole .ensures,
+    )
+    (entry-made (r .before .before .before .pre .0) (r .range .ensures .0) (d .before .offsets .ensures .0) (d .connectivity .ensures .0))
+
+pub entry-of-spec : {M : Type 1} → statement M
+entry-of-spec =
+    tie.close (tie.spec range-requires offsets-requires connectivity-requires whole-requires whole-requires-2 whole-requires-3
+    (λ c κs. search needs) (λ c κs. search needs) (λ c κs. search needs) (λ c κs. search needs) size-of-requires returns)
