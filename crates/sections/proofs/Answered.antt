@@ -23,7 +23,7 @@ use Rattle.model.proofs.Accepted.{table-passed}
 use Rattle.model.proofs.Bounds.{sound}
 use Rattle.model.proofs.Sections.{zone-is}
 use Rattle.index.specs.Index.{Index}
-use Rattle.sections.specs.After.{EntriesDue, answeredCount}
+use Rattle.sections.specs.Due.{EntriesDue, answeredCount}
 use Rattle.sections.proofs.Filling.{Filled, all-taken}
 
 -- an image that passed
@@ -105,8 +105,8 @@ unfolding over entries
 nothing-written b out = refl
 
 -- with all entries written that the answer tells of
-pub answered-memory : {b : List ℕ} {z n at i : ℕ} {out ws : List Section} → Filled b z n out ws at i → n ≤ i → (r : Count) → countTells r ≡ sectionsAnswer b z (length out)
-    → n ≡ answeredCount r → ws ≡ sectionsMemory b z out
+pub answered-memory : {b : List ℕ} {z n at i : ℕ} {out ws : List Section} → Filled b z n out ws at i → n ≤ i
+    → (r : Count) → countTells r ≡ sectionsAnswer b z (length out) → n ≡ answeredCount r → ws ≡ sectionsMemory b z out
 unfolding sectionsMemory
 answered-memory {b} {z} {n} {at} {i} {out} f h (Count.Of m) e g =
     let c = counts b z (length out) e in

@@ -71,7 +71,8 @@ abbrev pub shared : Ty → Ty
 shared τ = tyRef erased imm τ
 
 -- from Γ the body b leaves by the ways Δ, where what is asked holds
-pub record Walk {M : Type 1} {𝓤 : URA M} {H : Heap 𝓤} {A : Atoms 𝓤} (W : Given 𝓤 H A) (𝓣 : Tables 𝓤 H) (E : Env 𝓤 H) (Γ : Cx) (b : Body) (Δ : Outs) : Type 2 where
+pub record Walk {M : Type 1} {𝓤 : URA M} {H : Heap 𝓤} {A : Atoms 𝓤} (W : Given 𝓤 H A) (𝓣 : Tables 𝓤 H) (E : Env 𝓤 H) (Γ : Cx) (b : Body) (Δ : Outs)
+    : Type 2 where
   pub asked : TF Γ Δ
   pub typed : Typed 𝓤 H A 𝓣 E Γ b Δ asked
 
@@ -84,7 +85,8 @@ module _ {M : Type 1} {𝓤 : URA M} {H : Heap 𝓤} {A : Atoms 𝓤} {W : Given
   aside {Γ} {Γ₁} {b} {φ} g w = record { asked = λ Ψ. φ (w .asked Ψ); typed = g-pre 𝓤 H A W 𝓣 E Γ Γ₁ b Δ φ (w .asked) g (w .typed) }
 
   -- what the local k holds is let go; a lifetime begins, ends and is forgotten
-  abbrev pub frees : {Γ : Cx} {b : Body} (k : ℕ) (τ : Ty) → ToRoom 𝓤 H A (getRow k (Γ .locals) .1) τ → Walk W 𝓣 E (After Γ k (any-gone τ)) b Δ → Walk W 𝓣 E Γ b Δ
+  abbrev pub frees : {Γ : Cx} {b : Body} (k : ℕ) (τ : Ty) → ToRoom 𝓤 H A (getRow k (Γ .locals) .1) τ → Walk W 𝓣 E (After Γ k (any-gone τ)) b Δ
+      → Walk W 𝓣 E Γ b Δ
   frees {Γ} k τ t w = aside (g-room 𝓤 H A W E Γ k τ t) w
 
   abbrev pub begins : {Γ : Cx} {b : Body} (α : ℕ) → Fresh α (Γ .locals) → Walk W 𝓣 E (Begun Γ α) b Δ → Walk W 𝓣 E Γ b Δ

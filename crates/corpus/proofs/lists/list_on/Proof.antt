@@ -34,10 +34,10 @@ use Rattle.model.proofs.Count.Laws as S′
 use Rattle.sections.proofs.Steps.{Walk, does, aside, frees, begins, ended, forgets, here, returned, walked, _and_}
 use Rattle.sections.proofs.Steps.{List, [], _∷_, _++_, URA, Heap, Env, Tables, Atoms, Given, Lfts, Shares, givenOf, Over, RattleType, Known, Array, pointee}
 use Rattle.sections.proofs.Steps.{Ty, Home, valueLocal, memorySlot, w8, w64, tyInt, tyArray, tyRef, named, imm, lent, sliceTy, word, Cx, Row, St, Outs, out}
-use Rattle.sections.proofs.Steps.{sInt, valS, whole, any-gone, After, cArr, cStruct, told-none, as-is, room-gone, arrF, arr-owedP, room-arr, room-whole, room-sc}
+use Rattle.sections.proofs.Steps.{sInt, valS, whole, any-gone, After, cArr, cStruct, told-none, as-is, room-gone, arrF, arr-owedP, room-arr, room-whole}
 use Rattle.sections.proofs.Steps.{oAt, reads-sc, t-arr-borrowᵖ, g-back-arrᵖ, g-as-by, t-val-copy, mslice, msleft, reads-mslice, asMut, msptr, t-sl-aggregate}
 use Rattle.sections.proofs.Steps.{reads-sslice, Yields, Makes, yields-copy, makes-mem, spares-sslice, vAt, wantQ, sub-id, t-call-plain, tysP, EnvOf, Γin, Δret}
-use Rattle.sections.proofs.Steps.{init, GoodsP, Dens, tyR}
+use Rattle.sections.proofs.Steps.{room-sc, init, GoodsP, Dens, tyR}
 use Rattle.sections.proofs.Listed as listed
 use Rattle.sections.proofs.list_sections.Symbol as list-def
 use Rattle.sections.proofs.list_sections.Met as list-thm
@@ -150,8 +150,8 @@ module _ (κs : Lfts 1) (qs : Shares 1) where
         does (t-val-copy 𝓤 H A W E 𝓣 (λ ρ. Unit {0}) _ 1 5 (Array T.the-row 16) cells cells cells-row cells-row (λ x. x) (λ x. x) (λ x. x) refl
         (told-none 𝓤 H A _) yields (room-gone 𝓤 H A cells) makes refl refl)
         (frees 1 cells (room-arr 𝓤 H A W T.the-row 16 0 16 refl) (here Moved (begins 1 _
-        (does (t-arr-borrowᵖ 𝓤 H A W E 𝓣 T.the-row _ 5 7 16 1 array-ref (λ x. x) (λ u. u .1 .1 .1 .1 .0) (as-is 𝓤 H A cells-row) (room-gone 𝓤 H A array-ref) refl
-        (λ b o. tt) (lit< tt, lit< tt))
+        (does (t-arr-borrowᵖ 𝓤 H A W E 𝓣 T.the-row _ 5 7 16 1 array-ref (λ x. x) (λ u. u .1 .1 .1 .1 .0) (as-is 𝓤 H A cells-row) (room-gone 𝓤 H A array-ref)
+        refl (λ b o. tt) (lit< tt, lit< tt))
         (does (t-sl-aggregate 𝓤 H A W E T.the-row 𝓣 (asMut T.the-row) _ 7 8 1 array-ref entry-ref (λ x. x) (oAt 4 word (valS (sInt w64)))
         (as-is 𝓤 H A (msptr T.the-row array-ref 1)) (room-gone 𝓤 H A (sliceTy entry-ref)) (reads-sc 𝓤 H A W (sInt w64), refl) refl refl (λ b o k. tt))
         (does (t-call-plain 𝓤 H A W 𝓣 2 listed.ps listed.r listed.Asked listed.Learnt list-def.name lists E (λ pos β. β) _

@@ -30,13 +30,14 @@ use Rattle.model.proofs.Count as S
 use Rattle.model.proofs.Count.Laws as S′
 use Rattle.sections.proofs.Steps.{Walk, does, aside, frees, begins, ended, forgets, here, last, returned, skips, exits, part, test, loops, walked, _and_}
 use Rattle.sections.proofs.Steps.{List, [], _∷_, _++_, some, URA, Heap, Env, Tables, Atoms, Given, Lfts, Shares, givenOf, Over, RattleType, Known}
-use Rattle.sections.proofs.Steps.{Ty, Home, valueLocal, memorySlot, w8, w16, w64, tyInt, tyBool, tyPtr, tyArray, tyRef, named, imm, mut, field, lent, shared}
-use Rattle.sections.proofs.Steps.{pointee, sliceTy, word, number, fInt, rtF, Cx, Row, Mo, Outs, sInt, sBool, sPtr, valS, lease, set, whole, sc-here, After}
-use Rattle.sections.proofs.Steps.{ToRoom, ReadsAs, cEnum, cRf, cStruct, told-none, as-is, room-gone, ptrVal, withNext, inBlock₀, inLoop₀, arrF, arr-owed, arr-shr}
-use Rattle.sections.proofs.Steps.{room-arr, room-whole, room-sc, room-sslice, mem-whole, whole-mem, oAt, oBig, oFld, oInt, t-use, t-op2, reads-sc, holds-sc}
-use Rattle.sections.proofs.Steps.{t-arr-share, g-back-arr-shr, g-as-by, t-val-copy, mslice, msleft, reads-mslice, reads-mslice-len, reads-mslice-ptr}
-use Rattle.sections.proofs.Steps.{asMut, asShr, msptr, ssptr, t-sl-aggregate, lenV, reads-sslice, bySize, Yields, yields-copy, makes-mem, spares-sslice, vAt}
-use Rattle.sections.proofs.Steps.{wantQ, sub-id, t-call-plain, tysP, EnvOf, Γin, Δret, init, GoodsP, Dens, tyR, endedOf, stays}
+use Rattle.sections.proofs.Steps.{Ty, Home, valueLocal, memorySlot, w8, w16, w64, tyInt, tyBool, tyPtr, tyArray, tyRef, named, imm, mut, field}
+use Rattle.sections.proofs.Steps.{pointee, sliceTy, lent, shared, word, number, fInt, rtF, Cx, Row, Mo, Outs, sInt, sBool, sPtr, valS, lease, set}
+use Rattle.sections.proofs.Steps.{whole, sc-here, After, ToRoom, ReadsAs, cEnum, cRf, cStruct, told-none, as-is, room-gone, ptrVal, withNext, inBlock₀}
+use Rattle.sections.proofs.Steps.{inLoop₀, arrF, arr-owed, arr-shr, room-arr, room-whole, room-sc, room-sslice, mem-whole, whole-mem, oAt, oBig, oFld}
+use Rattle.sections.proofs.Steps.{oInt, t-use, t-op2, reads-sc, holds-sc, t-arr-share, g-back-arr-shr, g-as-by, t-val-copy, mslice, msleft, asMut, asShr}
+use Rattle.sections.proofs.Steps.{reads-mslice, reads-mslice-len, reads-mslice-ptr, msptr, ssptr, t-sl-aggregate, lenV, reads-sslice, bySize, Yields}
+use Rattle.sections.proofs.Steps.{yields-copy, makes-mem, spares-sslice, vAt, wantQ, sub-id, t-call-plain, tysP, EnvOf, Γin, Δret, init, GoodsP, Dens}
+use Rattle.sections.proofs.Steps.{tyR, endedOf, stays}
 use Rattle.sections.proofs.Answered.{due, answered-memory}
 use Rattle.sections.proofs.Filling.{Filled, none-stored, onward, one-stored}
 use Rattle.sections.proofs.Listed.{byte, ps, r, requires, ensures, pre-read, post-read, Pre, Post}
@@ -48,10 +49,10 @@ use Rattle.sections.proofs.answers.answered_count.Kinds as et
 use Rattle.sections.proofs.answers.answered_count.Reads as et-reads
 use Rattle.sections.proofs.answers.answered_count.Symbol as et-def
 use Rattle.sections.proofs.answers.answered_count.Met as et-thm
-use Rattle.sections.proofs.zones.entry_after.Kinds as ea
-use Rattle.sections.proofs.zones.entry_after.Reads as ea-reads
-use Rattle.sections.proofs.zones.entry_after.Symbol as ea-def
-use Rattle.sections.proofs.zones.entry_after.Met as ea-thm
+use Rattle.zone_sections.proofs.entry_after.Kinds as ea
+use Rattle.zone_sections.proofs.entry_after.Reads as ea-reads
+use Rattle.zone_sections.proofs.entry_after.Symbol as ea-def
+use Rattle.zone_sections.proofs.entry_after.Met as ea-thm
 use Rattle.sections.proofs.listing.list_sections as list
 use Rattle.sections.proofs.listing.list_sections.Statement.{statement}
 use Rattle.sections.proofs.listing.list_sections.Key.{name as #list-sections}
@@ -150,7 +151,8 @@ module _ (κs : Lfts 2) (qs : Shares 2) where
     ends =
         frees 3 word gone (frees 6 word gone (frees 7 word gone (frees 8 word gone (frees 4 cells (room-arr 𝓤 H A W half 16384 0 16384 refl)
         (does (t-val-copy 𝓤 H A W E 𝓣 (λ ρ. Unit {0}) _ 5 0 S.the-row S′.mir S′.mir answer-row answer-row (λ x. x) (λ x. x) (λ x. x) refl (told-none 𝓤 H A _)
-        copies (room-gone 𝓤 H A S′.mir) (makes-mem 𝓤 H A W (λ ρ. Unit {0}) S.the-row refl answer-row (λ x. x) (λ ρ told. whole-mem 𝓤 H A W S.the-row ρ)) refl refl)
+        copies (room-gone 𝓤 H A S′.mir) (makes-mem 𝓤 H A W (λ ρ. Unit {0}) S.the-row refl answer-row (λ x. x) (λ ρ told. whole-mem 𝓤 H A W S.the-row ρ)) refl
+        refl)
         (frees 5 S′.mir (room-whole 𝓤 H A W S.the-row S′.mir refl) (returned tt)))))))
 
     -- a turn: the index is lent, the next entry is read and stored
@@ -158,15 +160,17 @@ module _ (κs : Lfts 2) (qs : Shares 2) where
     turn =
         does (t-op2 𝓤 H A W E 𝓣 _ (lt unsigned) (oAt 8 word (valS (sInt w64))) (oAt 6 word (valS (sInt w64))) 13 (sc-here sBool) tyBool (valS sBool) (sBool .of)
         (num, refl) (num, refl) (room-gone 𝓤 H A tyBool) (holds-sc 𝓤 H A W sBool) refl (λ u. refl) (λ u. tt))
-        (part (test 13 (λ x. x) (reads-sc 𝓤 H A W sBool) refl (frees 13 tyBool (room-sc 𝓤 H A W sBool) (skips tt)) (frees 13 tyBool (room-sc 𝓤 H A W sBool) (exits 1 tt)))
+        (part (test 13 (λ x. x) (reads-sc 𝓤 H A W sBool) refl (frees 13 tyBool (room-sc 𝓤 H A W sBool) (skips tt))
+        (frees 13 tyBool (room-sc 𝓤 H A W sBool) (exits 1 tt)))
         (here Head (begins 3 _
         (does (t-arr-share 𝓤 H A W E 𝓣 half _ 4 14 16384 3 (shared cells) (λ x. x) (as-is 𝓤 H A cells-row) (room-gone 𝓤 H A (shared cells)) refl (λ b o. tt)
         (lit< tt, lit< tt))
-        (does (t-sl-aggregate 𝓤 H A W E half 𝓣 (asShr half) _ 14 15 3 (shared cells) shared-half (λ x. x) (oBig w64 16384) (as-is 𝓤 H A (ssptr half (shared cells) 3))
-        (room-gone 𝓤 H A (sliceTy shared-half)) (record { lower = record { fits = lit< tt } }) refl refl (λ b o k. tt))
+        (does (t-sl-aggregate 𝓤 H A W E half 𝓣 (asShr half) _ 14 15 3 (shared cells) shared-half (λ x. x) (oBig w64 16384)
+        (as-is 𝓤 H A (ssptr half (shared cells) 3)) (room-gone 𝓤 H A (sliceTy shared-half)) (record { lower = record { fits = lit< tt } }) refl refl
+        (λ b o k. tt))
         (does (t-call-plain 𝓤 H A W 𝓣 2 ea.ps ea.r ea-reads.Asked ea-reads.Learnt ea-def.name enters E (λ pos β. β) _
-        (record { pos = 2; ty = image-ref; ref = λ x. x }, (record { pos = 15; ty = shared-half; ref = λ x. x }, (vAt 3 (λ x. x), (vAt 7 (λ x. x), tt)))) 9 (1 ∷ 3 ∷ [])
-        (sub-id 𝓤 H A W _) (
+        (record { pos = 2; ty = image-ref; ref = λ x. x }, (record { pos = 15; ty = shared-half; ref = λ x. x }, (vAt 3 (λ x. x), (vAt 7 (λ x. x), tt))))
+        9 (1 ∷ 3 ∷ []) (sub-id 𝓤 H A W _) (
           spares-sslice 𝓤 H A W byte image-ref 1,
           reads-sslice 𝓤 H A W byte image-ref 1,
           refl,
@@ -178,14 +182,15 @@ module _ (κs : Lfts 2) (qs : Shares 2) where
         (reads-field 𝓤 H A W T.the-type T′.the-laws 0 word 0 refl, refl) gone (holds-sc 𝓤 H A W (sInt w64)) refl (λ u. refl) (λ u. tt))
         (does (t-op2 𝓤 H A W E 𝓣 _ (mul unsigned) (oAt 8 word (valS (sInt w64))) (oInt w64 72) 16 number word (valS (sInt w64)) (sInt w64 .of) (num, refl) tt
         (room-gone 𝓤 H A word) (holds-sc 𝓤 H A W (sInt w64)) refl (λ u. refl) (λ u. tt))
-        (does (t-op2 𝓤 H A W E 𝓣 _ offset (oFld 1 (field 0 ∷ []) list-ref 0 ptrVal) (oAt 16 word (valS (sInt w64))) 17 (sc-here sPtr) tyPtr (valS sPtr) (sPtr .of)
-        (reads-mslice-ptr 𝓤 H A W T.the-row list-ref 0 0 refl, refl) (num, refl) (room-gone 𝓤 H A tyPtr) (holds-sc 𝓤 H A W sPtr) refl (λ u. refl) (λ u. tt))
+        (does (t-op2 𝓤 H A W E 𝓣 _ offset (oFld 1 (field 0 ∷ []) list-ref 0 ptrVal) (oAt 16 word (valS (sInt w64))) 17 (sc-here sPtr) tyPtr (valS sPtr)
+        (sPtr .of) (reads-mslice-ptr 𝓤 H A W T.the-row list-ref 0 0 refl, refl) (num, refl) (room-gone 𝓤 H A tyPtr) (holds-sc 𝓤 H A W sPtr) refl (λ u. refl)
+        (λ u. tt))
         (does (t-sl-set-from 𝓤 H A W E T.the-row 𝓣 refl (λ ρ. Unit {0}) _ 1 17 9 0 list-ref (lease (κs .0) (qs .0)) T′.mir T′.mir entry-row (bySize 72)
         (λ u. u .1 .1 .1 .1 .1 .1 .1 .1 .0) (λ x. x) (λ x. x) (λ x. x) (λ x. x) (λ i o. at-mul o 72 i) refl refl (told-none 𝓤 H A _)
         (as-is 𝓤 H A (mslice T.the-row list-ref 0)) (as-is 𝓤 H A (sc-here sPtr)) stores refl tt refl refl)
         (frees 9 T′.mir (room-whole 𝓤 H A W T.the-row T′.mir refl) (frees 16 word gone (frees 17 tyPtr (room-sc 𝓤 H A W sPtr)
-        (last tt (t-op2 𝓤 H A W E 𝓣 Head (add unsigned) (oAt 8 word (valS (sInt w64))) (oInt w64 _) 8 number word (valS (sInt w64)) (sInt w64 .of) (num, refl) tt
-        gone (holds-sc 𝓤 H A W (sInt w64)) refl (λ u. refl) (λ u. tt)))))))))))))))))))))
+        (last tt (t-op2 𝓤 H A W E 𝓣 Head (add unsigned) (oAt 8 word (valS (sInt w64))) (oInt w64 _) 8 number word (valS (sInt w64)) (sInt w64 .of) (num, refl)
+        tt gone (holds-sc 𝓤 H A W (sInt w64)) refl (λ u. refl) (λ u. tt)))))))))))))))))))))
 
     -- the whole: the index is lent to be filled, the call is answered, and what the answer tells of is written
     abbrev start : Walk W 𝓣 E (Γin 2 ps r xs 2 κs qs) body.t-1 Δ
@@ -200,16 +205,16 @@ module _ (κs : Lfts 2) (qs : Shares 2) where
         (does (t-use 𝓤 H A W E 𝓣 _ (oFld 1 (field 1 ∷ []) word 8 lenV) 12 number word (valS (sInt w64)) (sInt w64 .of)
         (reads-mslice-len 𝓤 H A W T.the-row list-ref 0 8 refl, refl) (room-gone 𝓤 H A word) (holds-sc 𝓤 H A W (sInt w64)) refl (λ u. refl) (λ u. tt))
         (does (t-call-plain 𝓤 H A W 𝓣 2 an.ps an.r an-reads.Asked an-reads.Learnt an-def.name answers E (λ pos β. β) _
-        (record { pos = 2; ty = image-ref; ref = λ x. x }, (record { pos = 11; ty = half-ref; ref = λ x. x }, (vAt 3 (λ x. x), (vAt 12 (λ x. x), tt)))) 5 (1 ∷ 2 ∷ [])
-        (sub-id 𝓤 H A W _) (
+        (record { pos = 2; ty = image-ref; ref = λ x. x }, (record { pos = 11; ty = half-ref; ref = λ x. x }, (vAt 3 (λ x. x), (vAt 12 (λ x. x), tt))))
+        5 (1 ∷ 2 ∷ []) (sub-id 𝓤 H A W _) (
           spares-sslice 𝓤 H A W byte image-ref 1,
           reads-sslice 𝓤 H A W byte image-ref 1,
           refl,
           (as-is 𝓤 H A (mslice half half-ref 2), reads-mslice 𝓤 H A W half half-ref 2, refl, ((num, refl), ((num, refl), tt))),
         ) (room-gone 𝓤 H A S′.mir) (tt, (tt, tt)) refl)
         (frees 12 word gone (ended 2 refl
-        (aside (g-back-arr 𝓤 H A W E half _ 11 4 2 16384 half-ref (λ x. x) (λ x. x) (as-is 𝓤 H A (msleft half half-ref)) (as-is 𝓤 H A (arr-owed half 16384 2)) refl)
-        (forgets 2 refl (here Answered
+        (aside (g-back-arr 𝓤 H A W E half _ 11 4 2 16384 half-ref (λ x. x) (λ x. x) (as-is 𝓤 H A (msleft half half-ref))
+        (as-is 𝓤 H A (arr-owed half 16384 2)) refl) (forgets 2 refl (here Answered
         (does (t-call-plain 𝓤 H A W 𝓣 0 et.ps et.r et-reads.Asked et-reads.Learnt et-def.name tells E (λ pos β. β) _
         (record { pos = 5; st = []; d = 0; at = λ x. x }, tt) 6 [] (sub-id 𝓤 H A W _) ((copies, refl), tt) (room-gone 𝓤 H A word) tt refl)
         (does (t-use 𝓤 H A W E 𝓣 _ (oAt 3 word (valS (sInt w64))) 7 number word (valS (sInt w64)) (sInt w64 .of) (num, refl)
@@ -240,8 +245,9 @@ list-sections-spec {M} 𝓤 H 𝓜 𝓖 𝓡 =
     let 𝓣 = Over 𝓤 H 𝓜 𝓖 𝓡 code.env in
     let answers = an-reads.known w code.env an-def.name an-def.routine code.calls-sections·answers·sections-answer (an-thm.met 𝓤 H 𝓜 𝓖 𝓡) in
     let tells = et-reads.known w code.env et-def.name et-def.routine code.calls-sections·answers·answered-count (et-thm.met 𝓤 H 𝓜 𝓖 𝓡) in
-    let enters = ea-reads.known w code.env ea-def.name ea-def.routine code.calls-sections·zones·entry-after (ea-thm.met 𝓤 H 𝓜 𝓖 𝓡) in
-    written.close 2 ps r (Unit {0}) requires ensures pre-read (no-pin list.signature) (no-own (endedOf 2 ps r)) post-read w code.env #list-sections code.function
-    (code.unfolded 𝓤 H 𝓜 𝓡) (λ κs a g. tt) (λ κs. no-owns (endedOf 2 ps r) (stays ps) κs w) (λ κs a g z ws ft p q. top 𝓤 (R.all∗ w (pre-read κs a g .held w)))
+    let enters = ea-reads.known w code.env ea-def.name ea-def.routine code.calls-zone-sections·entry-after (ea-thm.met 𝓤 H 𝓜 𝓖 𝓡) in
+    written.close 2 ps r (Unit {0}) requires ensures pre-read (no-pin list.signature) (no-own (endedOf 2 ps r)) post-read w code.env #list-sections
+    code.function (code.unfolded 𝓤 H 𝓜 𝓡) (λ κs a g. tt) (λ κs. no-owns (endedOf 2 ps r) (stays ps) κs w)
+    (λ κs a g z ws ft p q. top 𝓤 (R.all∗ w (pre-read κs a g .held w)))
     (λ g. walked 2 ps r xs 2 hs body.t-1 (λ κs qs bs. start κs qs W 𝓣 answers tells enters bs) Pre Post
     (λ κs qs a good pre bs. goals κs qs W 𝓣 answers tells enters bs a good pre))

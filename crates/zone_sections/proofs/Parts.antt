@@ -26,7 +26,7 @@ use Rattle.index.specs.Index.{kind}
 use Rattle.index.proofs.Marking.{kind-role}
 use Rattle.types.specs.Given.{HasNumber}
 use Rattle.types.proofs.StoredNumbers.{rank-is, whole-wide, whole-four, has-pair, has-less}
-use Rattle.sections.specs.After.{AcceptedSection}
+use Rattle.zone_sections.specs.After.{AcceptedSection}
 
 -- past the last node is a node of nothing: it has no place and no width
 nodes-length : (n : ℕ) (s : List ℕ) → length (nodesOf n s) ≡ n
@@ -93,9 +93,11 @@ module _ {b : List ℕ} {s : ℕ} (a : AcceptedSection b s) where
   pub own-has : HasNumber b s 0
   unfolding sidsRules typeLawful row
   own-has =
-      let r : (typed (treeOf b) s (I4 ∷ []) && shaped (treeOf b) s (2 ∷ [])) ≡ true = rw (role-is in-zone) at (sids-rule b (a .accepted .image) 24 s (a .inside) (parts in-zone .is-validated)) in
+      let r : (typed (treeOf b) s (I4 ∷ []) && shaped (treeOf b) s (2 ∷ [])) ≡ true
+      = rw (role-is in-zone) at (sids-rule b (a .accepted .image) 24 s (a .inside) (parts in-zone .is-validated)) in
       has-less b s 1 0
-      (has-pair b (a .accepted .sound) s (a .inside) (whole-four (treeOf b) s (and-first (typed (treeOf b) s (I4 ∷ [])) _ r)) (and-second (typed (treeOf b) s (I4 ∷ [])) _ r))
+      (has-pair b (a .accepted .sound) s (a .inside) (whole-four (treeOf b) s (and-first (typed (treeOf b) s (I4 ∷ [])) _ r))
+      (and-second (typed (treeOf b) s (I4 ∷ [])) _ r))
       (omega arith)
 
   -- the two numbers of its range
@@ -104,7 +106,8 @@ module _ {b : List ℕ} {s : ℕ} (a : AcceptedSection b s) where
   range-has =
       let j = conforming (treeOf b) s IndexRange (text "ElementRange") in
       let h = range-found in-zone in
-      let r : (typed (treeOf b) j (I4 ∷ I8 ∷ []) && shaped (treeOf b) j (2 ∷ [])) ≡ true = rw (conforming-role (treeOf b) s IndexRange (text "ElementRange") h) at (conforming-type (treeOf b) s IndexRange (text "ElementRange") h) in
+      let r : (typed (treeOf b) j (I4 ∷ I8 ∷ []) && shaped (treeOf b) j (2 ∷ [])) ≡ true
+      = rw (conforming-role (treeOf b) s IndexRange (text "ElementRange") h) at (conforming-type (treeOf b) s IndexRange (text "ElementRange") h) in
       has-pair b (a .accepted .sound) j (conforming-inside (treeOf b) s IndexRange (text "ElementRange") h)
       (whole-wide (treeOf b) j (and-first (typed (treeOf b) j (I4 ∷ I8 ∷ [])) _ r))
       (and-second (typed (treeOf b) j (I4 ∷ I8 ∷ [])) _ r)
