@@ -1,15 +1,15 @@
 -- The nodes of a section of an accepted image: what was looked up conforms, and its numbers can be read.
-use Prim.Native.Nat.{ℕ, zero, suc, _+_, _≤_, _<_}
-use mathlib.Core.Path.{_≡_, refl, sym, ap, _∙_}
+use Prim.Native.Nat.{ℕ, _+_, _≤_, _<_}
+use mathlib.Core.Path.{_≡_, refl, sym, _∙_}
 use mathlib.Core.Bool.{true, false, _&&_}
 use mathlib.Core.List.{List, [], _∷_}
 use native.Mathlib.Omega.{arith}
-use lib.ListN.{length, drop, List·getD-eq-default}
+use lib.ListN.{length}
 use lib.Dec.{eqb}
 use borrow.Author.Tests.{lt-ltb, le-ltb, eqb-true, eq-eqb}
 use Rattle.model.specs.Lists.{row}
-use Rattle.model.specs.Bytes.{text, spells, placeFrom}
-use Rattle.model.specs.Image.{treeOf, nodeCount, parent, node, nodeOf, nodesOf, wordCount, dimensions, dataTypes, dataType, width, widths, number, I4, I8}
+use Rattle.model.specs.Bytes.{text}
+use Rattle.model.specs.Image.{treeOf, nodeCount, parent, node, wordCount, dimensions, width, number, I4, I8}
 use Rattle.model.specs.Containment.{role, sectionOf, child, found, Root, Elements, IndexRange, DataArray, UserDefinedData}
 use Rattle.model.specs.Values.{sidsRules, typed, shaped, flat, size, indexArray, typeLawful, conforming, rangeOf, offsetsOf, connectivityOf}
 use Rattle.model.specs.Elements.{elementType, firstElement, lastElement, connectivityLength}
@@ -28,16 +28,7 @@ use Rattle.types.specs.Given.{HasNumber}
 use Rattle.types.proofs.StoredNumbers.{rank-is, whole-wide, whole-four, has-pair, has-less}
 use Rattle.zone_sections.specs.After.{AcceptedSection}
 
--- past the last node is a node of nothing: it has no place and no width
-nodes-length : (n : ℕ) (s : List ℕ) → length (nodesOf n s) ≡ n
-unfolding nodesOf
-nodes-length zero s = refl
-nodes-length (suc n) s = ap suc (nodes-length n (drop 84 s))
-
-pub absent-width : (b : List ℕ) (j : ℕ) → nodeCount b ≤ j → 0 ≡ width (treeOf b) j
-unfolding width dataType node treeOf nodeOf placeFrom dataTypes text spells widths
-absent-width b j h = rw (List·getD-eq-default (nodesOf (nodeCount b) (drop 32 b)) (nodeOf []) {n = j} (omega (arith, nodes-length (nodeCount b) (drop 32 b))))
-
+-- a node that is missing has no place
 pub absent-start : (b : List ℕ) (j : ℕ) → nodeCount b ≤ j → 0 ≡ dataStart (treeOf b) j
 unfolding dataStart found treeOf
 absent-start b j h = rw (le-ltb j (nodeCount b) h)
