@@ -9,17 +9,11 @@ use Rattle.model.specs.declared.Rejection.{Rejection}
 use Rattle.model.specs.Lists.{over}
 use Rattle.model.specs.Rules.{rejected, answer, rejection, passed, check, _then_, _into_, leaves}
 use Rattle.model.specs.Image.{treeOf}
-use Rattle.model.specs.Given.{Accepted}
 use Rattle.model.specs.Containment.{isZone}
 use Rattle.model.specs.FaceUsage.{faceCount, usage, usageBytes, usageCheck, usageAnswer, usageMemory}
 use Rattle.model.specs.Validation.{imageCheck}
-use Rattle.model.proofs.Accepted.{table-passed}
-use Rattle.model.proofs.Bounds.{sound}
 use Rattle.model.proofs.Passed.{then-on, then-off}
 use Rattle.model.proofs.Staging.{broken, kept}
-
-pub accepted-by : (b : List ℕ) → imageCheck b ≡ passed → Accepted b
-accepted-by b e = record { sound = sound b (table-passed b e); image = e }
 
 no-rules : check 0 [] ≡ passed
 unfolding check

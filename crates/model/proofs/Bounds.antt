@@ -10,11 +10,12 @@ use Rattle.model.specs.Rules.{passed}
 use Rattle.model.specs.Image.{nodeCount, recordOffset, dimensionOffset, wordCount, dataOffset, treeOf, node}
 use Rattle.model.specs.Header.{headerCheck, headerRules, lengthLawful, nodeCountLawful, laidOut}
 use Rattle.model.specs.Bounds.{Laid, Placed}
-use Rattle.model.specs.Given.{Sound}
+use Rattle.model.specs.Given.{Sound, Accepted}
 use Rattle.model.specs.Records.{tableCheck, recordRules, wordsLawful, dataAtLawful, wordsBefore, bytesBefore}
 use Rattle.model.proofs.Logic.{and-first, and-second}
 use Rattle.model.proofs.Passed.{Hold, check-pass}
-use Rattle.model.proofs.Accepted.{header-holds, record-holds}
+use Rattle.model.specs.Validation.{imageCheck}
+use Rattle.model.proofs.Accepted.{header-holds, record-holds, table-passed}
 
 laid-by : (b : List ℕ) → Hold (headerRules b) → Laid b
 unfolding headerRules lengthLawful nodeCountLawful laidOut
@@ -67,3 +68,7 @@ node-placed b e i l =
 -- rules 1 to 18 hold, with their bounds
 pub sound : (b : List ℕ) → tableCheck b ≡ passed → Sound b
 sound b e = record { laid = table-laid b e; table = e }
+
+-- an image that passed
+pub accepted-image : (b : List ℕ) → imageCheck b ≡ passed → Accepted b
+accepted-image b e = record { sound = sound b (table-passed b e); image = e }

@@ -1,18 +1,17 @@
 -- A section of an accepted image: what its rules say of its range, its start offsets and its connectivity. Each element starts before the next one,
 -- and the last one ends where the connectivity does.
-use Prim.Native.Nat.{ℕ, zero, suc, _+_, _*_, _-_, _≤_, _<_}
-use mathlib.Core.Path.{_≡_, refl, sym, ap, _∙_}
+use Prim.Native.Nat.{ℕ, suc, _+_, _*_, _-_, _≤_, _<_}
+use mathlib.Core.Path.{_≡_, refl, sym, _∙_}
 use mathlib.Core.Bool.{Bool, true, false, _&&_}
 use mathlib.Core.List.{List, [], _∷_}
 use native.Mathlib.Omega.{arith}
 use native.Mathlib.Nat.{suc-mul, mul-le-mul-right}
-use lib.ListN.{length, drop, List·getD-eq-default}
 use lib.Dec.{leb, ltb}
 use borrow.Author.Tests.{eqb-true, leb-true, ltb-true, ltb-false}
 use Rattle.model.specs.Lists.{row}
-use Rattle.model.specs.Bytes.{le, numbers, text, spells, half, below}
+use Rattle.model.specs.Bytes.{numbers, text, spells, half, below}
 use Rattle.model.specs.Rules.{passed}
-use Rattle.model.specs.Image.{Tree, treeOf, nodeCount, nodeOf, nodesOf, node, name, dimensions, width, number, I4, I8}
+use Rattle.model.specs.Image.{Tree, treeOf, nodeCount, node, name, width, number, I4, I8}
 use Rattle.model.specs.Containment.{role, Elements, IndexRange, DataArray, sectionOf, found}
 use Rattle.model.specs.Values.{sidsRules, size, typed, indexArray, complete, rangeValue, valueLawful, conforming, rangeOf, offsetsOf, connectivityOf}
 use Rattle.model.specs.Elements.{nodesPer, hasOffsets, taken, elementType, firstElement, lastElement, elementCount, startOffset, connectivityLength}
@@ -25,16 +24,7 @@ use Rattle.model.proofs.Accepted.{table-passed, sids-rule, element-rule
 use Rattle.model.proofs.Conforming.{IsSection, section-is, conforming-inside, conforming-value, conforming-role, conforming-name}
 use Rattle.model.proofs.TwosComplement.{rise-small, rise-next, rise-last}
 use Rattle.model.proofs.Arrays.{Indices, indices, index-array}
-
--- past the last node is a node of nothing
-nodes-length : (n : ℕ) (s : List ℕ) → length (nodesOf n s) ≡ n
-unfolding nodesOf
-nodes-length zero s = refl
-nodes-length (suc n) s = ap suc (nodes-length n (drop 84 s))
-
-absent-size : (b : List ℕ) (j : ℕ) → nodeCount b ≤ j → size (treeOf b) j ≡ 0
-unfolding size dimensions node treeOf numbers nodeOf le
-absent-size b j h = rw (List·getD-eq-default (nodesOf (nodeCount b) (drop 32 b)) (nodeOf []) {n = j} (omega (arith, nodes-length (nodeCount b) (drop 32 b))))
+use Rattle.model.proofs.Absent.{absent-size}
 
 -- a node of some numbers is there
 sized-found : (b : List ℕ) (j : ℕ) → 0 < size (treeOf b) j → found (treeOf b) j ≡ true

@@ -4,6 +4,7 @@ pub mod Walks
 pub mod Passed
 pub mod Accepted
 pub mod Bounds
+pub mod Absent
 pub mod Conforming
 pub mod Counting
 pub mod Uses

@@ -4,7 +4,7 @@ use mathlib.Core.Path.{_≡_, refl, sym, _∙_}
 use mathlib.Core.Bool.{true}
 use mathlib.Core.List.{List, []}
 use native.Mathlib.Omega.{arith}
-use lib.ListN.{length, take}
+use lib.ListN.{length}
 use borrow.Author.Tests.{leb-true}
 use Rattle.model.specs.declared.Section.{Section}
 use Rattle.model.specs.declared.Rejection.{Rejection}
@@ -19,16 +19,11 @@ use Rattle.model.specs.Validation.{imageCheck}
 use Rattle.model.specs.Sections.{sectionNodes, entries, sectionEntries, sectionsCheck, sectionsAnswer, sectionsMemory}
 use Rattle.model.specs.Answers.{countTells}
 use Rattle.model.proofs.Passed.{refused, check-pass, then-first, then-second, gives-check, gives-value}
-use Rattle.model.proofs.Accepted.{table-passed}
-use Rattle.model.proofs.Bounds.{sound}
+use Rattle.model.proofs.Bounds.{accepted-image}
 use Rattle.model.proofs.Sections.{zone-is}
 use Rattle.index.specs.Index.{Index}
-use Rattle.sections.specs.After.{EntriesDue, answeredCount}
+use Rattle.sections.specs.Due.{EntriesDue, answeredCount}
 use Rattle.sections.proofs.Filling.{Filled, all-taken}
-
--- an image that passed
-pub accepted : (b : List ℕ) → imageCheck b ≡ passed → Accepted b
-accepted b e = record { sound = sound b (table-passed b e); image = e }
 
 -- the check passed
 module _ (b : List ℕ) (z room : ℕ) (p : sectionsCheck b z room ≡ passed) where
@@ -58,7 +53,7 @@ counts b z room e =
     let p = gives-check (sectionsCheck b z room) (length (sectionNodes (treeOf b) z)) (sym e) in
     let v = gives-value (sectionsCheck b z room) (length (sectionNodes (treeOf b) z)) (sym e) in
     record {
-      is-accepted = accepted b (image-passed b z room p);
+      is-accepted = accepted-image b (image-passed b z room p);
       zone-inside = zone-is b z (zone-passed b z room p) .inside;
       all = sym v;
       fits = omega (arith, room-passed b z room p);
@@ -105,8 +100,8 @@ unfolding over entries
 nothing-written b out = refl
 
 -- with all entries written that the answer tells of
-pub answered-memory : {b : List ℕ} {z n at i : ℕ} {out ws : List Section} → Filled b z n out ws at i → n ≤ i → (r : Count) → countTells r ≡ sectionsAnswer b z (length out)
-    → n ≡ answeredCount r → ws ≡ sectionsMemory b z out
+pub answered-memory : {b : List ℕ} {z n at i : ℕ} {out ws : List Section} → Filled b z n out ws at i → n ≤ i
+    → (r : Count) → countTells r ≡ sectionsAnswer b z (length out) → n ≡ answeredCount r → ws ≡ sectionsMemory b z out
 unfolding sectionsMemory
 answered-memory {b} {z} {n} {at} {i} {out} f h (Count.Of m) e g =
     let c = counts b z (length out) e in

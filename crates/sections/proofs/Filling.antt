@@ -13,8 +13,9 @@ use Rattle.model.specs.Image.{Tree, treeOf, nodeCount}
 use Rattle.model.specs.Given.{Sound, Accepted}
 use Rattle.model.specs.Sections.{sectionNodes, entry, entries, sectionEntries, entryNumbers, allNumbers}
 use Rattle.model.proofs.Flat.{numbers-length, entries-length}
-use Rattle.sections.specs.After.{sectionsAfter, Onward, EntriesDue}
-use Rattle.sections.proofs.After.{next-is, next-section, after-next, all-after}
+use Rattle.zone_sections.specs.After.{sectionsAfter, Onward}
+use Rattle.sections.specs.Due.{EntriesDue}
+use Rattle.zone_sections.proofs.After.{next-is, next-section, after-next, all-after}
 
 module _ {A : Type 0} where
   pub over-length : (out new : List A) → length new ≤ length out → length (over out new) ≡ length out
@@ -36,7 +37,12 @@ entries-append t (x ∷ xs) ys = ap (λ (r : List Section). entry t x ∷ r) (en
 numbers-append : (es fs : List Section) → allNumbers (es ++ fs) ≡ allNumbers es ++ allNumbers fs
 unfolding allNumbers
 numbers-append [] fs = refl
-numbers-append (e ∷ es) fs = ap (λ (r : List ℕ). entryNumbers e ++ r) (numbers-append es fs) ∙ sym (append-assoc (entryNumbers e) (allNumbers es) (allNumbers fs))
+numbers-append (e ∷ es) fs =
+    ap (λ (r : List ℕ). entryNumbers e ++ r) (numbers-append es fs) ∙ sym (append-assoc (entryNumbers e) (allNumbers es) (allNumbers fs))
+
+-- the entries of the zone's first n sections
+abbrev pub firstEntries : Tree → ℕ → ℕ → List Section
+firstEntries t z n = entries t (take n (sectionNodes t z))
 
 -- the entries of the first k of some nodes
 module _ (t : Tree) (ns : List ℕ) (k : ℕ) (h : k < length ns) where
@@ -57,8 +63,8 @@ module _ (t : Tree) (ns : List ℕ) (k : ℕ) (h : k < length ns) where
   unfolding allNumbers entryNumbers
   one-more = ap allNumbers one-entry ∙ numbers-append (entries t (take k ns)) (entry t (getD ns k 0) ∷ [])
 
-  pub store-numbers : (out ws : List ℕ) (e : Section) → ws ≡ over out (allNumbers (entries t (take k ns))) → e ≡ entry t (getD ns k 0) → 9 * length ns ≤ length out
-      → sets ws (9 * k) (entryNumbers e) ≡ over out (allNumbers (entries t (take (k + 1) ns)))
+  pub store-numbers : (out ws : List ℕ) (e : Section) → ws ≡ over out (allNumbers (entries t (take k ns))) → e ≡ entry t (getD ns k 0)
+      → 9 * length ns ≤ length out → sets ws (9 * k) (entryNumbers e) ≡ over out (allNumbers (entries t (take (k + 1) ns)))
   unfolding entryNumbers
   store-numbers out ws e f g l =
       let n : length (allNumbers (entries t (take k ns))) ≡ 9 * k = numbers-length (entries t (take k ns)) ∙ ap (λ (m : ℕ). 9 * m) taken-length in
@@ -79,7 +85,8 @@ module _ {b : List ℕ} {z i k : ℕ} (v : Visited b z i k) (h : k < length (sec
 
   pub next-entry : {e : Section} → e ≡ entry (treeOf b) (getD (sectionsAfter (treeOf b) z i) 0 0) → e ≡ entry (treeOf b) (getD (sectionNodes (treeOf b) z) k 0)
   next-entry q =
-      let g = ap (λ (l : List ℕ). getD l 0 0) (v .rest) ∙ getD-drop k (sectionNodes (treeOf b) z) 0 0 ∙ ap (λ (m : ℕ). getD (sectionNodes (treeOf b) z) m 0) (add-zero k) in
+      let ns = sectionNodes (treeOf b) z in
+      let g = ap (λ (l : List ℕ). getD l 0 0) (v .rest) ∙ getD-drop k ns 0 0 ∙ ap (λ (m : ℕ). getD ns m 0) (add-zero k) in
       q ∙ ap (entry (treeOf b)) g
 
   pub one-visited : Accepted b → {e : Section} → e ≡ entry (treeOf b) (getD (sectionsAfter (treeOf b) z i) 0 0) → Visited b z (e .node) (k + 1)
@@ -95,7 +102,7 @@ module _ {b : List ℕ} {z i k : ℕ} (v : Visited b z i k) (h : k < length (sec
 -- i of the n entries that are due are stored in out, the last at node at
 pub record Filled (b : List ℕ) (z n : ℕ) (out ws : List Section) (at i : ℕ) : Type 0 where
   pub few : i ≤ n
-  pub stored : ws ≡ over out (entries (treeOf b) (take i (sectionNodes (treeOf b) z)))
+  pub stored : ws ≡ over out (firstEntries (treeOf b) z i)
   pub same : length ws ≡ length out
   pub visited : 0 < n → Visited b z at i
 
@@ -120,7 +127,8 @@ module _ {b index : List ℕ} {z n at i : ℕ} {out ws : List Section} (d : Entr
       let v = f .visited some in
       record {
         few = omega arith;
-        stored = store-entry (treeOf b) (sectionNodes (treeOf b) z) i inside out ws e (f .stored) (next-entry v inside q) (omega (arith, d .few, d .all-where some));
+        stored = store-entry (treeOf b) (sectionNodes (treeOf b) z) i inside out ws e (f .stored) (next-entry v inside q)
+            (omega (arith, d .few, d .all-where some));
         same = length-set ws i e ∙ f .same;
         visited = λ l. one-visited v inside (d .accepted-where some) q;
       }

@@ -12,7 +12,7 @@ use Rattle.model.specs.Containment.{isZone}
 use Rattle.model.specs.Validation.{imageCheck}
 use Rattle.model.specs.Sections.{sectionNodes, sectionsCheck, sectionsAnswer}
 use Rattle.model.proofs.Passed.{then-on, then-off}
-use Rattle.sections.specs.After.{zoneCheck}
+use Rattle.sections.specs.Due.{zoneCheck}
 
 module _ (t : Tree) (z room : ℕ) where
   pub no-zone : isZone t z ≡ false → zoneCheck t z room ≡ rejected (rejection 40 0)

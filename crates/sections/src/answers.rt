@@ -8,11 +8,11 @@ ghost use Rattle.model.specs.Sections.{sectionNodes, sectionsAnswer};
 ghost use Rattle.model.specs.Answers.{countTells, stageTells};
 ghost use Rattle.model.specs.Validation.{imageCheck};
 ghost use Rattle.index.specs.Index.{Index};
-ghost use Rattle.sections.specs.After.{zoneCheck, answeredCount};
-use super::zones::section_count;
+ghost use Rattle.sections.specs.Due.{zoneCheck, answeredCount};
 use model::Count;
 use model::Rejection;
 use model::Stage;
+use zone_sections::section_count;
 
 // Rule 40, then 46 where the zone has more than `room` sections, else the count of its sections.
 fn zone_answer(image: &[u8], index: &[u16], zone: u64, room: usize) -> Count

@@ -11,10 +11,10 @@ ghost use Rattle.index.specs.Index.{Index};
 ghost use Rattle.model.specs.Sections.{sectionNodes, sectionEntries, allNumbers, sectionsAnswer, sectionNumbersMemory};
 ghost use Rattle.model.specs.Answers.{countTells};
 use super::answers::sections_answer;
-use super::zones::entry_after;
 use entries::ENTRY_LENGTH;
 use entries::put_entry;
 use model::Count;
+use zone_sections::entry_after;
 
 // Writes the entries of the zone's n sections to the front of `out`, in node order; the rest stays.
 fn fill(image: &[u8], index: &[u16], zone: u64, n: usize, out: &mut [u64])
@@ -48,7 +48,8 @@ fn write_entries(answer: Count, image: &[u8], index: &[u16], zone: u64, out: &mu
 // The section entries of a zone as flat numbers: validation's rejection first, then rule 40, then 46; nine numbers an entry are written to the front
 // of `out` in node order, the count of entries is answered, and the rest of `out` stays. A rejection leaves `out` as it was.
 pub fn section_entries(image: &[u8], zone: u64, out: &mut [u64]) -> Count
-    ensures { λ r. ⌜ (countTells r ≡ sectionsAnswer (now (image .entry)) zone (length (now (out .entry)) / 9)) × (now (out .exit) ≡ sectionNumbersMemory (now (image .entry)) zone (now (out .entry))) ⌝ }
+    ensures { λ r. ⌜ (countTells r ≡ sectionsAnswer (now (image .entry)) zone (length (now (out .entry)) / 9))
+        × (now (out .exit) ≡ sectionNumbersMemory (now (image .entry)) zone (now (out .entry))) ⌝ }
 {
     let mut index: [u16; 16384] = [0; 16384];
     let answer = sections_answer(image, &mut index, zone, out.len() / ENTRY_LENGTH);

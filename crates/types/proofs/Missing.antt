@@ -1,21 +1,17 @@
 -- A node past the last: no data, no number. A child that does not conform is missing.
-use Prim.Native.Nat.{ℕ, zero, suc, _≤_}
-use mathlib.Core.Path.{_≡_, refl, sym, ap}
+use Prim.Native.Nat.{ℕ, suc, _≤_}
+use mathlib.Core.Path.{_≡_, refl, sym}
 use mathlib.Core.Bool.{Bool, true, false}
 use mathlib.Core.List.{List, [], _∷_}
 use native.Mathlib.Omega.{arith}
-use lib.ListN.{length, drop, List·getD-eq-default}
+use lib.ListN.{length}
 use lib.Dec.{eqb}
 use borrow.Author.Tests.{ne-eqb}
 use Rattle.model.specs.Bytes.{le, same, spells, text, placeFrom}
-use Rattle.model.specs.Image.{Tree, nodeOf, nodesOf, node, treeOf, nodeCount, stored, dataType, dataTypes, width, widths, number}
+use Rattle.model.specs.Image.{Tree, nodeOf, node, treeOf, nodeCount, stored, dataType, dataTypes, width, widths, number}
 use Rattle.model.specs.Containment.{orMissing}
 use Rattle.model.specs.Values.{reads}
-
-nodes-length : (n : ℕ) (s : List ℕ) → length (nodesOf n s) ≡ n
-unfolding nodesOf
-nodes-length zero s = refl
-nodes-length (suc n) s = ap suc (nodes-length n (drop 84 s))
+use Rattle.model.proofs.Absent.{node-past}
 
 empty : (u : List ℕ) → same [] u ≡ eqb (length u) 0
 unfolding same
@@ -23,17 +19,13 @@ empty [] = refl
 empty (x ∷ u) = sym (ne-eqb (suc (length u)) 0 (λ (e : suc (length u) ≡ 0). absurd (omega arith)))
 
 module _ (b : List ℕ) (i : ℕ) (h : nodeCount b ≤ i) where
-  node-past : node (treeOf b) i ≡ nodeOf []
-  unfolding node treeOf
-  node-past = List·getD-eq-default (nodesOf (nodeCount b) (drop 32 b)) (nodeOf []) (rw (nodes-length (nodeCount b) (drop 32 b)) h)
-
   pub reads-past : (u : List ℕ) → reads (treeOf b) i u ≡ eqb (length u) 0
   unfolding reads stored nodeOf le
-  reads-past u = rw node-past (empty u)
+  reads-past u = rw (node-past b i h) (empty u)
 
   pub number-past : (k : ℕ) → number (treeOf b) i k ≡ 0
   unfolding number width widths dataType dataTypes placeFrom spells text nodeOf le
-  number-past k = rw node-past
+  number-past k = rw (node-past b i h)
 
 -- the search found nothing
 pub missing-none : (t : Tree) (c : Bool) (j : ℕ) → j ≡ t .count → t .count ≡ orMissing t c j

@@ -9,8 +9,6 @@ use lib.Dec.{eqb, ltb}
 use borrow.Author.Tests.{ltb-true}
 use lib.ListN.{getD, take}
 use Rattle.model.proofs.Logic.{and-first, and-second}
-use Rattle.model.proofs.Bounds.{sound}
-use Rattle.model.proofs.Accepted.{table-passed}
 use Rattle.model.specs.Lists.{countFrom}
 use Rattle.model.specs.declared.Rejection.{Rejection}
 use Rattle.model.specs.Rules.{Check, answer, rejected, rejection, _gives_, passed, check, checkFrom, _then_}
@@ -20,7 +18,6 @@ use Rattle.model.specs.Values.{sidsRules, sizedArray, dataSizes, dataSize, inde
 use Rattle.sids.specs.Sizes.{direction, directions}
 use Rattle.sids.proofs.Zones.{data-sizes-are}
 use Rattle.model.specs.DataSize.{isSizedArray, sizesOf, dataSizeAnswer}
-use Rattle.model.specs.Given.{Accepted}
 use Rattle.model.specs.Elements.{elementRules}
 use Rattle.model.specs.Validation.{nodeRules, nodeCheckAt, nodeCheck, imageCheck, counts}
 use Rattle.model.proofs.Walks.{countFrom-step, countFrom-end, count-both}
@@ -98,9 +95,6 @@ unfolding counts skipped
 counts-are t n v k z s en ev ek ez es =
     let w : k ≡ countFrom (skipped t) n 0 = omega (arith, count-both (validated t) (skipped t) n 0 (λ j. refl)) in
     rw (w, ev, ez, es, en)
-
-pub accepted-image : (b : List ℕ) → imageCheck b ≡ passed → Accepted b
-accepted-image b e = record { sound = sound b (table-passed b e); image = e }
 
 -- the data size call: the verdict's refusal, 40, or the sizes
 module _ (b : List ℕ) (i : ℕ) where

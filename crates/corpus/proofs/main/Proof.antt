@@ -1,3 +1,4 @@
+-- The turns left fall at each turn.
 use borrow.Author.Needs.{needs}
 use Rattle.corpus.proofs.main.Statement.{statement}
 use Rattle.corpus.proofs.main.Tie as tie

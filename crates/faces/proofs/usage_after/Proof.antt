@@ -4,7 +4,8 @@ use borrow.Author.Needs.{needs}
 use borrow.Author.Tests.{not-true, not-false}
 use Rattle.model.specs.Rules.{rejected}
 use Rattle.model.proofs.Staging.{passes, rejects}
-use Rattle.faces.proofs.Checks.{accepted-by, usage-refused, not-accepted, no-zone}
+use Rattle.model.proofs.Bounds.{accepted-image}
+use Rattle.faces.proofs.Checks.{usage-refused, not-accepted, no-zone}
 use Rattle.faces.proofs.usage_after.Statement.{statement}
 use Rattle.faces.proofs.usage_after.Tie as tie
 
@@ -31,7 +32,7 @@ zone-usage-requires c κs =
     let i = c .before .before .before .before .before in
     let p = c .before .before .before .before .before .before .before .before .before .before .before .before .before .before .pre in
     let e = passes (p .0 .0) (i .before .enum-told .given .1) in
-    (((accepted-by _ e, p .0 .1 (p .0 .0 ∙ e)), sym (i .is-zone .ensures) ∙ not-false _ (c .before .before .before .before .if1 .left)), p .1)
+    (((accepted-image _ e, p .0 .1 (p .0 .0 ∙ e)), sym (i .is-zone .ensures) ∙ not-false _ (c .before .before .before .before .if1 .left)), p .1)
 
 pub usage-after-spec : {M : Type 1} → statement M
 usage-after-spec = tie.close (tie.spec (search needs) (search needs) (search needs) returns is-zone-requires (search needs) returns-2 zone-usage-requires

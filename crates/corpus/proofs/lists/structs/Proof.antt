@@ -1,3 +1,4 @@
+-- The structs left fall at each turn.
 use Prim.Native.Nat.{_-_}
 use borrow.Author.Needs.{needs}
 use Rattle.corpus.proofs.lists.structs.Statement.{statement}

@@ -1,3 +1,4 @@
+-- A float of a value is no NaN: a NaN has a case of its own.
 use borrow.Author.Needs.{needs}
 use Rattle.corpus.proofs.Laws.{single-no-nan, double-no-nan}
 use Rattle.corpus.proofs.print.value.Statement.{statement}

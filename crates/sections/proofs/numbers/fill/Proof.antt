@@ -5,8 +5,7 @@ use lib.ListN.{length}
 use Rattle.model.specs.Lists.{over}
 use Rattle.model.specs.Image.{treeOf}
 use Rattle.model.specs.Sections.{sectionNodes, entries, allNumbers}
-use Rattle.sections.specs.After.{firstEntries}
-use Rattle.sections.proofs.Filling.{Visited, none-visited, some-left, next-entry, one-visited, store-numbers, all-taken}
+use Rattle.sections.proofs.Filling.{firstEntries, Visited, none-visited, some-left, next-entry, one-visited, store-numbers, all-taken}
 use native.Mathlib.Omega.{arith}
 use borrow.Author.Needs.{needs}
 use Rattle.sections.proofs.numbers.fill.Statement.{statement}

@@ -4,7 +4,8 @@ use borrow.Author.Needs.{needs}
 use borrow.Author.Tests.{not-true, not-false}
 use Rattle.model.specs.Answers.{stageTells}
 use Rattle.model.proofs.Staging.{passes, rejects}
-use Rattle.validation.proofs.Laws.{size-refused, no-array, array-answered, accepted-image, sized-parts}
+use Rattle.model.proofs.Bounds.{accepted-image}
+use Rattle.validation.proofs.Laws.{size-refused, no-array, array-answered, sized-parts}
 use Rattle.validation.proofs.sizes.data_size.Statement.{statement}
 use Rattle.validation.proofs.sizes.data_size.Tie as tie
 

@@ -1,8 +1,8 @@
 -- The three children are where the index has them; an accepted image has them conforming, so that their numbers are the entry's.
-use Rattle.sections.proofs.Parts.{section-kind, own-has, first-has, last-has, found-inside, found-flat, entry-made}
+use Rattle.zone_sections.proofs.Parts.{section-kind, own-has, first-has, last-has, found-inside, found-flat, entry-made}
 use borrow.Author.Needs.{needs}
-use Rattle.sections.proofs.entry.entry_of.Statement.{statement}
-use Rattle.sections.proofs.entry.entry_of.Tie as tie
+use Rattle.zone_sections.proofs.entry.entry_of.Statement.{statement}
+use Rattle.zone_sections.proofs.entry.entry_of.Tie as tie
 
 range-requires : tie.Need-range-requires
 range-requires c κs = let p = c .before .before .pre in ((p .1, p .0 .inside), section-kind (p .0))

@@ -15,10 +15,11 @@ use Rattle.model.specs.Given.{Sound, Accepted}
 use Rattle.model.specs.Sections.{sectionNodes}
 use Rattle.model.proofs.Logic.{and-second}
 use Rattle.model.proofs.Walks.{seek-holds}
+use Rattle.model.proofs.Loops.{list-skip}
 use Rattle.model.proofs.Children.{no-child}
 use Rattle.model.proofs.Members.{list-length}
-use Rattle.sections.specs.After.{sectionsAfter, AcceptedSection}
-use Rattle.sections.proofs.Walk.{list-skip, list-found, list-none, Counted}
+use Rattle.zone_sections.specs.After.{sectionsAfter, AcceptedSection}
+use Rattle.zone_sections.proofs.Walk.{list-found, list-none, Counted}
 
 -- a zone's sections have higher numbers than the zone
 module _ (b : List ℕ) (s : Sound b) (z : ℕ) (h : z < nodeCount b) where
@@ -38,7 +39,8 @@ module _ (b : List ℕ) (s : Sound b) (z : ℕ) (h : z < nodeCount b) where
   unfolding sectionsAfter treeOf
   none-counted =
       let k = nodeCount b - (z + 1) in
-      let l : countFrom (sectionOf (treeOf b) z) k (z + 1) ≡ length (sectionNodes (treeOf b) z) = sym (list-length (sectionOf (treeOf b) z) k (z + 1)) ∙ ap length all-after in
+      let l : countFrom (sectionOf (treeOf b) z) k (z + 1) ≡ length (sectionNodes (treeOf b) z)
+      = sym (list-length (sectionOf (treeOf b) z) k (z + 1)) ∙ ap length all-after in
       record { inside = omega arith; few = omega arith; rest = omega (arith, l) }
 
 -- the next section after node i, where there is one

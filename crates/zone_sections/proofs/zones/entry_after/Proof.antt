@@ -2,9 +2,9 @@
 use mathlib.Core.Path.{ap, _∙_}
 use Rattle.model.specs.Image.{treeOf}
 use Rattle.model.specs.Sections.{entry}
-use Rattle.sections.proofs.After.{next-is, next-section}
-use Rattle.sections.proofs.zones.entry_after.Statement.{statement}
-use Rattle.sections.proofs.zones.entry_after.Tie as tie
+use Rattle.zone_sections.proofs.After.{next-is, next-section}
+use Rattle.zone_sections.proofs.zones.entry_after.Statement.{statement}
+use Rattle.zone_sections.proofs.zones.entry_after.Tie as tie
 
 section-after-requires : tie.Need-section-after-requires
 section-after-requires c κs = let p = c .before .before .pre in (p .indexed, p .inside)

@@ -6,7 +6,7 @@ ghost use Rattle.model.specs.Values.{flat, size};
 ghost use Rattle.model.specs.Given.{Sound};
 ghost use Rattle.index.specs.Index.{Index};
 ghost use Rattle.model.specs.Sections.{dataStart, entry};
-ghost use Rattle.sections.specs.After.{AcceptedSection};
+ghost use Rattle.zone_sections.specs.After.{AcceptedSection};
 ghost use mathlib.Core.Bool.{true};
 use model::Section;
 
@@ -28,7 +28,7 @@ fn width_at(image: &[u8], j: usize) -> u64
     ensures { λ r. ⌜ r ≡ width (treeOf (now (image .entry))) j ⌝ }
 {
     if j < labels::node_count(image) {
-        records::width_of(records::data_type_of(image, j))
+        records::width_at(image, j) as u64
     } else {
         0
     }

@@ -6,12 +6,12 @@ use lib.ListN.{length}
 use Rattle.model.specs.Image.{treeOf, nodeCount}
 use Rattle.model.specs.Containment.{sectionOf}
 use Rattle.model.specs.Sections.{sectionNodes}
-use Rattle.sections.proofs.Walk.{Counted, count-one, count-none, count-all}
-use Rattle.sections.proofs.After.{none-counted}
+use Rattle.zone_sections.proofs.Walk.{Counted, count-one, count-none, count-all}
+use Rattle.zone_sections.proofs.After.{none-counted}
 use native.Mathlib.Omega.{arith}
 use borrow.Author.Needs.{needs}
-use Rattle.sections.proofs.zones.section_count.Statement.{statement}
-use Rattle.sections.proofs.zones.section_count.Tie as tie
+use Rattle.zone_sections.proofs.zones.section_count.Statement.{statement}
+use Rattle.zone_sections.proofs.zones.section_count.Tie as tie
 
 abbrev Inv-loop : tie.InvT-loop
 Inv-loop image index zone n count₀ j₀ count j = Counted (sectionOf (treeOf image) zone) (nodeCount image) j count (length (sectionNodes (treeOf image) zone))

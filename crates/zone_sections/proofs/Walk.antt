@@ -4,21 +4,11 @@ use mathlib.Core.Path.{_≡_, refl}
 use mathlib.Core.Bool.{Bool, true, false, cond}
 use mathlib.Core.List.{_∷_}
 use native.Mathlib.Omega.{arith}
-use native.Mathlib.Nat.{add-zero}
 use lib.ListN.{length}
 use Rattle.model.specs.Lists.{countFrom, listFrom, seekFrom}
 use Rattle.model.proofs.Walks.{countFrom-step, countFrom-end}
 
 module _ (p : ℕ → Bool) where
-  -- numbers where the test fails are passed over
-  pub list-skip : (m k i : ℕ) → ((j : ℕ) → i ≤ j → j < i + m → p j ≡ false) → listFrom p (m + k) i ≡ listFrom p k (i + m)
-  unfolding listFrom
-  list-skip zero k i f = let e : 0 + k ≡ k = omega arith in rw (e, add-zero i)
-  list-skip (suc m) k i f =
-      let e : suc m + k ≡ suc (m + k) = omega arith in
-      let g : suc i + m ≡ i + suc m = omega arith in
-      rw (e, f i (omega arith) (omega arith), ← g) (list-skip m k (suc i) (λ j l h. f j (omega arith) (omega arith)))
-
   -- where the search finds one, the list is that one and those after it
   pub list-found : (k i : ℕ) → seekFrom p k i < i + k → listFrom p k i ≡ seekFrom p k i ∷ listFrom p (i + k - suc (seekFrom p k i)) (suc (seekFrom p k i))
   unfolding listFrom seekFrom

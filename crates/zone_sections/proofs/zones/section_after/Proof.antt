@@ -7,8 +7,8 @@ use Rattle.model.specs.Containment.{sectionOf}
 use Rattle.model.proofs.Loops.{SeekLeft, seek-more, seek-stop, seek-done}
 use native.Mathlib.Omega.{arith}
 use borrow.Author.Needs.{needs}
-use Rattle.sections.proofs.zones.section_after.Statement.{statement}
-use Rattle.sections.proofs.zones.section_after.Tie as tie
+use Rattle.zone_sections.proofs.zones.section_after.Statement.{statement}
+use Rattle.zone_sections.proofs.zones.section_after.Tie as tie
 
 abbrev Inv-loop : tie.InvT-loop
 Inv-loop image index zone i n j₀ j =

@@ -7,14 +7,15 @@ ghost use Rattle.model.specs.Image.{treeOf, nodeCount};
 ghost use Rattle.model.specs.Containment.{sectionOf};
 ghost use Rattle.index.specs.Index.{Index};
 ghost use Rattle.model.specs.Sections.{sectionNodes, entry};
-ghost use Rattle.sections.specs.After.{sectionsAfter, Onward};
+ghost use Rattle.zone_sections.specs.After.{sectionsAfter, Onward};
 use super::entry::entry_of;
 use model::Section;
 
 // The first section of the zone after node i; the node count where there is none.
 fn section_after(image: &[u8], index: &[u16], zone: usize, i: usize) -> usize
     requires { ⌜ Index (now image) (now index) × (i < nodeCount (now image)) ⌝ }
-    ensures { λ r. ⌜ (r ≡ seekFrom (sectionOf (treeOf (now (image .entry))) zone) (nodeCount (now (image .entry)) - (i + 1)) (i + 1)) × (r ≤ nodeCount (now (image .entry))) ⌝ }
+    ensures { λ r. ⌜ (r ≡ seekFrom (sectionOf (treeOf (now (image .entry))) zone) (nodeCount (now (image .entry)) - (i + 1)) (i + 1))
+        × (r ≤ nodeCount (now (image .entry))) ⌝ }
 {
     let n = labels::node_count(image);
     let mut j = i + 1;

@@ -1,10 +1,10 @@
 -- A node that is there starts where its record says; one that is missing starts nowhere.
 use mathlib.Core.Path.{_∙_}
-use Rattle.sections.proofs.Parts.{present-start, absent-start}
+use Rattle.zone_sections.proofs.Parts.{present-start, absent-start}
 use native.Mathlib.Omega.{arith}
 use borrow.Author.Needs.{needs}
-use Rattle.sections.proofs.entry.start_of.Statement.{statement}
-use Rattle.sections.proofs.entry.start_of.Tie as tie
+use Rattle.zone_sections.proofs.entry.start_of.Statement.{statement}
+use Rattle.zone_sections.proofs.entry.start_of.Tie as tie
 
 returns : tie.Need-returns
 returns c = c .data-start .ensures .0 ∙ present-start _ _ (omega arith)

@@ -1,15 +1,15 @@
 -- The nodes of a section of an accepted image: what was looked up conforms, and its numbers can be read.
-use Prim.Native.Nat.{ℕ, zero, suc, _+_, _≤_, _<_}
-use mathlib.Core.Path.{_≡_, refl, sym, ap, _∙_}
+use Prim.Native.Nat.{ℕ, _+_, _≤_, _<_}
+use mathlib.Core.Path.{_≡_, refl, sym, _∙_}
 use mathlib.Core.Bool.{true, false, _&&_}
 use mathlib.Core.List.{List, [], _∷_}
 use native.Mathlib.Omega.{arith}
-use lib.ListN.{length, drop, List·getD-eq-default}
+use lib.ListN.{length}
 use lib.Dec.{eqb}
 use borrow.Author.Tests.{lt-ltb, le-ltb, eqb-true, eq-eqb}
 use Rattle.model.specs.Lists.{row}
-use Rattle.model.specs.Bytes.{text, spells, placeFrom}
-use Rattle.model.specs.Image.{treeOf, nodeCount, parent, node, nodeOf, nodesOf, wordCount, dimensions, dataTypes, dataType, width, widths, number, I4, I8}
+use Rattle.model.specs.Bytes.{text}
+use Rattle.model.specs.Image.{treeOf, nodeCount, parent, node, wordCount, dimensions, width, number, I4, I8}
 use Rattle.model.specs.Containment.{role, sectionOf, child, found, Root, Elements, IndexRange, DataArray, UserDefinedData}
 use Rattle.model.specs.Values.{sidsRules, typed, shaped, flat, size, indexArray, typeLawful, conforming, rangeOf, offsetsOf, connectivityOf}
 use Rattle.model.specs.Elements.{elementType, firstElement, lastElement, connectivityLength}
@@ -26,18 +26,9 @@ use Rattle.index.specs.Index.{kind}
 use Rattle.index.proofs.Marking.{kind-role}
 use Rattle.types.specs.Given.{HasNumber}
 use Rattle.types.proofs.StoredNumbers.{rank-is, whole-wide, whole-four, has-pair, has-less}
-use Rattle.sections.specs.After.{AcceptedSection}
+use Rattle.zone_sections.specs.After.{AcceptedSection}
 
--- past the last node is a node of nothing: it has no place and no width
-nodes-length : (n : ℕ) (s : List ℕ) → length (nodesOf n s) ≡ n
-unfolding nodesOf
-nodes-length zero s = refl
-nodes-length (suc n) s = ap suc (nodes-length n (drop 84 s))
-
-pub absent-width : (b : List ℕ) (j : ℕ) → nodeCount b ≤ j → 0 ≡ width (treeOf b) j
-unfolding width dataType node treeOf nodeOf placeFrom dataTypes text spells widths
-absent-width b j h = rw (List·getD-eq-default (nodesOf (nodeCount b) (drop 32 b)) (nodeOf []) {n = j} (omega (arith, nodes-length (nodeCount b) (drop 32 b))))
-
+-- a node that is missing has no place
 pub absent-start : (b : List ℕ) (j : ℕ) → nodeCount b ≤ j → 0 ≡ dataStart (treeOf b) j
 unfolding dataStart found treeOf
 absent-start b j h = rw (le-ltb j (nodeCount b) h)
@@ -93,9 +84,11 @@ module _ {b : List ℕ} {s : ℕ} (a : AcceptedSection b s) where
   pub own-has : HasNumber b s 0
   unfolding sidsRules typeLawful row
   own-has =
-      let r : (typed (treeOf b) s (I4 ∷ []) && shaped (treeOf b) s (2 ∷ [])) ≡ true = rw (role-is in-zone) at (sids-rule b (a .accepted .image) 24 s (a .inside) (parts in-zone .is-validated)) in
+      let r : (typed (treeOf b) s (I4 ∷ []) && shaped (treeOf b) s (2 ∷ [])) ≡ true
+      = rw (role-is in-zone) at (sids-rule b (a .accepted .image) 24 s (a .inside) (parts in-zone .is-validated)) in
       has-less b s 1 0
-      (has-pair b (a .accepted .sound) s (a .inside) (whole-four (treeOf b) s (and-first (typed (treeOf b) s (I4 ∷ [])) _ r)) (and-second (typed (treeOf b) s (I4 ∷ [])) _ r))
+      (has-pair b (a .accepted .sound) s (a .inside) (whole-four (treeOf b) s (and-first (typed (treeOf b) s (I4 ∷ [])) _ r))
+      (and-second (typed (treeOf b) s (I4 ∷ [])) _ r))
       (omega arith)
 
   -- the two numbers of its range
@@ -104,7 +97,8 @@ module _ {b : List ℕ} {s : ℕ} (a : AcceptedSection b s) where
   range-has =
       let j = conforming (treeOf b) s IndexRange (text "ElementRange") in
       let h = range-found in-zone in
-      let r : (typed (treeOf b) j (I4 ∷ I8 ∷ []) && shaped (treeOf b) j (2 ∷ [])) ≡ true = rw (conforming-role (treeOf b) s IndexRange (text "ElementRange") h) at (conforming-type (treeOf b) s IndexRange (text "ElementRange") h) in
+      let r : (typed (treeOf b) j (I4 ∷ I8 ∷ []) && shaped (treeOf b) j (2 ∷ [])) ≡ true
+      = rw (conforming-role (treeOf b) s IndexRange (text "ElementRange") h) at (conforming-type (treeOf b) s IndexRange (text "ElementRange") h) in
       has-pair b (a .accepted .sound) j (conforming-inside (treeOf b) s IndexRange (text "ElementRange") h)
       (whole-wide (treeOf b) j (and-first (typed (treeOf b) j (I4 ∷ I8 ∷ [])) _ r))
       (and-second (typed (treeOf b) j (I4 ∷ I8 ∷ [])) _ r)
