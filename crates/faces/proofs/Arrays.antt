@@ -24,10 +24,10 @@ use Rattle.index.specs.Index.{Index}
 use Rattle.types.proofs.StoredNumbers.{rank-is}
 use Rattle.elements.specs.Given.{Stores, Indexed}
 use Rattle.elements.proofs.Stored.{startOf, stores-row, stores-number, connectivity-stores, offsets-stores}
-use Rattle.faces.specs.declared.zone_sections.Span.{Span}
-use Rattle.faces.specs.ZoneSections.{Cells, Spans}
+use Rattle.face_places.specs.declared.zone_sections.Span.{Span}
+use Rattle.face_places.specs.ZoneSections.{Cells, Spans}
 use Rattle.faces.specs.Uses.{RowOf, References}
-use Rattle.faces.proofs.Accepted.{section-by, own-zone, count-read, cells-faces}
+use Rattle.face_places.proofs.Accepted.{section-by, own-zone, count-read, cells-faces}
 
 -- the numbers of node j, as they were read
 pub row-read : {b : List ℕ} → Sound b → {j n : ℕ} → Stores b j n → {at w : ℕ} → at ≡ startOf b j → w ≡ width (treeOf b) j

@@ -3,7 +3,7 @@ use mathlib.Core.Path.{sym, _∙_}
 use native.Mathlib.Omega.{arith}
 use borrow.Author.Needs.{needs}
 use borrow.Author.Tests.{lt-ltb, le-ltb, not-true, not-false}
-use Rattle.faces.proofs.Gathering.{At, few-ranges, face-found}
+use Rattle.face_places.proofs.Gathering.{At, few-ranges, face-found}
 use Rattle.faces.proofs.Runs.{use-is}
 use Rattle.faces.proofs.uses.use_entry.Statement.{statement}
 use Rattle.faces.proofs.uses.use_entry.Tie as tie

@@ -3,7 +3,7 @@ use mathlib.Core.Path.{refl, sym, ap, _∙_}
 use native.Mathlib.Omega.{arith}
 use borrow.Author.Needs.{needs}
 use Rattle.model.specs.Rules.{rejected}
-use Rattle.faces.proofs.Gathering.{few-ranges, all-faces}
+use Rattle.face_places.proofs.Gathering.{few-ranges, all-faces}
 use Rattle.faces.proofs.Checks.{usage-refused, usage-accepted, too-short, long-enough}
 use Rattle.faces.proofs.zone.zone_usage.Statement.{statement}
 use Rattle.faces.proofs.zone.zone_usage.Tie as tie

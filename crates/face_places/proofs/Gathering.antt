@@ -19,10 +19,10 @@ use Rattle.ranges.specs.Tables.{holds, inRanges, meetsSection, Inserted, Placed
 use Rattle.ranges.proofs.Halving.{met}
 use Rattle.ranges.proofs.Moving.{placed-every}
 use Rattle.ranges.proofs.Gathering.{gathered-start, gathered-skip, gathered-more, gathered-room, gathered-has}
-use Rattle.faces.specs.declared.zone_sections.Span.{Span}
-use Rattle.faces.specs.ZoneSections.{Spans}
-use Rattle.faces.specs.Ranges.{Begins, Ranges}
-use Rattle.faces.proofs.Accepted.{count-read, face-section-is, face-ranged, faces-are, few-sections, apart, place-is, total-small}
+use Rattle.face_places.specs.declared.zone_sections.Span.{Span}
+use Rattle.face_places.specs.ZoneSections.{Spans}
+use Rattle.face_places.specs.Ranges.{Begins, Ranges}
+use Rattle.face_places.proofs.Accepted.{count-read, face-section-is, face-ranged, faces-are, few-sections, apart, place-is, total-small}
 
 -- a table with a number set behind its entries
 pub placed-before : {x : ℕ} {xs ys : List ℕ} {n place : ℕ} (y : ℕ) → Placed x xs ys n place → place ≤ n → Placed x xs (set ys (n + 1) y) n place

@@ -29,8 +29,8 @@ use Rattle.ranges.proofs.Cases.{both}
 use Rattle.ranges.proofs.Half.{half}
 use Rattle.elements.specs.Given.{Ranged}
 use Rattle.elements.proofs.Stored.{type-section, range-ready, stores-has}
-use Rattle.faces.specs.declared.zone_sections.Span.{Span}
-use Rattle.faces.specs.ZoneSections.{Section, Spans}
+use Rattle.face_places.specs.declared.zone_sections.Span.{Span}
+use Rattle.face_places.specs.ZoneSections.{Section, Spans}
 
 and-true : (a : Bool) → (a && true) ≡ a
 and-true true = refl

@@ -6,9 +6,9 @@ use borrow.Author.Needs.{needs}
 use borrow.Author.Tests.{not-true, not-false}
 use Rattle.model.specs.Elements.{elementType}
 use Rattle.model.proofs.Joins.{and-on, and-done}
-use Rattle.faces.proofs.Accepted.{section-has}
-use Rattle.faces.proofs.zone_sections.has_type.Statement.{statement}
-use Rattle.faces.proofs.zone_sections.has_type.Tie as tie
+use Rattle.face_places.proofs.Accepted.{section-has}
+use Rattle.face_places.proofs.zone_sections.has_type.Statement.{statement}
+use Rattle.face_places.proofs.zone_sections.has_type.Tie as tie
 
 returns : tie.Need-returns
 returns c = and-done _ (c .before .section-of .ensures) (not-true _ (c .if1 .taken))

@@ -6,7 +6,7 @@ ghost use Rattle.model.specs.Image.{treeOf, nodeCount};
 ghost use Rattle.model.specs.Given.{Accepted};
 ghost use Rattle.index.specs.Index.{Index};
 ghost use Rattle.ranges.specs.Tables.{Placed};
-ghost use Rattle.faces.specs.Ranges.{Ranges};
+ghost use Rattle.face_places.specs.Ranges.{Ranges};
 use super::zone_sections::has_type;
 use super::zone_sections::span_of;
 use element_types::NGON;

@@ -1,8 +1,8 @@
 -- The range of a section of an accepted image conforms, so that its two numbers can be read.
 use native.Mathlib.Omega.{arith}
-use Rattle.faces.proofs.Accepted.{section-kind, range-has, spans}
-use Rattle.faces.proofs.zone_sections.span_of.Statement.{statement}
-use Rattle.faces.proofs.zone_sections.span_of.Tie as tie
+use Rattle.face_places.proofs.Accepted.{section-kind, range-has, spans}
+use Rattle.face_places.proofs.zone_sections.span_of.Statement.{statement}
+use Rattle.face_places.proofs.zone_sections.span_of.Tie as tie
 
 range-of-requires : tie.Need-range-of-requires
 range-of-requires c κs = let p = c .before .before .pre in ((p .indexed, p .inside), section-kind p)

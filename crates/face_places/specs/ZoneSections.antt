@@ -8,7 +8,7 @@ use Rattle.model.specs.Given.{Accepted}
 use Rattle.model.specs.Containment.{sectionOf}
 use Rattle.model.specs.Elements.{NFACE, elementType, firstElement, lastElement}
 use Rattle.index.specs.Index.{Index}
-use Rattle.faces.specs.declared.zone_sections.Span.{Span}
+use Rattle.face_places.specs.declared.zone_sections.Span.{Span}
 
 -- node s of an accepted image is a section
 pub record Section (b index : List ℕ) (s : ℕ) : Type 0 where

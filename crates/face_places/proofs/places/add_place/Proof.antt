@@ -5,9 +5,9 @@ use lib.Seq.{getD-set-same}
 use native.Mathlib.Omega.{arith}
 use borrow.Author.Needs.{needs}
 use Rattle.ranges.proofs.Moving.{put}
-use Rattle.faces.proofs.Gathering.{placed-before}
-use Rattle.faces.proofs.places.add_place.Statement.{statement}
-use Rattle.faces.proofs.places.add_place.Tie as tie
+use Rattle.face_places.proofs.Gathering.{placed-before}
+use Rattle.face_places.proofs.places.add_place.Statement.{statement}
+use Rattle.face_places.proofs.places.add_place.Tie as tie
 
 behind : tie.Need-slice-write-places-2
 behind c = simp length-set (omega (arith, c .before .before .make-room .ensures .long))

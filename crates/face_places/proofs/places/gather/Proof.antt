@@ -6,10 +6,10 @@ use borrow.Author.Needs.{needs}
 use lib.ListN.{length, length-set}
 use lib.Seq.{getD-set-same}
 use Rattle.model.specs.Image.{treeOf, nodeCount}
-use Rattle.faces.specs.Ranges.{Ranges}
-use Rattle.faces.proofs.Gathering.{no-ranges}
-use Rattle.faces.proofs.places.gather.Statement.{statement}
-use Rattle.faces.proofs.places.gather.Tie as tie
+use Rattle.face_places.specs.Ranges.{Ranges}
+use Rattle.face_places.proofs.Gathering.{no-ranges}
+use Rattle.face_places.proofs.places.gather.Statement.{statement}
+use Rattle.face_places.proofs.places.gather.Tie as tie
 
 abbrev Inv-loop : tie.InvT-loop
 Inv-loop image index z firsts₀ reach₀ places₀ nodes n₀ i₀ firsts reach places n i =

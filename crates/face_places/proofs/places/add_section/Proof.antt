@@ -4,10 +4,10 @@ use native.Mathlib.Omega.{arith}
 use borrow.Author.Needs.{needs}
 use borrow.Author.Tests.{not-true, not-false}
 use Rattle.model.proofs.Logic.{and-first}
-use Rattle.faces.proofs.Accepted.{section-by}
-use Rattle.faces.proofs.Gathering.{total-few, room-for, same-ranges, more-ranges}
-use Rattle.faces.proofs.places.add_section.Statement.{statement}
-use Rattle.faces.proofs.places.add_section.Tie as tie
+use Rattle.face_places.proofs.Accepted.{section-by}
+use Rattle.face_places.proofs.Gathering.{total-few, room-for, same-ranges, more-ranges}
+use Rattle.face_places.proofs.places.add_section.Statement.{statement}
+use Rattle.face_places.proofs.places.add_section.Tie as tie
 
 returns : tie.Need-returns
 returns c =

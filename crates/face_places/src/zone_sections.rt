@@ -8,7 +8,7 @@ ghost use Rattle.model.specs.Given.{Accepted};
 ghost use Rattle.model.specs.Containment.{sectionOf};
 ghost use Rattle.model.specs.Elements.{elementType};
 ghost use Rattle.index.specs.Index.{Index};
-ghost use Rattle.faces.specs.ZoneSections.{Section, Spans};
+ghost use Rattle.face_places.specs.ZoneSections.{Section, Spans};
 
 // The first and the last element of a section.
 pub struct Span {
