@@ -4,6 +4,7 @@ use mathlib.Core.Path.{_≡_, refl, sym, _∙_}
 use mathlib.Core.Bool.{Bool, true, false, _&&_}
 use mathlib.Core.List.{List, [], _∷_}
 use native.Mathlib.Omega.{arith}
+use native.Mathlib.Decide.{decLt}
 use lib.Dec.{eqb, leb, ltb}
 use borrow.Author.Tests.{eq-eqb, ne-eqb, eqb-true, lt-ltb, le-ltb, leb-true, not-true}
 use Rattle.model.specs.Lists.{_⊃_, row, someFrom, countFrom, seekFrom}
@@ -282,3 +283,10 @@ module _ {b : List ℕ} (g : Sound b) where
           let l = leb-true f (lastElement t s) (and-second (leb (firstElement t s) f) _ (and-second (faceSection t z s) _ (w .holds))) in
           absurd (omega arith)
       by-test false e = refl
+
+  pub face-small : (z f : ℕ) → faceOf (treeOf b) z f ≡ true → f ≤ 2147483647
+  face-small z f e =
+      elim (decLt 2147483647 f) [
+        | yes h ↦ untrue (sym (too-great z f h) ∙ e)
+        | no h ↦ omega arith
+      ]

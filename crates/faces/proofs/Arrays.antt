@@ -22,7 +22,7 @@ use Rattle.index.specs.Index.{Index}
 use Rattle.types.proofs.StoredNumbers.{rank-is}
 use Rattle.elements.specs.Given.{Stores, Indexed}
 use Rattle.elements.proofs.Stored.{startOf, stores-row, stores-number, connectivity-stores, offsets-stores}
-use Rattle.faces.specs.declared.rows.Row.{Row}
+use Rattle.rows.specs.declared.Row.{Row}
 use Rattle.faces.specs.declared.zone_sections.Span.{Span}
 use Rattle.faces.specs.ZoneSections.{Cells, Spans}
 use Rattle.faces.specs.Rows.{RowOf, endsAfterAt}

@@ -8,7 +8,7 @@ use native.Mathlib.Numerals.{add-one}
 use borrow.Author.Tests.{eqb-true, lt-ltb, le-ltb}
 use Rattle.model.specs.Corner.{numberAt}
 use Rattle.model.specs.FaceUsage.{unused}
-use Rattle.faces.specs.declared.rows.Row.{Row}
+use Rattle.rows.specs.declared.Row.{Row}
 use Rattle.faces.specs.Rows.{endsAfterAt}
 
 -- a free bit leaves room for it

@@ -17,7 +17,7 @@ use Rattle.model.specs.Given.{Accepted}
 use Rattle.model.specs.Elements.{faceOf, faceNumber}
 use Rattle.model.specs.Corner.{numberAt}
 use Rattle.model.specs.FaceUsage.{facePlace, faceCount, unused, elementHolding, usePlace, useSign, useEntry, useEntries, usesIn, useNodes}
-use Rattle.faces.specs.declared.rows.Row.{Row}
+use Rattle.rows.specs.declared.Row.{Row}
 use Rattle.faces.specs.Uses.{signOf, afterUse, UsedAt, used, Used, Reference}
 use Rattle.faces.proofs.Accepted.{place-below}
 

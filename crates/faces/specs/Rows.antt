@@ -6,8 +6,8 @@ use mathlib.Core.List.{List}
 use lib.Dec.{ltb}
 use Rattle.model.specs.Image.{treeOf, width, number}
 use Rattle.model.specs.Corner.{numberAt}
-use Rattle.elements.specs.Arrays.{Numbers}
-use Rattle.faces.specs.declared.rows.Row.{Row}
+use Rattle.rows.specs.Rows.{Numbers}
+use Rattle.rows.specs.declared.Row.{Row}
 
 -- the row of the n numbers of node j
 pub record RowOf (b : List ℕ) (j n : ℕ) (r : Row) : Type 0 where

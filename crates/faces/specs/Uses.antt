@@ -13,8 +13,8 @@ use Rattle.model.specs.Values.{connectivityOf}
 use Rattle.model.specs.Elements.{reference, faceNumber, faceOf}
 use Rattle.model.specs.Corner.{numberAt}
 use Rattle.model.specs.FaceUsage.{facePlace, unused, usesIn}
-use Rattle.elements.specs.Arrays.{Numbers}
-use Rattle.faces.specs.declared.rows.Row.{Row}
+use Rattle.rows.specs.Rows.{Numbers}
+use Rattle.rows.specs.declared.Row.{Row}
 use Rattle.faces.specs.ZoneSections.{Cells}
 
 -- the bit of a sign, and the bytes after a use of the face at place p where that bit was free or not

@@ -7,12 +7,12 @@ ghost use Rattle.model.specs.FaceUsage.{elementHolding};
 ghost use Rattle.index.specs.Index.{Index};
 ghost use Rattle.faces.specs.ZoneSections.{Cells};
 ghost use Rattle.faces.specs.Uses.{References};
-use super::rows::Row;
-use super::rows::ends_after;
-use super::rows::row_of;
+use super::node_rows::ends_after;
+use super::node_rows::row_of;
 use super::zone_sections::has_type;
 use super::zone_sections::span_of;
 use element_types::NFACE;
+use rows::Row;
 
 // The references of node s, where it is a cell section of zone z; none where it is not.
 pub fn references_of(image: &[u8], index: &[u16], z: usize, s: usize) -> Row

@@ -11,7 +11,7 @@ ghost use Rattle.index.specs.Index.{Index};
 mod cells; // cells.rt: the references of the zone's cells
 mod ledger; // ledger.rt: the bytes that are lent
 mod places; // places.rt: the zone's faces by ranges, and their places
-mod rows; // rows.rt: rows of numbers
+mod node_rows; // node_rows.rt: the numbers of a node as a row; start offsets
 mod zone_sections; // zone_sections.rt: the sections of a zone
 mod uses; // uses.rt: the references, one after the other
 mod zone; // zone.rt: a zone's usage

@@ -10,17 +10,16 @@ ghost use Rattle.model.specs.Image.{treeOf, nodeCount};
 ghost use Rattle.model.specs.Given.{Accepted};
 ghost use Rattle.model.specs.Elements.{faceOf};
 ghost use Rattle.model.specs.FaceUsage.{faceCount, usesIn, useEntries, useNodes};
-ghost use Rattle.elements.specs.Arrays.{Numbers};
+ghost use Rattle.rows.specs.Rows.{Numbers};
 ghost use Rattle.index.specs.Index.{Index};
 ghost use Rattle.faces.specs.Ranges.{Ranges};
 ghost use Rattle.faces.specs.Uses.{UsedAt, Used, References};
 use super::cells::element_holding;
 use super::cells::references_of;
 use super::ledger::use_face;
-use super::rows::Row;
-use super::rows::is_reversed;
 use model::Rejection;
 use model::Stage;
+use rows::Row;
 
 // The faces of a zone in the tables: how many entries there are, and by how many bits a face's number is shifted to its hint.
 struct Faces {
@@ -60,10 +59,10 @@ fn use_entry(
         (now (out .entry)) (ltb r (faces .count)) (now (out .exit)) ⌝ }
 {
     let count = faces.count;
-    let f = elements::arrays::magnitude_at(image, row.at, row.width, row.n, k);
+    let f = rows::magnitude_at(image, row, k);
     let j = ranges::find_near(firsts, reach, count, hints, faces.shift, last, f);
     let p = place_of(firsts, places, j, f);
-    if !use_face(out, p, is_reversed(image, row, k)) {
+    if !use_face(out, p, rows::is_negative(image, row, k)) {
         return count;
     }
     j
@@ -134,7 +133,7 @@ pub fn use_nodes(
     ensures { λ r. ⌜ Used (faceCount (treeOf (now (image .entry))) z)
         (useNodes (treeOf (now (image .entry))) z (nodeCount (now (image .entry))) 0 (now (out .entry))) (now (out .entry)) r (now (out .exit)) ⌝ }
 {
-    let shift = ranges::shift_for(ranges::top_of(firsts, reach, count, 0));
+    let shift = ranges::shift_for(firsts, reach, count);
     let faces = Faces {
         zone: z,
         count,

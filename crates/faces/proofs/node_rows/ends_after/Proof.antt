@@ -7,8 +7,8 @@ use Rattle.model.specs.Lists.{seekFrom}
 use Rattle.model.proofs.Loops.{SeekLeft, seek-start, seek-more, seek-stop, seek-done}
 use Rattle.faces.specs.Rows.{endsAfterAt}
 use Rattle.faces.proofs.Marks.{ends-yes, ends-not}
-use Rattle.faces.proofs.rows.ends_after.Statement.{statement}
-use Rattle.faces.proofs.rows.ends_after.Tie as tie
+use Rattle.faces.proofs.node_rows.ends_after.Statement.{statement}
+use Rattle.faces.proofs.node_rows.ends_after.Tie as tie
 
 abbrev Inv-loop : tie.InvT-loop
 Inv-loop image row k n j₀ j = SeekLeft (endsAfterAt image row k) n j (seekFrom (endsAfterAt image row k) n 0)
