@@ -19,8 +19,7 @@ fn add_place(places: &mut [u64], n: usize, place: usize, faces: u64)
         × (getD (now (places .exit)) (n + 1) 0 ≡ getD (now (places .entry)) n 0 + faces) ⌝ }
 {
     let total = places[n];
-    ranges::make_room(places, n, place);
-    places[place] = total;
+    ranges::put(places, n, place, total);
     places[n + 1] = total + faces;
 }
 

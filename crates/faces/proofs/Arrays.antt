@@ -32,9 +32,7 @@ use Rattle.face_places.proofs.Accepted.{section-by, own-zone, count-read, cells
 -- the numbers of node j, as they were read
 pub row-read : {b : List ℕ} → Sound b → {j n : ℕ} → Stores b j n → {at w : ℕ} → at ≡ startOf b j → w ≡ width (treeOf b) j
     → RowOf b j n (record { at = at; width = w; n = n })
-row-read s g p q =
-    let x = stores-row s g in
-    rw (p, q) (record { long = refl; numbers = record { wide = x .wide; inside = x .inside }; wide = refl; stored = stores-number s g })
+row-read s g p q = rw (p, q) (record { long = refl; numbers = stores-row s g; wide = refl; stored = stores-number s g })
 
 -- two searches with tests that agree
 seek-same : (p q : ℕ → Bool) (k i : ℕ) → ((j : ℕ) → i ≤ j → j < i + k → p j ≡ q j) → seekFrom p k i ≡ seekFrom q k i

@@ -69,7 +69,7 @@ pub fn zone_usage(
     if (out.len() as u64) < places[count] {
         return FaceUsage::Rejected(Rejection::at(44, 0));
     }
-    let shift = ranges::shift_for(ranges::top_of(firsts, reach, count, 0));
+    let shift = ranges::shift_for(firsts, reach, count);
     let faces = Faces {
         zone: z,
         count,

@@ -77,14 +77,18 @@ pub fn is_negative(image: &[u8], row: Row, k: usize) -> bool
     half <= number_at(image, row, k)
 }
 
-// The magnitude of number k, of the smallest number too: nothing is negated.
+// The magnitude of number k, a signed reference of 32 or 64 bits; of the smallest number too: nothing is negated.
 pub fn magnitude_at(image: &[u8], row: Row, k: usize) -> u64
     requires { ⌜ Numbers (now image) (row .at) (row .width) (row .n) × (k < row .n) ⌝ }
     ensures { λ r. ⌜ r ≡ magnitude (row .width) (numberAt (now (image .entry)) (row .at) (row .width) k) ⌝ }
 {
-    let half = half_of(row.width);
-    let x = number_at(image, row, k);
-    if half <= x { half - (x - half) } else { x }
+    let at = row.at;
+    let width = row.width;
+    if width == 4 {
+        words::magnitude32(words::i32_at(image, at + 4 * k))
+    } else {
+        words::magnitude64(words::i64_at(image, at + 8 * k))
+    }
 }
 
 // Of a row of start offsets, one more than there are elements: the first element that ends after entry k; how many there are where none does.

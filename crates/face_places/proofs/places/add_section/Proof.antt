@@ -24,7 +24,7 @@ insert-requires c κs =
     let e = c .before .before .before in
     let p = e .before .before .before .before .before .before .before .pre in
     let r = room-for (p .0 .0) (p .1 .0) (p .0 .1 .1) (sym (e .before .has-type .ensures) ∙ not-false _ (e .if1 .left)) in
-    (p .1 .0 .gathered .ordered, (omega (arith, r), omega (arith, r)))
+    (p .1 .0 .gathered .ordered, (omega (arith, r), omega (arith, r), (let s = c .before .before .span-of .ensures in omega (arith, s .up, s .most))))
 
 add-place-requires : tie.Need-add-place-requires
 add-place-requires c κs =
