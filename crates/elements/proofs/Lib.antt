@@ -1,10 +1,11 @@
 pub mod Agree
-pub mod Rows
+pub mod Offsets
 pub mod Stages
 pub mod Stored
 pub mod SectionContext
 pub mod Searches
 pub mod RangeLaws
+pub mod FaceLaws
 pub mod RuleLaws
 pub mod ShapeLaws
 pub mod StageLaws

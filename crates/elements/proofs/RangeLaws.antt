@@ -4,11 +4,10 @@ use mathlib.Core.Path.{_≡_, refl, sym, _∙_}
 use mathlib.Core.Bool.{Bool, true, false, _&&_}
 use mathlib.Core.List.{List, [], _∷_}
 use native.Mathlib.Omega.{arith}
+use native.Mathlib.Decide.{decLt}
 use lib.Dec.{eqb, leb, ltb}
 use borrow.Author.Tests.{eq-eqb, ne-eqb, eqb-true, lt-ltb, le-ltb, leb-true, not-true}
 use Rattle.model.specs.Lists.{_⊃_, row, someFrom, countFrom, seekFrom}
-use Rattle.model.specs.Bytes.{magnitude}
-use Rattle.model.specs.Corner.{numberAt}
 use Rattle.model.specs.Image.{Tree, treeOf, nodeCount, parent, number, I4}
 use Rattle.model.specs.Given.{Sound, NodesTo}
 use Rattle.model.specs.Containment.{role, validated, validatedAs, sectionOf, found, Elements, IndexRange}
@@ -26,7 +25,7 @@ use Rattle.ranges.specs.Tables.{key, meetsAt, meetsSection, inRanges, Gathered}
 use Rattle.ranges.proofs.Gathering.{gathered-room}
 use Rattle.ranges.proofs.Half.{half}
 use Rattle.ranges.proofs.Keys.{key-meets}
-use Rattle.elements.specs.Given.{Ranged, SectionContext, refersFace}
+use Rattle.elements.specs.Given.{Ranged, SectionContext}
 use Rattle.elements.specs.Ranges.{isRanged, firstKey, lastKey, rangedOverlap, overlapAt, RangeOf, Faces}
 use Rattle.elements.proofs.Agree.{some-same}
 use Rattle.elements.proofs.Stored.{type-section, range-ready}
@@ -285,17 +284,9 @@ module _ {b : List ℕ} (g : Sound b) where
           absurd (omega arith)
       by-test false e = refl
 
--- number k of a row, of magnitude f, and the face that it means
-module _ (b : List ℕ) (z at w k : ℕ) {f : ℕ} (e : f ≡ magnitude w (numberAt b at w k)) where
-  pub refers-none : Sound b → 2147483647 < f → refersFace (treeOf b) z b at w k ≡ false
-  unfolding refersFace
-  refers-none g h = rw (← e) (too-great g z f h)
-
-  module _ {firsts reach : List ℕ} {n x : ℕ} (g : Faces (treeOf b) firsts reach n) (h : f < 4294967296) (q : x ≡ key z f) where
-    pub refers : {j : ℕ} → ltb j n ≡ inRanges firsts reach n x → j < n → refersFace (treeOf b) z b at w k ≡ true
-    unfolding refersFace
-    refers {j} r l = rw (← e) (sym (g .in-ranges z f h) ∙ rw (← q) (sym r ∙ lt-ltb j n l))
-
-    pub refers-not : {j : ℕ} → ltb j n ≡ inRanges firsts reach n x → n ≤ j → refersFace (treeOf b) z b at w k ≡ false
-    unfolding refersFace
-    refers-not {j} r l = rw (← e) (sym (g .in-ranges z f h) ∙ rw (← q) (sym r ∙ le-ltb j n l))
+  pub face-small : (z f : ℕ) → faceOf (treeOf b) z f ≡ true → f ≤ 2147483647
+  face-small z f e =
+      elim (decLt 2147483647 f) [
+        | yes h ↦ untrue (sym (too-great z f h) ∙ e)
+        | no h ↦ omega arith
+      ]

@@ -7,51 +7,48 @@ use native.Mathlib.Omega.{arith}
 use Rattle.model.specs.Lists.{_⊃_, everyFrom}
 use borrow.Author.Tests.{ne-eqb}
 use Rattle.model.specs.Rules.{check, passed, rejected, rejection}
-use Rattle.model.specs.Image.{Tree, treeOf, parent, width, number}
+use Rattle.model.specs.Image.{Tree, treeOf, parent, number}
 use Rattle.model.specs.Given.{Sound}
-use Rattle.model.specs.Values.{size, vertexSize, connectivityOf}
+use Rattle.model.specs.Values.{vertexSize, connectivityOf}
 use Rattle.model.specs.Elements.{NFACE, elementType, reference, connectivityLength, isNode, allNodes, faceNumber, isFace, allFaces}
 use Rattle.model.specs.Corner.{numberAt}
-use Rattle.elements.specs.Arrays.{Numbers, isWithin}
+use Rattle.rows.specs.declared.Row.{Row}
+use Rattle.rows.specs.Rows.{Numbers}
+use Rattle.elements.specs.Arrays.{isWithin}
 use Rattle.elements.specs.Groups.{referenceRules}
-use Rattle.elements.specs.Given.{Indexed, SectionContext, refersFace}
-use Rattle.elements.proofs.Stored.{startOf, stores-row, stores-number}
+use Rattle.elements.specs.Given.{RowOf, refersFace}
+use Rattle.elements.proofs.Stored.{stores-row, stores-number}
 use Rattle.elements.proofs.Agree.{every-same}
 
--- the row of a node's numbers, by what was read of it
-module _ {b : List ℕ} (s : Sound b) {j at w n : ℕ} (a : Indexed b j) (p : at ≡ startOf b j) (q : w ≡ width (treeOf b) j) (r : n ≡ size (treeOf b) j) where
-  pub row-of : Numbers b at w n
-  row-of = rw (p, q, r) (stores-row s (a .numbers))
+-- the row of a node's numbers
+module _ {b : List ℕ} (s : Sound b) {j : ℕ} {r : Row} (o : RowOf b j r) where
+  pub row-numbers : Numbers b (r .at) (r .width) (r .n)
+  row-numbers = rw (o .starts, o .wide, o .long) (stores-row s (o .indexed .numbers))
 
-  pub number-of : (k : ℕ) → k < n → number (treeOf b) j k ≡ numberAt b at w k
-  number-of k h = rw (p, q) (stores-number s (a .numbers) k (rw (← r) h))
+  pub row-number : (k : ℕ) → k < r .n → number (treeOf b) j k ≡ numberAt b (r .at) (r .width) k
+  row-number k h = rw (o .starts, o .wide) (stores-number s (o .indexed .numbers) k (rw (← o .long) h))
 
-module _ {b : List ℕ} (g : Sound b) {s j at w n : ℕ} (d : SectionContext b s) (e : j ≡ connectivityOf (treeOf b) s) (p : at ≡ startOf b j) (q : w ≡ width (treeOf b) j) (r : n ≡ connectivityLength (treeOf b) s) where
-  indexed : Indexed b j
-  indexed = rw e (d .connectivity)
-
-  pub size-is : n ≡ size (treeOf b) j
+-- the row of a section's references
+module _ {b : List ℕ} (g : Sound b) (s : ℕ) {r : Row} (o : RowOf b (connectivityOf (treeOf b) s) r) where
+  long-is : connectivityLength (treeOf b) s ≡ r .n
   unfolding connectivityLength
-  size-is = rw e r
+  long-is = sym (o .long)
 
-  pub connectivity-row : Numbers b at w n
-  connectivity-row = row-of g indexed p q size-is
-
-  reference-is : (k : ℕ) → k < n → reference (treeOf b) s k ≡ numberAt b at w k
+  reference-is : (k : ℕ) → k < r .n → reference (treeOf b) s k ≡ numberAt b (r .at) (r .width) k
   unfolding reference
-  reference-is k h = rw (← e) (number-of g indexed p q size-is k h)
+  reference-is k h = row-number g o k h
 
   -- 34
-  pub all-nodes : (limit : ℕ) → limit ≡ number (treeOf b) (parent (treeOf b) s) 0 → everyFrom (isWithin b at w limit) n 0 ≡ allNodes (treeOf b) s
+  pub all-nodes : (limit : ℕ) → limit ≡ number (treeOf b) (parent (treeOf b) s) 0 → everyFrom (isWithin b (r .at) (r .width) limit) (r .n) 0 ≡ allNodes (treeOf b) s
   unfolding allNodes isNode isWithin vertexSize
   all-nodes limit m =
-      rw (← r) (every-same (isWithin b at w limit) (isNode (treeOf b) s) n 0 (λ k l h. rw (reference-is k (omega arith), ← m)))
+      rw long-is (every-same (isWithin b (r .at) (r .width) limit) (isNode (treeOf b) s) (r .n) 0 (λ k l h. rw (reference-is k (omega arith), ← m)))
 
   -- 35
-  pub all-faces : (z : ℕ) → z ≡ parent (treeOf b) s → everyFrom (refersFace (treeOf b) z b at w) n 0 ≡ allFaces (treeOf b) s
+  pub all-faces : (z : ℕ) → z ≡ parent (treeOf b) s → everyFrom (refersFace (treeOf b) z b (r .at) (r .width)) (r .n) 0 ≡ allFaces (treeOf b) s
   unfolding allFaces isFace faceNumber refersFace
   all-faces z m =
-      rw (← r) (every-same (refersFace (treeOf b) z b at w) (isFace (treeOf b) s) n 0 (λ k l h. rw (reference-is k (omega arith), ← m, ← e, ← q)))
+      rw long-is (every-same (refersFace (treeOf b) z b (r .at) (r .width)) (isFace (treeOf b) s) (r .n) 0 (λ k l h. rw (reference-is k (omega arith), ← m, ← o .wide)))
 
 -- 34 and 35 by the type
 module _ (t : Tree) (s : ℕ) {r : Bool} where

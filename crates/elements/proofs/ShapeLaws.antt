@@ -1,5 +1,5 @@
 -- Rules 29 to 32 of a section against rows of the image's bytes.
-use Prim.Native.Nat.{ℕ, zero, suc, _+_, _*_, _≤_, _<_}
+use Prim.Native.Nat.{ℕ, zero, suc, _+_, _*_, _-_, _≤_, _<_}
 use mathlib.Core.Path.{_≡_, refl, sym, ap, _∙_}
 use mathlib.Core.Bool.{Bool, true, false}
 use mathlib.Core.List.{List, []}
@@ -10,7 +10,7 @@ use borrow.Author.Tests.{ne-eqb, eq-eqb, lt-ltb, ltb-true, ltb-false}
 use Rattle.model.specs.Lists.{_⊃_, everyFrom}
 use Rattle.model.specs.Bytes.{le, numbers}
 use Rattle.model.specs.Rules.{check, passed, rejected, rejection}
-use Rattle.model.specs.Image.{Tree, nodeOf, nodesOf, treeOf, nodeCount, wordCount, node, dimensions, width}
+use Rattle.model.specs.Image.{Tree, nodeOf, nodesOf, treeOf, nodeCount, wordCount, node, dimensions}
 use Rattle.model.specs.Given.{Sound}
 use Rattle.model.specs.Containment.{found}
 use Rattle.model.specs.Values.{size, offsetsOf}
@@ -18,11 +18,11 @@ use Rattle.model.specs.Elements.{nodesPer, hasOffsets, elementType, elementCoun
 use Rattle.model.specs.Corner.{numberAt}
 use Rattle.model.proofs.Bounds.{node-placed}
 use Rattle.types.proofs.StoredNumbers.{rank-is, flat-is}
-use Rattle.elements.specs.Arrays.{Numbers, risesAt, offsetRules}
+use Rattle.rows.specs.declared.Row.{Row}
+use Rattle.elements.specs.Arrays.{risesAt, offsetRules}
 use Rattle.elements.specs.Groups.{shapeRules}
-use Rattle.elements.specs.Given.{Indexed, SectionContext}
-use Rattle.elements.proofs.Stored.{startOf}
-use Rattle.elements.proofs.RuleLaws.{row-of, number-of}
+use Rattle.elements.specs.Given.{Indexed, RowOf, SectionContext}
+use Rattle.elements.proofs.RuleLaws.{row-number}
 use Rattle.elements.proofs.Agree.{every-same}
 
 -- past the last node there are no dimensions
@@ -77,22 +77,22 @@ module _ (b : List ℕ) (s : ℕ) (h : hasOffsets (elementType (treeOf b) s) ≡
   unfolding shapeRules check lengthsFit
   offsets-short {r} p q = rw (h, ← e, ← o, ← p, ne-eqb r (n + 1) q)
 
-  module _ (g : Sound b) (a : Indexed b j) {at w : ℕ} (p : at ≡ startOf b j) (q : w ≡ width (treeOf b) j) (r : n + 1 ≡ size (treeOf b) j) where
-    pub offsets-row : Numbers b at w (n + 1)
-    offsets-row = row-of g a p q r
-
-    offset-is : (k : ℕ) → k < n + 1 → startOffset (treeOf b) s k ≡ numberAt b at w k
+  module _ (g : Sound b) {r : Row} (a : RowOf b j r) (q : r .n ≡ n + 1) where
+    offset-is : (k : ℕ) → k < n + 1 → startOffset (treeOf b) s k ≡ numberAt b (r .at) (r .width) k
     unfolding startOffset
-    offset-is k i = rw (← o) (number-of g a p q r k i)
+    offset-is k i = rw (← o) (row-number g a k (rw q i))
 
-    rise-same : (k : ℕ) → k < n → risesAt b at w k ≡ rises (treeOf b) s k
+    rise-same : (k : ℕ) → k < n → risesAt b (r .at) (r .width) k ≡ rises (treeOf b) s k
     unfolding risesAt rises
-    rise-same k i = rw (offset-is k (omega arith), offset-is (suc k) (omega arith), ← o, ← q)
+    rise-same k i = rw (offset-is k (omega arith), offset-is (suc k) (omega arith), ← o, ← a .wide)
 
-    all-same : everyFrom (risesAt b at w) n 0 ≡ allRise (treeOf b) s
+    all-same : everyFrom (risesAt b (r .at) (r .width)) n 0 ≡ allRise (treeOf b) s
     unfolding allRise
-    all-same = rw (← e) (every-same (risesAt b at w) (rises (treeOf b) s) n 0 (λ k x i. rise-same k (omega arith)))
+    all-same = rw (← e) (every-same (risesAt b (r .at) (r .width)) (rises (treeOf b) s) n 0 (λ k x i. rise-same k (omega arith)))
 
-    pub offsets-fit : check s (offsetRules b at w n m) ≡ check s (shapeRules (treeOf b) s)
+    pub offsets-fit : check s (offsetRules b (r .at) (r .width) (r .n - 1) m) ≡ check s (shapeRules (treeOf b) s)
     unfolding offsetRules shapeRules lengthsFit _⊃_ startsAtZero endsAtLength check
-    offsets-fit = rw (h, ← e, ← o, ← r, eq-eqb (n + 1) (n + 1) refl, offset-is 0 (omega arith), offset-is n (omega arith), ← l, all-same)
+    offsets-fit =
+        let x : r .n - 1 ≡ n = omega arith in
+        let y : size (treeOf b) j ≡ n + 1 = sym (a .long) ∙ q in
+        rw (x, h, ← e, ← o, y, eq-eqb (n + 1) (n + 1) refl, offset-is 0 (omega arith), offset-is n (omega arith), ← l, all-same)

@@ -9,8 +9,9 @@ use Rattle.model.specs.Image.{Tree, treeOf, number}
 use Rattle.model.specs.Values.{size, connectivityOf}
 use Rattle.model.specs.Elements.{taken, elementType, firstElement, lastElement, elementCount, connectivityLength, overlaps, elementRules}
 use Rattle.model.proofs.Staging.{broken, kept, check-append}
+use Rattle.rows.specs.declared.Row.{Row}
 use Rattle.elements.specs.Groups.{shapeRules, referenceRules}
-use Rattle.elements.specs.Given.{SectionContext}
+use Rattle.elements.specs.Given.{RowOf, SectionContext}
 
 module _ (t : Tree) (s : ℕ) where
   -- a section's type, and its number of elements and of references, as they were read
@@ -40,6 +41,10 @@ module _ (t : Tree) (s : ℕ) where
       unfolding elementRules shapeRules referenceRules
       arrays-left i f =
           f ∙ sym (kept s 27 _ (rw (← e) (sym q ∙ h)) ∙ (kept s 28 _ (ap not (sym p ∙ i)) ∙ check-append s (shapeRules t s) (referenceRules t s)))
+
+-- the row of a node that was looked up
+pub row-is : {b : List ℕ} {j : ℕ} → {k : ℕ} → j ≡ k → {r : Row} → RowOf b j r → RowOf b k r
+row-is e o = rw e at o
 
 -- the last element's number is no less than the first's
 pub up-read : {b : List ℕ} {s : ℕ} → SectionContext b s → {f l : ℕ} → f ≡ firstElement (treeOf b) s → l ≡ lastElement (treeOf b) s → f ≤ l

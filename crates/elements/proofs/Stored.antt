@@ -24,7 +24,7 @@ use Rattle.model.proofs.Conforming.{conforming-inside, conforming-type, conform
 use Rattle.words.specs.Width.{isWidth}
 use Rattle.types.specs.Given.{HasNumber}
 use Rattle.types.proofs.StoredNumbers.{whole-wide, shaped-is, flat-is, bytes-are}
-use Rattle.elements.specs.Arrays.{Numbers}
+use Rattle.rows.specs.Rows.{Numbers}
 use Rattle.elements.specs.Given.{Stores, Indexed, Ranged}
 
 -- where a node's numbers start

@@ -1,19 +1,16 @@
 -- Rows of numbers in bytes, and what rules 31, 34 and 35 ask of each number of a row.
-use Prim.Native.Nat.{ℕ, suc, _+_, _*_, _≤_}
-use mathlib.Core.Bool.{Bool, _&&_}
+use Prim.Native.Nat.{ℕ, suc, _≤_, _<_}
+use mathlib.Core.Path.{_≡_}
+use mathlib.Core.Bool.{Bool, true, _&&_, _||_}
 use mathlib.Core.List.{List, [], _∷_}
-use lib.ListN.{length}
-use lib.Dec.{T, eqb, leb}
-use Rattle.words.specs.Width.{isWidth}
+use lib.Dec.{eqb, leb}
 use Rattle.model.specs.Lists.{everyFrom}
 use Rattle.model.specs.Rules.{Rule, _unless_}
-use Rattle.model.specs.Bytes.{below}
+use Rattle.model.specs.Bytes.{below, magnitude}
 use Rattle.model.specs.Corner.{numberAt}
-
--- n numbers of 4 or 8 bytes from a place on lie inside the bytes
-pub record Numbers (b : List ℕ) (at w n : ℕ) : Type 0 where
-  pub wide : T (isWidth w)
-  pub inside : at + w * n ≤ length b
+use Rattle.rows.specs.declared.Row.{Row}
+use Rattle.ranges.specs.declared.Interval.{Interval}
+use Rattle.ranges.specs.Tables as Tables
 
 -- 31: number k is below the next
 unfoldable pub risesAt : List ℕ → ℕ → ℕ → ℕ → Bool
@@ -30,3 +27,13 @@ offsetRules b at w n size =
 -- 34: number k lies in 1 to limit
 unfoldable pub isWithin : List ℕ → ℕ → ℕ → ℕ → ℕ → Bool
 isWithin b at w limit k = leb 1 (numberAt b at w k) && leb (numberAt b at w k) limit
+
+-- one of two intervals holds f
+abbrev pub isKnown : Interval → Interval → ℕ → Bool
+isKnown last before f = Tables.isWithin last f || Tables.isWithin before f
+
+-- the magnitudes of the numbers of a row from k to j are in one of two intervals
+pub record Skipped (b : List ℕ) (row : Row) (last before : Interval) (k j : ℕ) : Type 0 where
+  pub from : k ≤ j
+  pub to : j ≤ row .n
+  pub skips : (i : ℕ) → k ≤ i → i < j → isKnown last before (magnitude (row .width) (numberAt b (row .at) (row .width) i)) ≡ true

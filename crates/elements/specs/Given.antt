@@ -1,5 +1,5 @@
 -- What the functions here are given, in place of tests that were made before them.
-use Prim.Native.Nat.{ℕ, _*_, _≤_, _<_}
+use Prim.Native.Nat.{ℕ, _+_, _*_, _≤_, _<_}
 use mathlib.Core.Path.{_≡_}
 use mathlib.Core.Bool.{Bool, true}
 use mathlib.Core.List.{List}
@@ -11,6 +11,7 @@ use Rattle.model.specs.Containment.{role, found, Elements}
 use Rattle.model.specs.Values.{flat, rangeOf, offsetsOf, connectivityOf, size, maxNumber}
 use Rattle.model.specs.Elements.{firstElement, lastElement, faceOf}
 use Rattle.words.specs.Width.{isWidth}
+use Rattle.rows.specs.declared.Row.{Row}
 use Rattle.index.specs.Index.{kind}
 use Rattle.types.specs.Given.{HasNumber}
 
@@ -24,6 +25,13 @@ pub record Stores (b : List ℕ) (j n : ℕ) : Type 0 where
 pub record Indexed (b : List ℕ) (j : ℕ) : Type 0 where
   pub numbers : Stores b j (size (treeOf b) j)
   pub one-dimension : flat (treeOf b) j ≡ true
+
+-- a row has the numbers of node j
+pub record RowOf (b : List ℕ) (j : ℕ) (r : Row) : Type 0 where
+  pub indexed : Indexed b j
+  pub starts : r .at ≡ treeOf b .areaAt + node (treeOf b) j .dataAt
+  pub wide : r .width ≡ width (treeOf b) j
+  pub long : r .n ≡ size (treeOf b) j
 
 -- the ElementRange of section s conforms
 pub record Ranged (b : List ℕ) (s : ℕ) : Type 0 where

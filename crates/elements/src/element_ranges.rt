@@ -16,9 +16,8 @@ ghost use Rattle.elements.specs.Given.{Ranged};
 ghost use Rattle.elements.specs.Ranges.{isRanged, firstKey, lastKey, overlapAt, RangeOf, Faces};
 use element_types::NGON;
 use labels::roles::ELEMENTS;
+use records::data_types::I4;
 use sids::range_of;
-
-const I4_TYPE: u64 = 4;
 
 // How many entries the tables have room for: a section that counts has a child of its own, so that an image has no more.
 pub const ROOM: usize = 2048;
@@ -28,7 +27,7 @@ fn is_ngon(image: &[u8], i: usize) -> bool
     requires { ⌜ (Sound (now image) × (i < nodeCount (now image))) × (role (treeOf (now image)) i ≡ Elements) ⌝ }
     ensures { λ r. ⌜ r ≡ (typeLawful (treeOf (now (image .entry))) i && valueLawful (treeOf (now (image .entry))) i && eqb (elementType (treeOf (now (image .entry))) i) NGON) ⌝ }
 {
-    if !types::typed(image, i, I4_TYPE) {
+    if !types::typed(image, i, I4) {
         return false;
     }
     if !types::shaped(image, i, 1, [2, 0, 0]) {
@@ -76,6 +75,7 @@ fn keys_of(image: &[u8], i: usize, range: usize) -> Keys
     requires { ⌜ (Sound (now image) × (i < nodeCount (now image))) × (parent (treeOf (now image)) i < nodeCount (now image)) ⌝ }
     requires { ⌜ (range ≡ rangeOf (treeOf (now image)) i) × Ranged (now image) i ⌝ }
     ensures { λ r. ⌜ (r .first ≡ firstKey (treeOf (now (image .entry))) i) × (r .last ≡ lastKey (treeOf (now (image .entry))) i) ⌝ }
+    ensures { λ r. ⌜ (r .first < 17592186044416) × (r .last < 17592186044416) ⌝ }
 {
     let zone = records::parent_of(image, i);
     let first = ranges::key(zone, types::whole(image, range, 0));

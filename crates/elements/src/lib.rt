@@ -1,10 +1,7 @@
-// Rules 27 to 35: the type, the range, the start offsets and the references of a section.
-pub mod arrays; // arrays.rt: rows of numbers of 4 or 8 bytes; start offsets and node references
+// Rules 27 to 35: the type, the range, the lengths, the start offsets and the references of a section.
 mod element_ranges; // element_ranges.rt: the ranges of sections; rule 28
-mod offsets; // offsets.rt: rules 30 to 32
-mod faces; // faces.rt: rule 35
-mod references; // references.rt: rules 34 and 35
 mod lengths; // lengths.rt: rules 29 to 32
+mod references; // references.rt: rules 34 and 35
 mod stage; // stage.rt: rules 27 to 35 together
 
 pub use element_ranges::ROOM;

@@ -1,68 +1,156 @@
 // Rules 34 and 35: what the connectivity of a section refers to.
 ghost use mathlib.Core.Path.{_≡_};
-ghost use Rattle.model.specs.Image.{treeOf, width};
-ghost use Rattle.model.specs.Bounds.{Laid};
+ghost use mathlib.Core.Bool.{_&&_};
+ghost use Prim.Native.Nat.{_+_, _≤_, _<_};
+ghost use lib.ListN.{length};
+ghost use Rattle.model.specs.Lists.{everyFrom};
+ghost use Rattle.model.specs.Image.{treeOf, nodeCount};
 ghost use Rattle.model.specs.Given.{Sound};
-ghost use Rattle.model.specs.Image.{nodeCount};
 ghost use Rattle.model.specs.Values.{connectivityOf};
-ghost use Rattle.model.specs.Elements.{elementType, connectivityLength, allNodes, allFaces};
+ghost use Rattle.model.specs.Elements.{elementType, allNodes, allFaces};
 ghost use Rattle.model.specs.Rules.{check};
 ghost use Rattle.model.specs.Answers.{stageTells};
-ghost use Rattle.elements.specs.Given.{SectionContext};
+ghost use Rattle.rows.specs.Rows.{Numbers};
+ghost use Rattle.elements.specs.Arrays.{isWithin, isKnown, Skipped};
+ghost use Rattle.elements.specs.Given.{RowOf, SectionContext, refersFace};
 ghost use Rattle.elements.specs.Ranges.{Faces};
-ghost use lib.ListN as ListN;
 ghost use Rattle.elements.specs.Groups.{referenceRules};
-ghost use Prim.Native.Nat.{_≤_, _<_};
-use super::arrays::all_within;
-use super::faces::all_refer;
 use element_types::NFACE;
 use model::Rejection;
 use model::Stage;
+use ranges::Interval;
+use rows::Row;
 
-// The width in bytes of what node j stores.
-pub fn width_at(image: &[u8], j: usize) -> usize
-    requires { ⌜ Laid (now image) × (j < nodeCount (now image)) ⌝ }
-    ensures { λ r. ⌜ (r ≡ width (treeOf (now (image .entry))) j) × (r ≤ 16) ⌝ }
+// Does number k of a row lie in 1 to limit?
+fn is_within(image: &[u8], row: Row, limit: u64, k: usize) -> bool
+    requires { ⌜ Numbers (now image) (row .at) (row .width) (row .n) × (k < row .n) ⌝ }
+    ensures { λ r. ⌜ r ≡ isWithin (now (image .entry)) (row .at) (row .width) limit k ⌝ }
 {
-    records::width_of(records::data_type_of(image, j)) as usize
+    let x = rows::number_at(image, row, k);
+    if x < 1 {
+        return false;
+    }
+    x <= limit
 }
 
-// Rule 34: every reference of section s is a node of its zone.
-fn nodes_lawful(image: &[u8], s: usize, connectivity: usize, length: u64) -> bool
+// Do numbers k and k + 1 of a row lie in 1 to limit?
+fn two_within(image: &[u8], row: Row, limit: u64, k: usize) -> bool
+    requires { ⌜ Numbers (now image) (row .at) (row .width) (row .n) × (k + 1 < row .n) ⌝ }
+    ensures { λ r. ⌜ r ≡ (isWithin (now (image .entry)) (row .at) (row .width) limit k && isWithin (now (image .entry)) (row .at) (row .width) limit (k + 1)) ⌝ }
+{
+    if !is_within(image, row, limit, k) {
+        return false;
+    }
+    is_within(image, row, limit, k + 1)
+}
+
+// Rule 34: does every number of a row lie in 1 to limit? Two at a time: the loop takes as long wherever the linker puts it.
+fn all_within(image: &[u8], row: Row, limit: u64) -> bool
+    requires { ⌜ Numbers (now image) (row .at) (row .width) (row .n) ⌝ }
+    ensures { λ r. ⌜ r ≡ everyFrom (isWithin (now (image .entry)) (row .at) (row .width) limit) (row .n) 0 ⌝ }
+{
+    let n = row.n;
+    let mut k: usize = 0;
+    while 1 < n - k {
+        if !two_within(image, row, limit, k) {
+            return false;
+        }
+        k += 2;
+    }
+    if k < n {
+        return is_within(image, row, limit, k);
+    }
+    true
+}
+
+// Rule 34: every reference of section s, those of the row, is a node of its zone.
+fn nodes_lawful(image: &[u8], s: usize, row: Row) -> bool
     requires { ⌜ Sound (now image) × SectionContext (now image) s ⌝ }
-    requires { ⌜ (connectivity ≡ connectivityOf (treeOf (now image)) s) × (length ≡ connectivityLength (treeOf (now image)) s) ⌝ }
+    requires { ⌜ RowOf (now image) (connectivityOf (treeOf (now image)) s) row ⌝ }
     ensures { λ r. ⌜ r ≡ allNodes (treeOf (now (image .entry))) s ⌝ }
 {
-    let at = records::data_start(image, connectivity);
-    let width = width_at(image, connectivity);
     let vertices = types::whole(image, records::parent_of(image, s), 0);
-    all_within(image, at, width, length as usize, vertices)
+    all_within(image, row, vertices)
 }
 
-// Rule 35: every reference of section s is a face of its zone.
+// Does one of two intervals hold f?
+fn is_known(last: Interval, before: Interval, f: u64) -> bool
+    requires { ⌜ (last .low + last .size ≤ 4294967296) × (before .low + before .size ≤ 4294967296) ⌝ }
+    ensures { λ r. ⌜ r ≡ isKnown last before f ⌝ }
+{
+    ranges::within(last, f) || ranges::within(before, f)
+}
+
+// The first number of a row, from k on, whose magnitude is in neither of two intervals; how many there are where each is.
+fn first_outside(image: &[u8], row: Row, k: usize, last: Interval, before: Interval) -> usize
+    requires { ⌜ Numbers (now image) (row .at) (row .width) (row .n) × (k ≤ row .n) ⌝ }
+    requires { ⌜ (last .low + last .size ≤ 4294967296) × (before .low + before .size ≤ 4294967296) ⌝ }
+    ensures { λ r. ⌜ Skipped (now (image .entry)) row last before k r ⌝ }
+{
+    let n = row.n;
+    let mut j = k;
+    while j < n {
+        if !is_known(last, before, rows::magnitude_at(image, row, j)) {
+            return j;
+        }
+        j += 1;
+    }
+    j
+}
+
+// Rule 35: does every number of a row refer to a face of zone z? The numbers around the last two that were looked up are known.
+fn all_refer(
+    image: &[u8],
+    z: usize,
+    row: Row,
+    firsts: &[u64],
+    reach: &[u64],
+    count: usize,
+    hints: &mut [u16],
+) -> bool
+    requires { ⌜ Sound (now image) × (z < nodeCount (now image)) ⌝ }
+    requires { ⌜ Numbers (now image) (row .at) (row .width) (row .n) × Faces (treeOf (now image)) (now firsts) (now reach) count ⌝ }
+    requires { ⌜ 4096 ≤ length (now hints) ⌝ }
+    ensures { λ r. ⌜ r ≡ everyFrom (refersFace (treeOf (now (image .entry))) z (now (image .entry)) (row .at) (row .width)) (row .n) 0 ⌝ }
+{
+    let shift = ranges::shift_for(firsts, reach, count);
+    let n = row.n;
+    let mut last = Interval { low: 0, size: 0 };
+    let mut k: usize = 0;
+    while k < n {
+        let f = rows::magnitude_at(image, row, k);
+        if types::MAX_NUMBER < f {
+            return false;
+        }
+        let next = ranges::interval_around(firsts, reach, count, hints, shift, z, f);
+        if next.size == 0 {
+            return false;
+        }
+        k = first_outside(image, row, k + 1, next, last);
+        last = next;
+    }
+    true
+}
+
+// Rule 35: every reference of section s, those of the row, is a face of its zone.
 fn faces_lawful(
     image: &[u8],
     s: usize,
-    connectivity: usize,
-    length: u64,
+    row: Row,
     firsts: &[u64],
     reach: &[u64],
     faces: usize,
     hints: &mut [u16],
 ) -> bool
     requires { ⌜ Sound (now image) × SectionContext (now image) s ⌝ }
-    requires { ⌜ (connectivity ≡ connectivityOf (treeOf (now image)) s) × (length ≡ connectivityLength (treeOf (now image)) s) ⌝ }
-    requires { ⌜ Faces (treeOf (now image)) (now firsts) (now reach) faces × (4096 ≤ ListN.length (now hints)) ⌝ }
+    requires { ⌜ RowOf (now image) (connectivityOf (treeOf (now image)) s) row ⌝ }
+    requires { ⌜ Faces (treeOf (now image)) (now firsts) (now reach) faces × (4096 ≤ length (now hints)) ⌝ }
     ensures { λ r. ⌜ r ≡ allFaces (treeOf (now (image .entry))) s ⌝ }
 {
-    let at = records::data_start(image, connectivity);
-    let width = width_at(image, connectivity);
     all_refer(
         image,
         records::parent_of(image, s),
-        at,
-        width,
-        length as usize,
+        row,
         firsts,
         reach,
         faces,
@@ -70,31 +158,29 @@ fn faces_lawful(
     )
 }
 
-// Rules 34 and 35 at section s of type `kind`.
+// Rules 34 and 35 at section s, whose references are those of the row.
 pub fn reference_stage(
     image: &[u8],
     s: usize,
-    kind: u64,
-    connectivity: usize,
-    length: u64,
+    element_type: u64,
+    row: Row,
     firsts: &[u64],
     reach: &[u64],
     faces: usize,
     hints: &mut [u16],
 ) -> Stage
     requires { ⌜ Sound (now image) × SectionContext (now image) s ⌝ }
-    requires { ⌜ (connectivity ≡ connectivityOf (treeOf (now image)) s) × (length ≡ connectivityLength (treeOf (now image)) s) ⌝ }
-    requires { ⌜ kind ≡ elementType (treeOf (now image)) s ⌝ }
-    requires { ⌜ Faces (treeOf (now image)) (now firsts) (now reach) faces × (4096 ≤ ListN.length (now hints)) ⌝ }
+    requires { ⌜ RowOf (now image) (connectivityOf (treeOf (now image)) s) row × («element_type» ≡ elementType (treeOf (now image)) s) ⌝ }
+    requires { ⌜ Faces (treeOf (now image)) (now firsts) (now reach) faces × (4096 ≤ length (now hints)) ⌝ }
     ensures { λ r. ⌜ stageTells r ≡ check s (referenceRules (treeOf (now (image .entry))) s) ⌝ }
 {
-    if kind == NFACE {
-        if faces_lawful(image, s, connectivity, length, firsts, reach, faces, hints) {
+    if element_type == NFACE {
+        if faces_lawful(image, s, row, firsts, reach, faces, hints) {
             return Stage::Pass;
         }
         return Stage::Rejected(Rejection::at(35, s as u64));
     }
-    if nodes_lawful(image, s, connectivity, length) {
+    if nodes_lawful(image, s, row) {
         return Stage::Pass;
     }
     Stage::Rejected(Rejection::at(34, s as u64))

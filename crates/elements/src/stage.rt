@@ -15,8 +15,8 @@ ghost use Rattle.index.specs.Index.{Index};
 ghost use Rattle.elements.specs.Ranges.{overlapAt, Faces};
 ghost use Rattle.elements.specs.Given.{SectionContext};
 ghost use Rattle.elements.specs.Groups.{shapeRules, referenceRules};
+use super::lengths::row_of;
 use super::lengths::shape_stage;
-use super::lengths::size_of;
 use super::references::reference_stage;
 use element_types::is_supported;
 use model::Rejection;
@@ -24,12 +24,12 @@ use model::Stage;
 use sids::connectivity_of;
 use sids::range_of;
 
-// Rules 29 to 35 at section s of type `kind`, with n elements.
+// Rules 29 to 35 at section s, with n elements.
 fn array_stage(
     image: &[u8],
     index: &[u16],
     s: usize,
-    kind: u64,
+    element_type: u64,
     n: u64,
     firsts: &[u64],
     reach: &[u64],
@@ -37,27 +37,16 @@ fn array_stage(
     hints: &mut [u16],
 ) -> Stage
     requires { ⌜ Index (now image) (now index) × SectionContext (now image) s ⌝ }
-    requires { ⌜ (kind ≡ elementType (treeOf (now image)) s) × (n ≡ elementCount (treeOf (now image)) s) ⌝ }
+    requires { ⌜ («element_type» ≡ elementType (treeOf (now image)) s) × (n ≡ elementCount (treeOf (now image)) s) ⌝ }
     requires { ⌜ Faces (treeOf (now image)) (now firsts) (now reach) faces × (4096 ≤ length (now hints)) ⌝ }
     ensures { λ r. ⌜ stageTells r ≡ (check s (shapeRules (treeOf (now (image .entry))) s) then check s (referenceRules (treeOf (now (image .entry))) s)) ⌝ }
 {
-    let connectivity = connectivity_of(image, index, s);
-    let size = size_of(image, connectivity);
-    let shape = shape_stage(image, index, s, kind, n, size);
+    let row = row_of(image, connectivity_of(image, index, s));
+    let shape = shape_stage(image, index, s, element_type, n, row.n as u64);
     let Stage::Pass = shape else {
         return shape;
     };
-    reference_stage(
-        image,
-        s,
-        kind,
-        connectivity,
-        size,
-        firsts,
-        reach,
-        faces,
-        hints,
-    )
+    reference_stage(image, s, element_type, row, firsts, reach, faces, hints)
 }
 
 // Rules 27 to 35 at section s, to which validation has come, and where rules 20 to 26 hold. `overlap` is the first node that breaks rule 28; the tables
@@ -79,8 +68,8 @@ pub fn element_stage(
     requires { ⌜ Faces (treeOf (now image)) (now firsts) (now reach) faces × (4096 ≤ length (now hints)) ⌝ }
     ensures { λ r. ⌜ stageTells r ≡ check s (elementRules (treeOf (now (image .entry))) s) ⌝ }
 {
-    let kind = types::whole(image, s, 0);
-    if !is_supported(kind) {
+    let element_type = types::whole(image, s, 0);
+    if !is_supported(element_type) {
         return Stage::Rejected(Rejection::at(27, s as u64));
     }
     if s == overlap {
@@ -93,7 +82,7 @@ pub fn element_stage(
         image,
         index,
         s,
-        kind,
+        element_type,
         last - first + 1,
         firsts,
         reach,

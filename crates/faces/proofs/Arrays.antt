@@ -24,17 +24,15 @@ use Rattle.index.specs.Index.{Index}
 use Rattle.types.proofs.StoredNumbers.{rank-is}
 use Rattle.elements.specs.Given.{Stores, Indexed}
 use Rattle.elements.proofs.Stored.{startOf, stores-row, stores-number, connectivity-stores, offsets-stores}
-use Rattle.faces.specs.declared.zone_sections.Span.{Span}
-use Rattle.faces.specs.ZoneSections.{Cells, Spans}
+use Rattle.face_places.specs.declared.zone_sections.Span.{Span}
+use Rattle.face_places.specs.ZoneSections.{Cells, Spans}
 use Rattle.faces.specs.Uses.{RowOf, References}
-use Rattle.faces.proofs.Accepted.{section-by, own-zone, count-read, cells-faces}
+use Rattle.face_places.proofs.Accepted.{section-by, own-zone, count-read, cells-faces}
 
 -- the numbers of node j, as they were read
 pub row-read : {b : List ℕ} → Sound b → {j n : ℕ} → Stores b j n → {at w : ℕ} → at ≡ startOf b j → w ≡ width (treeOf b) j
     → RowOf b j n (record { at = at; width = w; n = n })
-row-read s g p q =
-    let x = stores-row s g in
-    rw (p, q) (record { long = refl; numbers = record { wide = x .wide; inside = x .inside }; wide = refl; stored = stores-number s g })
+row-read s g p q = rw (p, q) (record { long = refl; numbers = stores-row s g; wide = refl; stored = stores-number s g })
 
 -- two searches with tests that agree
 seek-same : (p q : ℕ → Bool) (k i : ℕ) → ((j : ℕ) → i ≤ j → j < i + k → p j ≡ q j) → seekFrom p k i ≡ seekFrom q k i

@@ -1,5 +1,3 @@
-pub mod Accepted
-pub mod Gathering
 pub mod Arrays
 pub mod Runs
 pub mod Whole

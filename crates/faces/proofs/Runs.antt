@@ -21,7 +21,7 @@ use Rattle.rows.specs.declared.Row.{Row}
 use Rattle.ledger.specs.Marks.{signOf, afterUse}
 use Rattle.faces.specs.Uses.{Tables, UsedAt, used, Used, Reference}
 use Rattle.faces.specs.declared.uses.Faces.{Faces}
-use Rattle.faces.proofs.Accepted.{place-below}
+use Rattle.face_places.proofs.Accepted.{place-below}
 
 -- memory of the same length serves the tables as well
 pub tables-kept : {b : List ℕ} {f : Faces} {firsts reach places : List ℕ} {h o h′ o′ : ℕ} → Tables b f firsts reach places h o → h′ ≡ h → o′ ≡ o

@@ -21,7 +21,7 @@ use Rattle.model.proofs.Logic.{and-first}
 use Rattle.model.proofs.Passed.{refused, into-value}
 use Rattle.model.proofs.Conforming.{section-is}
 use Rattle.faces.specs.Uses.{used, Used}
-use Rattle.faces.proofs.Accepted.{place-below, cells-faces}
+use Rattle.face_places.proofs.Accepted.{place-below, cells-faces}
 
 -- bytes behind those that a run left
 abbrev pub behind : List ℕ → Answer (List ℕ) → Answer (List ℕ)

@@ -1,3 +1,1 @@
-pub mod ZoneSections
-pub mod Ranges
 pub mod Uses

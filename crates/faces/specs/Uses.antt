@@ -18,8 +18,8 @@ use Rattle.rows.specs.declared.Row.{Row}
 use Rattle.rows.specs.Rows.{Numbers}
 use Rattle.ledger.specs.Marks.{signOf, afterUse}
 use Rattle.faces.specs.declared.uses.Faces.{Faces}
-use Rattle.faces.specs.ZoneSections.{Cells}
-use Rattle.faces.specs.Ranges.{Ranges}
+use Rattle.face_places.specs.ZoneSections.{Cells}
+use Rattle.face_places.specs.Ranges.{Ranges}
 
 -- the tables hold the faces of a zone, and there is room for the hints and for a byte a face
 pub record Tables (b : List ℕ) (f : Faces) (firsts reach places : List ℕ) (hints out : ℕ) : Type 0 where

@@ -6,11 +6,11 @@ ghost use Rattle.model.specs.Given.{Sound, Accepted};
 ghost use Rattle.model.specs.FaceUsage.{elementHolding};
 ghost use Rattle.elements.specs.Given.{Stores};
 ghost use Rattle.index.specs.Index.{Index};
-ghost use Rattle.faces.specs.ZoneSections.{Cells};
+ghost use Rattle.face_places.specs.ZoneSections.{Cells};
 ghost use Rattle.faces.specs.Uses.{RowOf, References};
-use super::zone_sections::has_type;
-use super::zone_sections::span_of;
 use element_types::NFACE;
+use face_places::zone_sections::has_type;
+use face_places::zone_sections::span_of;
 use rows::Row;
 
 // The n numbers of node j.

@@ -9,8 +9,6 @@ ghost use Rattle.model.specs.Validation.{imageCheck};
 ghost use Rattle.index.specs.Index.{Index};
 
 mod cells; // cells.rt: the references of the zone's cells
-mod places; // places.rt: the zone's faces by ranges, and their places
-mod zone_sections; // zone_sections.rt: the sections of a zone by type
 mod uses; // uses.rt: the references, one after the other
 mod zone; // zone.rt: a zone's usage
 

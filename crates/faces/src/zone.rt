@@ -12,9 +12,9 @@ ghost use Rattle.model.specs.Containment.{isZone};
 ghost use Rattle.model.specs.FaceUsage.{faceCount, usage, usageBytes, usageAnswer, usageMemory};
 ghost use Rattle.index.specs.Index.{Index};
 ghost use Rattle.faces.specs.Uses.{Tables};
-use super::places::gather;
 use super::uses::Faces;
 use super::uses::use_nodes;
+use face_places::places::gather;
 use ledger::clear;
 use model::FaceUsage;
 use model::Rejection;
@@ -69,7 +69,7 @@ pub fn zone_usage(
     if (out.len() as u64) < places[count] {
         return FaceUsage::Rejected(Rejection::at(44, 0));
     }
-    let shift = ranges::shift_for(ranges::top_of(firsts, reach, count, 0));
+    let shift = ranges::shift_for(firsts, reach, count);
     let faces = Faces {
         zone: z,
         count,

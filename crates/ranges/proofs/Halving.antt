@@ -1,13 +1,13 @@
 -- The search by halving: the last entry that begins no later than a range ends decides whether one meets it.
-use Prim.Native.Nat.{ℕ, zero, suc, _+_, _-_, _≤_, _<_}
-use mathlib.Core.Path.{_≡_, sym, _∙_}
-use mathlib.Core.Bool.{true}
+use Prim.Native.Nat.{ℕ, zero, suc, _+_, _*_, _-_, _≤_, _<_}
+use mathlib.Core.Path.{_≡_, refl, sym, _∙_}
+use mathlib.Core.Bool.{Bool, true, false, cond}
 use mathlib.Core.List.{List}
 use native.Mathlib.Omega.{arith}
 use native.Mathlib.Decide.{ℕ-discrete, decLt}
 use lib.Dec.{ltb, leb}
 use lib.ListN.{getD}
-use borrow.Author.Tests.{lt-ltb, ltb-true, leb-true, le-leb}
+use borrow.Author.Tests.{lt-ltb, ltb-true, leb-true, leb-false, le-leb}
 use Rattle.model.specs.Lists.{someFrom}
 use Rattle.model.proofs.Logic.{and-first, and-second, and-both}
 use Rattle.model.proofs.Walks.{some-at, some-by}
@@ -27,21 +27,25 @@ pub begun-start : (s : List ℕ) (n f : ℕ) → Begun s n f 0 n
 begun-start s n f = omega arith
 
 module _ {s : List ℕ} {n f from left half : ℕ} (b : Begun s n f from left) (r : Rising s n) (z : 1 ≤ half) (h : half + half ≤ left + 1) where
-  pub begun-up : getD s (from + half - 1) 0 ≤ f → Begun s n f (from + half) (left - half)
-  begun-up l =
-      record {
-        inside = omega arith;
-        begins = λ i u. omega (arith, rising r i (from + half - 1) (omega arith) (omega arith));
-        later = λ i k u. b .later i (omega arith) u;
-      }
-
-  pub begun-down : f < getD s (from + half - 1) 0 → Begun s n f from (left - half)
-  begun-down l =
-      record {
-        inside = omega arith;
-        begins = b .begins;
-        later = λ i k u. omega (arith, rising r (from + half - 1) i (omega arith) u);
-      }
+  -- c tells whether the entry in the middle begins no later
+  pub begun-half : {c : ℕ} → c ≡ cond (leb (getD s (from + half - 1) 0) f) 1 0 → Begun s n f (from + half * c) (left - half)
+  begun-half e = rw e (by-test (leb (getD s (from + half - 1) 0) f) refl)
+    where
+      by-test : (t : Bool) → leb (getD s (from + half - 1) 0) f ≡ t → Begun s n f (from + half * cond t 1 0) (left - half)
+      by-test true t =
+          let l = leb-true _ f t in
+          record {
+            inside = omega arith;
+            begins = λ i u. omega (arith, rising r i (from + half - 1) (omega arith) (omega arith));
+            later = λ i k u. b .later i (omega arith) u;
+          }
+      by-test false t =
+          let l = leb-false _ f t in
+          record {
+            inside = omega arith;
+            begins = λ i u. b .begins i (omega arith);
+            later = λ i k u. omega (arith, rising r (from + half - 1) i (omega arith) u);
+          }
 
 module _ (firsts reach : List ℕ) (a c : ℕ) where
   pub met : (i : ℕ) → meetsAt firsts reach a c i ≡ true → (getD firsts i 0 ≤ c) × (a ≤ getD reach i 0)

@@ -1,11 +1,12 @@
 -- Ranges of numbers in two tables, in ascending order of their first numbers: firsts[j], and reach[j], the greatest last number of the ranges up to j.
-use Prim.Native.Nat.{ℕ, suc, _+_, _*_, _≤_, _<_}
+use Prim.Native.Nat.{ℕ, suc, _+_, _*_, _≤_, _<_, max}
 use mathlib.Core.Path.{_≡_}
-use mathlib.Core.Bool.{Bool, _&&_, _||_}
-use mathlib.Core.List.{List, _∷_}
+use mathlib.Core.Bool.{Bool, true, _&&_, _||_}
+use mathlib.Core.List.{List}
 use lib.ListN.{length, getD}
-use lib.Dec.{leb}
+use lib.Dec.{leb, ltb}
 use Rattle.model.specs.Lists.{someFrom, countFrom}
+use Rattle.ranges.specs.declared.Interval.{Interval}
 
 -- the number of an element with its zone, so that one table serves all zones of an image
 unfoldable pub key : ℕ → ℕ → ℕ
@@ -28,9 +29,14 @@ pub record Rising (s : List ℕ) (n : ℕ) : Type 0 where
   pub room : n ≤ length s
   pub rises : (i : ℕ) → suc i < n → getD s i 0 ≤ getD s (suc i) 0
 
+-- first numbers rise, and are below half of 64 bits, so that a difference tells which of two is greater
+pub record Firsts (s : List ℕ) (n : ℕ) : Type 0 where
+  pub rise : Rising s n
+  pub small : (i : ℕ) → i < n → getD s i 0 < 9223372036854775808
+
 -- both tables rise
 pub record Ordered (firsts reach : List ℕ) (n : ℕ) : Type 0 where
-  pub firsts-rise : Rising firsts n
+  pub firsts-rise : Firsts firsts n
   pub reach-rises : Rising reach n
 
 -- of n entries the first r begin no later than f, those after the next `left` later
@@ -39,11 +45,10 @@ pub record Begun (firsts : List ℕ) (n f r left : ℕ) : Type 0 where
   pub begins : (i : ℕ) → i < r → getD firsts i 0 ≤ f
   pub later : (i : ℕ) → r + left ≤ i → i < n → f < getD firsts i 0
 
--- a table whose entries from a place to n hold what stood one before, changed by g; 0 stands before the first
-pub record Shifted (g : ℕ → ℕ) (old new : List ℕ) (n place : ℕ) : Type 0 where
-  pub long : length new ≡ length old
+-- a table whose entries from a place to n are raised to `least` where they were below
+pub record Raised (least : ℕ) (old new : List ℕ) (n place : ℕ) : Type 0 where
   pub before : (i : ℕ) → i < place → getD new i 0 ≡ getD old i 0
-  pub after : (i : ℕ) → place ≤ i → i ≤ n → getD new i 0 ≡ g (getD (0 ∷ old) i 0)
+  pub after : (i : ℕ) → place ≤ i → i < n → getD new i 0 ≡ max (getD old i 0) least
 
 -- x put at a place of a table of n entries, those after it moved up by one
 pub record Placed (x : ℕ) (old new : List ℕ) (n place : ℕ) : Type 0 where
@@ -57,6 +62,15 @@ pub record Inserted (firsts reach : List ℕ) (n first last : ℕ) (firsts′ re
   pub placed : Placed first firsts firsts′ n place
   pub ordered : Ordered firsts′ reach′ (n + 1)
   pub meets : (a c : ℕ) → someFrom (meetsAt firsts′ reach′ a c) (n + 1) 0 ≡ (someFrom (meetsAt firsts reach a c) n 0 || (leb first c && leb a last))
+
+-- an interval holds f
+unfoldable pub isWithin : Interval → ℕ → Bool
+isWithin r f = leb (r .low) f && ltb f (r .low + r .size)
+
+-- an interval of a zone's numbers, all of them in ranges
+pub record Covered (firsts reach : List ℕ) (n zone : ℕ) (r : Interval) : Type 0 where
+  pub small : r .low + r .size ≤ 4294967296
+  pub covered : (g : ℕ) → isWithin r g ≡ true → inRanges firsts reach n (key zone g) ≡ true
 
 -- section s meets the test, and its range the numbers from first to last
 unfoldable pub meetsSection : (ℕ → Bool) → (ℕ → ℕ) → (ℕ → ℕ) → ℕ → ℕ → ℕ → Bool

@@ -1,30 +1,25 @@
 // Ranges of numbers in two tables, in ascending order of their first numbers, found by halving; ranges may overlap.
 // Entry j begins with firsts[j]; reach[j] is the greatest last number of the entries up to j.
 ghost use mathlib.Core.Path.{_≡_};
-ghost use mathlib.Core.Bool.{true};
+ghost use mathlib.Core.Bool.{true, cond};
 ghost use mathlib.Core.List.{_∷_};
-ghost use Prim.Native.Nat.{_≤_, _<_, max};
-ghost use lib.Dec.{ltb};
+ghost use Prim.Native.Nat.{ℕ, suc, _+_, _-_, _≤_, _<_, max, min};
+ghost use lib.Dec.{ltb, leb};
 ghost use lib.ListN.{length, getD};
 ghost use Rattle.model.specs.Lists.{someFrom};
-ghost use Rattle.ranges.specs.Tables.{key, meetsAt, holds, inRanges, Rising, Ordered, Begun, Shifted, Inserted};
+ghost use Rattle.ranges.specs.Tables.{key, meetsAt, holds, inRanges, Firsts, Ordered, Begun, Raised, Placed, Inserted, isWithin, Covered};
+use std::num::wrapping_add_u64;
+use std::num::wrapping_sub_u64;
 
 // The number of an element with its zone, so that one table serves all zones of an image.
 pub fn key(zone: usize, number: u64) -> u64
     requires { ⌜ (zone < 4096) × (number < 4294967296) ⌝ }
-    ensures { λ r. ⌜ r ≡ key zone number ⌝ }
+    ensures { λ r. ⌜ (r ≡ key zone number) × (r < 17592186044416) ⌝ }
 {
     4294967296 * zone as u64 + number
 }
 
-// The greater of two numbers.
-fn greater(x: u64, y: u64) -> u64
-    ensures { λ r. ⌜ r ≡ max x y ⌝ }
-{
-    if x < y { y } else { x }
-}
-
-// The greater of the entry before k and a number; the number where there is no entry before.
+// The greater of a number and the entry before k; the number where there is no entry before.
 fn raised(table: &[u64], k: usize, least: u64) -> u64
     requires { ⌜ k ≤ length (now table) ⌝ }
     ensures { λ r. ⌜ r ≡ max (getD (0 ∷ now (table .entry)) k 0) least ⌝ }
@@ -32,42 +27,56 @@ fn raised(table: &[u64], k: usize, least: u64) -> u64
     if k == 0 {
         return least;
     }
-    greater(table[k - 1], least)
+    let before = table[k - 1];
+    if before < least { least } else { before }
 }
 
-// Moves the entries from a place to n up by one, each raised to `least` where it is below.
-fn move_up(table: &mut [u64], n: usize, place: usize, least: u64)
+// Raises the entries from a place to n that are below `least` to it. They rise, so that the first that is not below ends it.
+fn raise(table: &mut [u64], n: usize, place: usize, least: u64)
+    requires { ⌜ (n ≤ length (now table)) × ((i : ℕ) → place ≤ i → suc i < n → getD (now table) i 0 ≤ getD (now table) (suc i) 0) ⌝ }
+    ensures { λ r. ⌜ Raised least (now (table .entry)) (now (table .exit)) n place ⌝ }
+{
+    let mut k = place;
+    while k < n {
+        if least <= table[k] {
+            return;
+        }
+        table[k] = least;
+        k += 1;
+    }
+}
+
+// Puts x at a place among n entries, those from there on moved up by one.
+pub fn put(table: &mut [u64], n: usize, place: usize, x: u64)
     requires { ⌜ (place ≤ n) × (n < length (now table)) ⌝ }
-    ensures { λ r. ⌜ Shifted (λ x. max x least) (now (table .entry)) (now (table .exit)) n place ⌝ }
+    ensures { λ r. ⌜ Placed x (now (table .entry)) (now (table .exit)) n place ⌝ }
 {
     let mut k = n;
     while place < k {
-        table[k] = greater(table[k - 1], least);
+        table[k] = table[k - 1];
         k -= 1;
     }
-    table[k] = raised(table, k, least);
+    table[k] = x;
 }
 
-// Moves the entries from a place to n up by one, in a further table that keeps a number with each range. The caller sets the entry at the place.
-pub fn make_room(table: &mut [u64], n: usize, place: usize)
-    requires { ⌜ (place ≤ n) × (n < length (now table)) ⌝ }
-    ensures { λ r. ⌜ Shifted (λ x. x) (now (table .entry)) (now (table .exit)) n place ⌝ }
+// 1 where x is no greater than y, else 0: the carry of a difference, since a branch on numbers in no order is foreseen half of the time.
+fn at_most(x: u64, y: u64) -> usize
+    requires { ⌜ (x < 9223372036854775808) × (y < 9223372036854775808) ⌝ }
+    ensures { λ r. ⌜ (r ≡ cond (leb x y) 1 0) × (r ≤ 1) ⌝ }
 {
-    move_up(table, n, place, 0);
+    ((y + 9223372036854775808 - x) >> 63) as usize
 }
 
 // How many of n entries begin no later than f, by halving.
 fn begun(firsts: &[u64], n: usize, f: u64) -> usize
-    requires { ⌜ Rising (now firsts) n ⌝ }
+    requires { ⌜ Firsts (now firsts) n × (f < 9223372036854775808) ⌝ }
     ensures { λ r. ⌜ Begun (now (firsts .entry)) n f r 0 ⌝ }
 {
     let mut from: usize = 0;
     let mut left = n;
     while 0 < left {
         let half = left - left / 2;
-        if firsts[from + half - 1] <= f {
-            from += half;
-        }
+        from += half * at_most(firsts[from + half - 1], f);
         left -= half;
     }
     from
@@ -76,19 +85,20 @@ fn begun(firsts: &[u64], n: usize, f: u64) -> usize
 // Puts the range from first to last among n and answers its place, behind those that begin no later.
 pub fn insert(firsts: &mut [u64], reach: &mut [u64], n: usize, first: u64, last: u64) -> usize
     requires { ⌜ Ordered (now firsts) (now reach) n ⌝ }
-    requires { ⌜ (n < length (now firsts)) × (n < length (now reach)) ⌝ }
+    requires { ⌜ (n < length (now firsts)) × (n < length (now reach)) × (first < 9223372036854775808) ⌝ }
     ensures { λ r. ⌜ Inserted (now (firsts .entry)) (now (reach .entry)) n first last (now (firsts .exit)) (now (reach .exit)) r ⌝ }
 {
     let place = begun(firsts, n, first);
-    make_room(firsts, n, place);
-    firsts[place] = first;
-    move_up(reach, n, place, last);
+    put(firsts, n, place, first);
+    let here = raised(reach, place, last);
+    put(reach, n, place, here);
+    raise(reach, n + 1, place + 1, last);
     place
 }
 
 // An entry of n that meets the numbers from first to last; n where none does.
 fn meeting(firsts: &[u64], reach: &[u64], n: usize, first: u64, last: u64) -> usize
-    requires { ⌜ Ordered (now firsts) (now reach) n ⌝ }
+    requires { ⌜ Ordered (now firsts) (now reach) n × (last < 9223372036854775808) ⌝ }
     ensures { λ r. ⌜ ltb r n ≡ someFrom (meetsAt (now (firsts .entry)) (now (reach .entry)) first last) n 0 ⌝ }
     ensures { λ r. ⌜ (r < n → meetsAt (now (firsts .entry)) (now (reach .entry)) first last r ≡ true) ⌝ }
 {
@@ -104,7 +114,7 @@ fn meeting(firsts: &[u64], reach: &[u64], n: usize, first: u64, last: u64) -> us
 
 // Does one of n ranges meet the numbers from first to last?
 pub fn meets(firsts: &[u64], reach: &[u64], n: usize, first: u64, last: u64) -> bool
-    requires { ⌜ Ordered (now firsts) (now reach) n ⌝ }
+    requires { ⌜ Ordered (now firsts) (now reach) n × (last < 9223372036854775808) ⌝ }
     ensures { λ r. ⌜ r ≡ someFrom (meetsAt (now (firsts .entry)) (now (reach .entry)) first last) n 0 ⌝ }
 {
     meeting(firsts, reach, n, first, last) < n
@@ -123,7 +133,7 @@ fn holds(firsts: &[u64], reach: &[u64], f: u64, j: usize) -> bool
 
 // An entry of n that holds f, the entry `hint` asked first; n where none does.
 pub fn find(firsts: &[u64], reach: &[u64], n: usize, hint: usize, f: u64) -> usize
-    requires { ⌜ Ordered (now firsts) (now reach) n ⌝ }
+    requires { ⌜ Ordered (now firsts) (now reach) n × (f < 9223372036854775808) ⌝ }
     ensures { λ r. ⌜ ltb r n ≡ inRanges (now (firsts .entry)) (now (reach .entry)) n f ⌝ }
     ensures { λ r. ⌜ (r < n → holds (now (firsts .entry)) (now (reach .entry)) f r ≡ true) ⌝ }
 {
@@ -135,27 +145,31 @@ pub fn find(firsts: &[u64], reach: &[u64], n: usize, hint: usize, f: u64) -> usi
     meeting(firsts, reach, n, f, f)
 }
 
-// The greatest number of a zone's ranges, where it has some: it says how far the hints reach, and no answer depends on it.
-pub fn top_of(firsts: &[u64], reach: &[u64], n: usize, zone: usize) -> u64
-    requires { ⌜ Ordered (now firsts) (now reach) n × (zone < 4096) ⌝ }
-{
-    let r = begun(firsts, n, key(zone, 4294967295));
-    if r == 0 {
-        return 0;
-    }
-    reach[r - 1] % 4294967296
-}
-
 // How many hints a table of hints has.
 pub const HINTS: usize = 4096;
 
-// By how many bits numbers up to `top` are shifted, so that each has a hint of its own or shares it with its neighbours.
-pub fn shift_for(top: u64) -> u64
+// How many numbers n ranges have, where they do not overlap.
+fn numbers_of(firsts: &[u64], reach: &[u64], n: usize) -> u64
+    requires { ⌜ (n ≤ length (now firsts)) × (n ≤ length (now reach)) ⌝ }
+{
+    let mut sum = n as u64;
+    let mut k: usize = 0;
+    while k < n {
+        sum = wrapping_add_u64(sum, wrapping_sub_u64(reach[k], firsts[k]));
+        k += 1;
+    }
+    sum
+}
+
+// By how many bits numbers are shifted, so that those of n ranges share as many hints as there are. No answer depends on it.
+pub fn shift_for(firsts: &[u64], reach: &[u64], n: usize) -> u64
+    requires { ⌜ (n ≤ length (now firsts)) × (n ≤ length (now reach)) ⌝ }
     ensures { λ r. ⌜ r ≤ 52 ⌝ }
 {
+    let numbers = numbers_of(firsts, reach, n);
     let mut s: u64 = 0;
     while s < 52 {
-        if top >> s < 4096 {
+        if numbers >> s < 4096 {
             return s;
         }
         s += 1;
@@ -163,16 +177,40 @@ pub fn shift_for(top: u64) -> u64
     s
 }
 
-// Which hint is that of a number.
+// Which hint is that of a key: a product spreads the upper bits of its number, and its zone, over all hints.
 fn hint_of(f: u64, shift: u64) -> usize
     requires { ⌜ shift ≤ 52 ⌝ }
     ensures { λ r. ⌜ r < 4096 ⌝ }
 {
-    ((f >> shift) % 4096) as usize
+    let number = (f >> shift) % 4294967296;
+    let zone = (f >> 32) % 4096;
+    ((number * 2654435769 + zone * 2246822519) >> 20) as usize % 4096
 }
 
-// The same as `find`, where numbers jump: the entry of the last number is asked first, then that of the last number near this one.
+// The same as `find`, where numbers jump: the entry is asked that held the last number near this one.
 // What the hints hold decides how soon the entry is found, not which.
+pub fn find_by_hint(
+    firsts: &[u64],
+    reach: &[u64],
+    n: usize,
+    hints: &mut [u16],
+    shift: u64,
+    f: u64,
+) -> usize
+    requires { ⌜ Ordered (now firsts) (now reach) n × (n ≤ 65536) × (f < 9223372036854775808) ⌝ }
+    requires { ⌜ (4096 ≤ length (now hints)) × (shift ≤ 52) ⌝ }
+    ensures { λ r. ⌜ ltb r n ≡ inRanges (now (firsts .entry)) (now (reach .entry)) n f ⌝ }
+    ensures { λ r. ⌜ (r < n → holds (now (firsts .entry)) (now (reach .entry)) f r ≡ true) ⌝ }
+{
+    let k = hint_of(f, shift);
+    let j = find(firsts, reach, n, hints[k] as usize, f);
+    if j < n {
+        hints[k] = j as u16;
+    }
+    j
+}
+
+// The same, where the entry `last` that held the last number is asked first.
 pub fn find_near(
     firsts: &[u64],
     reach: &[u64],
@@ -182,7 +220,7 @@ pub fn find_near(
     last: usize,
     f: u64,
 ) -> usize
-    requires { ⌜ Ordered (now firsts) (now reach) n × (n ≤ 65536) ⌝ }
+    requires { ⌜ Ordered (now firsts) (now reach) n × (n ≤ 65536) × (f < 9223372036854775808) ⌝ }
     requires { ⌜ (4096 ≤ length (now hints)) × (shift ≤ 52) ⌝ }
     ensures { λ r. ⌜ ltb r n ≡ inRanges (now (firsts .entry)) (now (reach .entry)) n f ⌝ }
     ensures { λ r. ⌜ (r < n → holds (now (firsts .entry)) (now (reach .entry)) f r ≡ true) ⌝ }
@@ -192,10 +230,61 @@ pub fn find_near(
             return last;
         }
     }
-    let k = hint_of(f, shift);
-    let j = find(firsts, reach, n, hints[k] as usize, f);
-    if j < n {
-        hints[k] = j as u16;
+    find_by_hint(firsts, reach, n, hints, shift, f)
+}
+
+// `size` numbers from `low` on.
+pub struct Interval {
+    pub low: u64,
+    pub size: u64,
+}
+
+// Does an interval hold f? One comparison tells: where f is below it, the difference wraps round and is greater than every size.
+pub fn within(interval: Interval, f: u64) -> bool
+    requires { ⌜ interval .low + interval .size ≤ 4294967296 ⌝ }
+    ensures { λ r. ⌜ r ≡ isWithin interval f ⌝ }
+{
+    wrapping_sub_u64(f, interval.low) < interval.size
+}
+
+// A key's number, cut to those of the zone whose keys begin with `base`.
+fn cut(x: u64, base: u64) -> u64
+    ensures { λ r. ⌜ r ≡ min (x - base) 4294967295 ⌝ }
+{
+    if x < base {
+        return 0;
     }
-    j
+    if 4294967295 < x - base {
+        return 4294967295;
+    }
+    x - base
+}
+
+// The numbers of a zone around f that one entry holds; none where f is in no range.
+pub fn interval_around(
+    firsts: &[u64],
+    reach: &[u64],
+    n: usize,
+    hints: &mut [u16],
+    shift: u64,
+    zone: usize,
+    f: u64,
+) -> Interval
+    requires { ⌜ Ordered (now firsts) (now reach) n × (n ≤ 65536) ⌝ }
+    requires { ⌜ (zone < 4096) × (f < 4294967296) ⌝ }
+    requires { ⌜ (4096 ≤ length (now hints)) × (shift ≤ 52) ⌝ }
+    ensures { λ r. ⌜ Covered (now (firsts .entry)) (now (reach .entry)) n zone r ⌝ }
+    ensures { λ r. ⌜ ltb 0 (r .size) ≡ inRanges (now (firsts .entry)) (now (reach .entry)) n (key zone f) ⌝ }
+{
+    let j = find_by_hint(firsts, reach, n, hints, shift, key(zone, f));
+    if n <= j {
+        return Interval { low: 0, size: 0 };
+    }
+    let base = key(zone, 0);
+    let low = cut(firsts[j], base);
+    let high = cut(reach[j], base);
+    Interval {
+        low,
+        size: high + 1 - low,
+    }
 }

@@ -7,7 +7,7 @@ use Rattle.ranges.proofs.key.Tie as tie
 
 returns : tie.Need-returns
 unfolding key
-returns c = omega arith
+returns c = (omega arith, omega arith)
 
 pub key-spec : {M : Type 1} → statement M
 key-spec = tie.close (tie.spec (search needs) (search needs) returns)

@@ -32,13 +32,13 @@ insert-requires c κs =
     let d = c .before .before .before in
     let p = d .before .before .before .before .before .before .before .pre in
     let l = room _ (p .0 .0 .sound) (p .1 .0) (p .0 .1) (is-ranged d) in
-    (p .1 .0 .ordered, (omega (arith, p .1 .1), omega (arith, p .1 .1)))
+    (p .1 .0 .ordered, (omega (arith, p .1 .1), omega (arith, p .1 .1), omega (arith, c .before .before .keys-of .ensures .1)))
 
 returns-2 : tie.Need-returns-2
 returns-2 c =
     let d = c .before .before .before .before .before .before .before .before in
     let k = c .before .before .before .before .before .before .before .keys-of .ensures in
-    gathered-more (d .before .before .before .before .before .before .before .pre .1 .0) (is-ranged d) (k .0) (k .1) (c .before .before .before .before .insert .ensures)
+    gathered-more (d .before .before .before .before .before .before .before .pre .1 .0) (is-ranged d) (k .0 .0) (k .0 .1) (c .before .before .before .before .insert .ensures)
 
 pub gather-node-spec : {M : Type 1} → statement M
 gather-node-spec = tie.close (tie.spec (λ c κs. search needs) (search needs) returns keys-of-requires insert-requires (λ c. let d = c .before .before .before .before .before .before .before .before in let p = d .before .before .before .before .before .before .before .pre in omega (arith, room _ (p .0 .0 .sound) (p .1 .0) (p .0 .1) (is-ranged d))) (λ c. c .before .before .before .before .insert .kept .0) (λ c. c .before .before .before .before .insert .kept .1 .0) returns-2)

@@ -30,7 +30,11 @@ returns : tie.Need-returns
 returns c =
     let p = c .before .before .before .before .before .before .pre in
     let z = c .before .before .before .before .parent-of .ensures .0 in
-    (first-key _ _ z (first-by _ _ _ _ (p .1 .0) (c .before .before .before .whole .ensures)) (c .before .before .key .ensures), last-key _ _ z (last-by _ _ _ _ (p .1 .0) (c .before .whole2 .ensures)) (c .key2 .ensures))
+    let f = c .before .before .key .ensures in
+    let l = c .key2 .ensures in (
+      (first-key _ _ z (first-by _ _ _ _ (p .1 .0) (c .before .before .before .whole .ensures)) (f .0), last-key _ _ z (last-by _ _ _ _ (p .1 .0) (c .before .whole2 .ensures)) (l .0)),
+      (f .1, l .1),
+    )
 
 pub keys-of-spec : {M : Type 1} → statement M
 keys-of-spec = tie.close (tie.spec (search needs) whole-requires key-requires whole-requires-2 key-requires-2 returns)

@@ -31,7 +31,7 @@ returns-2 c =
     let d = c .before .before in
     let p = d .before .before .before .before .before .before .before .pre in
     let k = c .before .keys-of .ensures in
-    overlap-by (p .0 .0 .sound) _ (is-ranged d) (p .1) (k .0) (k .1) (c .meets .ensures)
+    overlap-by (p .0 .0 .sound) _ (is-ranged d) (p .1) (k .0 .0) (k .0 .1) (c .meets .ensures)
 
 pub meets-earlier-spec : {M : Type 1} → statement M
-meets-earlier-spec = tie.close (tie.spec (λ c κs. search needs) (search needs) returns keys-of-requires (λ c κs. c .before .before .before .before .before .before .before .before .pre .1 .ordered) returns-2)
+meets-earlier-spec = tie.close (tie.spec (λ c κs. search needs) (search needs) returns keys-of-requires (λ c κs. (c .before .before .before .before .before .before .before .before .pre .1 .ordered, omega (arith, c .keys-of .ensures .1))) returns-2)

@@ -1,6 +1,6 @@
 -- The section's start offsets tell how many of its elements end before the entry.
 use borrow.Author.Needs.{needs}
-use Rattle.faces.proofs.Accepted.{section-kind}
+use Rattle.face_places.proofs.Accepted.{section-kind}
 use Rattle.faces.proofs.Arrays.{cells-offsets, element-read}
 use Rattle.faces.proofs.cells.element_holding.Statement.{statement}
 use Rattle.faces.proofs.cells.element_holding.Tie as tie

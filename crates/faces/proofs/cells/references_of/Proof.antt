@@ -2,7 +2,7 @@
 use mathlib.Core.Path.{sym, _∙_}
 use borrow.Author.Needs.{needs}
 use borrow.Author.Tests.{not-true, not-false}
-use Rattle.faces.proofs.Accepted.{section-kind}
+use Rattle.face_places.proofs.Accepted.{section-kind}
 use Rattle.faces.proofs.Arrays.{cells-by, connectivity-inside, connectivity-dimension, connectivity-stores-n, references, no-references}
 use Rattle.faces.proofs.cells.references_of.Statement.{statement}
 use Rattle.faces.proofs.cells.references_of.Tie as tie

@@ -3,15 +3,18 @@ use mathlib.Core.Path.{sym, _∙_}
 use native.Mathlib.Omega.{arith}
 use borrow.Author.Needs.{needs}
 use borrow.Author.Tests.{lt-ltb, le-ltb, not-true, not-false}
-use Rattle.faces.proofs.Gathering.{At, few-ranges, face-found}
+use Rattle.elements.proofs.RangeLaws.{face-small}
+use Rattle.face_places.proofs.Gathering.{At, few-ranges, face-found}
 use Rattle.faces.proofs.Runs.{use-is}
 use Rattle.faces.proofs.uses.use_entry.Statement.{statement}
 use Rattle.faces.proofs.uses.use_entry.Tie as tie
 
 find-near-requires : tie.Need-find-near-requires
 find-near-requires c κs =
-    let t = c .before .before .before .before .before .before .before .before .pre .1 .1 in
-    ((t .ranges .gathered .ordered, omega (arith, few-ranges (t .accepted) (t .ranges))), (t .hinted, t .shifted))
+    let p = c .before .before .before .before .before .before .before .before .pre .1 in
+    let t = p .1 in
+    let s = face-small (t .accepted .sound) _ _ (p .0) in
+    ((t .ranges .gathered .ordered, omega (arith, few-ranges (t .accepted) (t .ranges)), omega (arith, c .before .magnitude-at .ensures)), (t .hinted, t .shifted))
 
 -- the entry that was found
 found : (j : tie.After-find-near) → let a = j .before .before .before .before .before .before .before .before .before .args in
@@ -24,7 +27,7 @@ place-of-requires : tie.Need-place-of-requires
 place-of-requires c κs =
     let g = c .before .before .before .before .before .before .before .before .before .before .before .pre .1 .1 .ranges in
     let w = found (c .before .before) in
-    ((omega (arith, w .inside, g .gathered .ordered .firsts-rise .room), omega (arith, w .inside, g .room)), (w .from, w .small))
+    ((omega (arith, w .inside, g .gathered .ordered .firsts-rise .rise .room), omega (arith, w .inside, g .room)), (w .from, w .small))
 
 use-face-requires : tie.Need-use-face-requires
 use-face-requires c κs =

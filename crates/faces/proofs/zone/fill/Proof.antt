@@ -4,7 +4,7 @@ use native.Mathlib.Omega.{arith}
 use borrow.Author.Needs.{needs}
 use Rattle.model.specs.Rules.{rejected}
 use Rattle.model.specs.Answers.{rejectionOf}
-use Rattle.faces.proofs.Gathering.{all-faces}
+use Rattle.face_places.proofs.Gathering.{all-faces}
 use Rattle.faces.proofs.Runs.{tables-kept}
 use Rattle.faces.proofs.Whole.{run-passed, run-refused}
 use Rattle.faces.proofs.zone.fill.Statement.{statement}

@@ -3,7 +3,7 @@ use mathlib.Core.Path.{refl, sym, ap, _∙_}
 use native.Mathlib.Omega.{arith}
 use borrow.Author.Needs.{needs}
 use Rattle.model.specs.Rules.{rejected}
-use Rattle.faces.proofs.Gathering.{few-ranges, all-faces}
+use Rattle.face_places.proofs.Gathering.{few-ranges, all-faces}
 use Rattle.faces.proofs.Checks.{usage-refused, usage-accepted, too-short, long-enough}
 use Rattle.faces.proofs.zone.zone_usage.Statement.{statement}
 use Rattle.faces.proofs.zone.zone_usage.Tie as tie
@@ -22,12 +22,14 @@ returns c =
     (too-short _ _ _ (p .0 .0 .image) (p .1) (omega (arith, all-faces (p .0 .0) (m .gather .ensures), c .before .if1 .taken))) in
     (ap rejected (c .at .ensures) ∙ w .0, w .1)
 
-top-of-requires : tie.Need-top-of-requires
-top-of-requires c κs = (c .before .before .before .before .before .before .before .before .gather .ensures .gathered .ordered, omega arith)
+shift-for-requires : tie.Need-shift-for-requires
+shift-for-requires c κs =
+    let o = c .before .before .before .before .before .before .before .before .gather .ensures .gathered .ordered in
+    (o .firsts-rise .rise .room, o .reach-rises .room)
 
 fill-requires : tie.Need-fill-requires
 fill-requires c κs =
-    let m = c .before .before .before .before .before .before .before .before .before .before .before .before .before .before .before in
+    let m = c .before .before .before .before .before .before .before .before .before .before .before .before .before .before in
     let p = m .before .before .before .before .before .before .before .before .before .before .pre in
     let g = m .gather .ensures in (
       p .0 .0 .1,
@@ -36,13 +38,13 @@ fill-requires c κs =
         ranges = g;
         shifted = c .before .before .before .before .before .shift-for .ensures;
         hinted = p .1 .2;
-        room = omega (arith, all-faces (p .0 .0 .0) g, c .before .before .before .before .before .before .before .before .before .if1 .left);
+        room = omega (arith, all-faces (p .0 .0 .0) g, c .before .before .before .before .before .before .before .before .if1 .left);
       },
     )
 
 returns-2 : tie.Need-returns-2
 returns-2 c =
-    let i = c .before .before .before .before .before .before .before .before .before .before .before .before .before .before in
+    let i = c .before .before .before .before .before .before .before .before .before .before .before .before .before in
     let m = i .before .before .before .before .before .before in
     let d = m .before .before .before .before .before .before .before .before .before .before in
     let p = d .pre .0 in
@@ -53,4 +55,4 @@ returns-2 c =
 
 pub zone-usage-spec : {M : Type 1} → statement M
 zone-usage-spec = tie.close (tie.spec (λ c. refl) (λ c κs. search needs) (search needs) array-read-if1 (search needs) (search needs) (search needs) returns
-    top-of-requires (search needs) (search needs) fill-requires (search needs) (search needs) (search needs) (search needs) returns-2)
+    shift-for-requires (search needs) fill-requires (search needs) (search needs) (search needs) (search needs) returns-2)

@@ -1,0 +1,65 @@
+-- References to faces by the tables: numbers in intervals that ranges cover, and numbers looked up.
+use Prim.Native.Nat.{ℕ, _+_, _≤_, _<_}
+use mathlib.Core.Path.{_≡_, sym, _∙_}
+use mathlib.Core.Bool.{Bool, true, false}
+use mathlib.Core.List.{List}
+use native.Mathlib.Omega.{arith}
+use native.Mathlib.Decide.{ℕ-discrete}
+use lib.Dec.{leb, ltb}
+use borrow.Author.Tests.{lt-ltb, le-ltb, ltb-true}
+use Rattle.model.specs.Bytes.{magnitude}
+use Rattle.model.specs.Corner.{numberAt}
+use Rattle.model.specs.Image.{Tree}
+use Rattle.model.specs.Elements.{faceOf}
+use Rattle.model.proofs.Logic.{and-second, or-cases}
+use Rattle.model.proofs.Loops.{EveryLeft}
+use Rattle.ranges.specs.Tables.{key, inRanges, isWithin, Covered}
+use Rattle.ranges.specs.declared.Interval.{Interval}
+use Rattle.rows.specs.declared.Row.{Row}
+use Rattle.elements.specs.Arrays.{isKnown, Skipped}
+use Rattle.elements.specs.Given.{refersFace}
+use Rattle.elements.specs.Ranges.{Faces}
+use Rattle.elements.proofs.Agree.{every-on}
+
+pub skipped-none : (b : List ℕ) (row : Row) (last before : Interval) (k : ℕ) → k ≤ row .n → Skipped b row last before k k
+skipped-none b row last before k h = record { from = omega arith; to = h; skips = λ i x y. absurd (omega arith) }
+
+pub skipped-more : {b : List ℕ} {row : Row} {last before : Interval} {k j : ℕ} → Skipped b row last before k j → j < row .n
+    → isKnown last before (magnitude (row .width) (numberAt b (row .at) (row .width) j)) ≡ true → Skipped b row last before k (j + 1)
+skipped-more {b} {row} {last} {before} {k} {j} s h e =
+    record {
+      from = omega (arith, s .from);
+      to = omega arith;
+      skips = λ i x y. elim (ℕ-discrete i j) [
+        | yes q ↦ rw q e
+        | no d ↦ s .skips i x (omega arith)
+      ];
+    }
+
+-- what number k of a row refers to, by its magnitude
+pub refers-by : (t : Tree) (z : ℕ) (b : List ℕ) (at w k : ℕ) {f : ℕ} {v : Bool} → f ≡ magnitude w (numberAt b at w k) → faceOf t z f ≡ v → refersFace t z b at w k ≡ v
+unfolding refersFace
+refers-by t z b at w k e h = rw (← e) h
+
+-- faces by the tables: those of an interval that ranges cover, and a number looked up
+module _ {t : Tree} {firsts reach : List ℕ} {n : ℕ} (g : Faces t firsts reach n) (z : ℕ) where
+  pub covered-face : {r : Interval} → Covered firsts reach n z r → (f : ℕ) → isWithin r f ≡ true → faceOf t z f ≡ true
+  unfolding isWithin
+  covered-face {r} c f e =
+      let h = ltb-true f (r .low + r .size) (and-second (leb (r .low) f) _ e) in
+      sym (g .in-ranges z f (omega (arith, c .small))) ∙ c .covered f e
+
+  module _ {f s : ℕ} (h : f < 4294967296) (e : ltb 0 s ≡ inRanges firsts reach n (key z f)) where
+    pub found-face : (s ≡ 0 → ⊥) → faceOf t z f ≡ true
+    found-face u = sym (g .in-ranges z f h) ∙ sym e ∙ lt-ltb 0 s (omega (arith, u))
+
+    pub no-face : s ≡ 0 → faceOf t z f ≡ false
+    no-face u = sym (g .in-ranges z f h) ∙ sym e ∙ le-ltb 0 s (omega arith)
+
+  -- numbers of a row that two such intervals hold refer to faces
+  pub skipped-faces : {b : List ℕ} {row : Row} {last before : Interval} {k j : ℕ} {w : Bool} → Skipped b row last before k j
+      → Covered firsts reach n z last → Covered firsts reach n z before
+      → EveryLeft (refersFace t z b (row .at) (row .width)) (row .n) k w → EveryLeft (refersFace t z b (row .at) (row .width)) (row .n) j w
+  unfolding refersFace
+  skipped-faces {b} {row} {last} {before} s c d l =
+      every-on l (s .from) (s .to) (λ i x y. or-cases (isWithin last _) (isWithin before _) (s .skips i x y) (covered-face c _) (covered-face d _))

@@ -1,0 +1,2 @@
+pub mod ZoneSections
+pub mod Ranges
