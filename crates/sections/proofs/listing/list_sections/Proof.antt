@@ -223,6 +223,7 @@ module _ (κs : Lfts 2) (qs : Shares 2) where
         (room-gone 𝓤 H A word) (holds-sc 𝓤 H A W (sInt w64)) refl (λ u. refl) (λ u. tt))
         (here Head (part (loops put Inv left turn) ends))))))))))))))))
 
+    -- what the steps ask, in their order: at the loop's head nothing is stored, a turn stores one entry more, and in the end the memory is that of the call
     goals : (a : Dens κs ps) → GoodsP κs ps a → Pre κs a → start .asked (wantQ 2 ps r xs 2 κs qs a (Post κs a)) (init 2 ps r xs 2 κs qs a)
     goals a good pre γ =
         refl and (λ κs′. omega arith) and λ c. refl and λ len. (λ κs′. tt) and λ t.
