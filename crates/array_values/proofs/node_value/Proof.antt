@@ -66,4 +66,5 @@ returns-4 c =
     (c .value-at .ensures .0 ∙ succeeds b (f .args .i) (f .args .k) (in-range b (f .pre .0 .table) (f .args .i) (f .args .k) (f .pre .1) (readable-node d) (omega arith) (omega arith)), c .value-at .ensures .1)
 
 pub node-value-spec : {M : Type 1} → statement M
-node-value-spec = tie.close (tie.spec (search needs) (search needs) (search needs) returns (search needs) returns-2 (search needs) array-length-requires (search needs) returns-3 value-at-requires returns-4)
+node-value-spec = tie.close (tie.spec (search needs) (search needs) (search needs) returns (search needs) returns-2 (search needs)
+    array-length-requires (search needs) returns-3 value-at-requires returns-4)

@@ -17,4 +17,5 @@ sound-path-requires : tie.Need-sound-path-requires
 sound-path-requires c κs = let f = c .before .before .before .before .before .before in sound (f .args .image .now) (stage.passes (c .before .before .before .table-stage .ensures) (c .before .enum-told .given .1))
 
 pub path-spec : {M : Type 1} → statement M
-path-spec = tie.close (tie.spec (search needs) (search needs) (search needs) (search needs) returns sound-path-requires (search needs) (λ c. c .before .before .sound-path .ensures))
+path-spec = tie.close (tie.spec (search needs) (search needs) (search needs) (search needs) returns sound-path-requires (search needs)
+    (λ c. c .before .before .sound-path .ensures))

@@ -6,9 +6,8 @@ use borrow.Author.Tests.{le-leb, lt-leb, leb-true, not-true, not-false}
 use Rattle.records.specs.declared.Header.{Header}
 use Rattle.model.specs.Header.{nodeCountLawful, laidOut}
 use Rattle.model.proofs.Logic.{and-second}
-use Rattle.model.proofs.Staging.{broken, kept}
+use Rattle.model.proofs.Staging.{broken, kept, no-rule}
 use Rattle.table.specs.Groups.{isWithin, laidOutBy}
-use Rattle.table.proofs.Laws.{no-rule}
 use Rattle.table.proofs.header.layout_stage.Statement.{statement}
 use Rattle.table.proofs.header.layout_stage.Tie as tie
 

@@ -4,8 +4,7 @@ use lib.ListN.{length}
 use borrow.Author.Needs.{needs}
 use borrow.Author.Tests.{eq-eqb, ne-eqb}
 use Rattle.records.specs.declared.Header.{Header}
-use Rattle.model.proofs.Staging.{broken, kept}
-use Rattle.table.proofs.Laws.{no-rule}
+use Rattle.model.proofs.Staging.{broken, kept, no-rule}
 use Rattle.table.proofs.header.word_stage.Statement.{statement}
 use Rattle.table.proofs.header.word_stage.Tie as tie
 
