@@ -1,4 +1,4 @@
--- The check of the records as a loop over the nodes meets it.
+-- Rules 1 to 17 in groups, and the check of the records as a loop over the nodes meets it.
 use Prim.Native.Nat.{ℕ, _+_, _-_, _≤_, _<_}
 use mathlib.Core.Path.{_≡_, refl, sym, ap, _∙_}
 use mathlib.Core.Bool.{Bool, true, false, _&&_}
@@ -7,14 +7,17 @@ use native.Mathlib.Omega.{arith}
 use lib.Dec.{eqb, leb}
 use borrow.Author.Count.{below-more}
 use borrow.Author.Tests.{leb-true}
+use lib.ListN.{length}
+use Rattle.records.specs.declared.Header.{Header}
 use Rattle.records.specs.declared.RecordNumbers.{RecordNumbers}
 use Rattle.records.specs.declared.TableSize.{TableSize}
-use Rattle.records.specs.Fields.{numbersOf}
+use Rattle.records.specs.Fields.{headerOf, numbersOf}
 use Rattle.records.specs.Table.{tableTree, recordsOf, allRecords, LawfulBefore, TableLaid, TableTo}
 use Rattle.records.proofs.Tables.{table-node}
 use Rattle.model.specs.Lists.{sumBefore}
 use Rattle.model.specs.Rules.{Check, passed, rejected, rejection, check, checkFrom, _then_}
 use Rattle.model.specs.Image.{Tree, node, parent, dimensions, dataType, width}
+use Rattle.model.specs.Header.{headerCheck, headerRules, lengthLawful, nodeCountLawful, laidOut}
 use Rattle.model.specs.Records.{parentLawful, wordsBefore, wordsLawful, bytesBefore, dataAtLawful, dataSizeLawful}
 use Rattle.model.specs.Records.{recordRules, recordCheckAt, recordCheck, nothingTrails, trailingCheck}
 use Rattle.model.proofs.Logic.{and-second}
@@ -23,8 +26,14 @@ use Rattle.model.proofs.Parents.{lawful-to}
 use Rattle.model.proofs.Passed.{check-pass, checkFrom-on, checkFrom-end, then-on}
 use Rattle.model.proofs.SameNodes.{same-parent, same-name, same-label, same-type, same-link, same-rank, same-lawful, same-taken, same-deeper}
 use Rattle.model.proofs.Staging.{check-append, broken, kept, no-rule}
-use Rattle.table.specs.Groups.{placeRules, textRules, typeRules, sizeRules}
+use Rattle.table.specs.Groups.{wordRules, layoutRules, placeRules, textRules, typeRules, sizeRules}
 use Rattle.table.specs.Sums.{Sums}
+
+-- rules 1 to 6, where rule 1 holds
+pub header-groups : (b : List ℕ) {h : Header} → h ≡ headerOf b → lengthLawful b ≡ true
+    → (check 0 (wordRules h (length b)) then check 0 (layoutRules h)) ≡ headerCheck b
+unfolding headerCheck headerRules nodeCountLawful laidOut
+header-groups b e l = rw e (sym (check-append 0 (wordRules (headerOf b) (length b)) (layoutRules (headerOf b))) ∙ sym (kept 0 1 _ l))
 
 -- rules 7 to 17 at node i in groups, and those that ask one node alone in all records
 module _ {s : List ℕ} {size : TableSize} {i : ℕ} (r : TableTo s size i) where
@@ -57,7 +66,11 @@ module _ {s : List ℕ} {size : TableSize} {i : ℕ} (r : TableTo s size i) wher
   unfolding recordCheckAt recordRules
   record-groups =
       let t = tableTree s size in
-      rw (same-place, same-name _ _ i here, same-label _ _ i here, same-taken _ _ (size .nodes) same i (r .inside), same-link _ _ i here, same-type _ _ i here, same-rank _ _ i here, ← check-append i (typeRules t i) (sizeRules t i), ← check-append i (textRules t i) (typeRules t i ++ sizeRules t i), ← check-append i (placeRules t i) (textRules t i ++ typeRules t i ++ sizeRules t i))
+      let name = same-name _ _ i here in
+      let taken = same-taken _ _ (size .nodes) same i (r .inside) in
+      rw (same-place, name, same-label _ _ i here, taken, same-link _ _ i here, same-type _ _ i here, same-rank _ _ i here)
+      (check-append i (placeRules t i) (textRules t i ++ typeRules t i ++ sizeRules t i) ∙ ap (λ (c : Check). check i (placeRules t i) then c)
+      (check-append i (textRules t i) (typeRules t i ++ sizeRules t i) ∙ ap (λ (c : Check). check i (textRules t i) then c) (check-append i (typeRules t i) (sizeRules t i))))
 
 -- rules 15 to 17 by the running sums; rule 16 asks the records and the words after them
 module _ {s : List ℕ} {size : TableSize} {i w x : ℕ} (z : Sums s size i w x) {r : RecordNumbers} (f : r ≡ numbersOf (tableTree s size) i) where
