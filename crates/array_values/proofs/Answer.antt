@@ -38,19 +38,23 @@ module _ (b : List ℕ) (sound : tableCheck b ≡ passed) (i k : ℕ) where
   unreadable h e = known h ∙ broken 0 47 _ e
 
   -- rule 42 is left
-  typed-so : i < nodeCount b → among (dataType (treeOf b) i) readable ≡ true → valueCheck b i k ≡ check 0 (42 unless (leb 1 k && leb k (product (dimensions (treeOf b) i))) ∷ [])
+  typed-so : i < nodeCount b → among (dataType (treeOf b) i) readable ≡ true
+      → valueCheck b i k ≡ check 0 (42 unless (leb 1 k && leb k (product (dimensions (treeOf b) i))) ∷ [])
   unfolding typed
   typed-so h e = known h ∙ kept 0 47 _ e
 
   pub not-from-one : i < nodeCount b → among (dataType (treeOf b) i) readable ≡ true → k < 1 → valueCheck b i k ≡ rejected (rejection 42 0)
   not-from-one h e l = typed-so h e ∙ broken 0 42 [] (rw (lt-leb 1 k l))
 
-  pub past-end : i < nodeCount b → among (dataType (treeOf b) i) readable ≡ true → 1 ≤ k → product (dimensions (treeOf b) i) < k → valueCheck b i k ≡ rejected (rejection 42 0)
+  pub past-end : i < nodeCount b → among (dataType (treeOf b) i) readable ≡ true → 1 ≤ k → product (dimensions (treeOf b) i) < k
+      → valueCheck b i k ≡ rejected (rejection 42 0)
   past-end h e m l = typed-so h e ∙ broken 0 42 [] (rw (le-leb 1 k m, lt-leb k (product (dimensions (treeOf b) i)) l))
 
   pub in-range : i < nodeCount b → among (dataType (treeOf b) i) readable ≡ true → 1 ≤ k → k ≤ product (dimensions (treeOf b) i) → valueCheck b i k ≡ passed
   unfolding check
-  in-range h e m l = typed-so h e ∙ kept 0 42 [] (and-both (leb 1 k) (leb k (product (dimensions (treeOf b) i))) (le-leb 1 k m) (le-leb k (product (dimensions (treeOf b) i)) l))
+  in-range h e m l =
+      typed-so h e ∙ kept 0 42 [] (and-both (leb 1 k) (leb k (product (dimensions (treeOf b) i))) (le-leb 1 k m)
+      (le-leb k (product (dimensions (treeOf b) i)) l))
 
 module _ (b : List ℕ) (i k : ℕ) where
   pub refuses : {r : Rejection} → valueCheck b i k ≡ rejected r → rejected r ≡ valueAnswer b i k

@@ -70,7 +70,8 @@ module _ {s : List ℕ} {size : TableSize} {i : ℕ} (r : TableTo s size i) wher
       let taken = same-taken _ _ (size .nodes) same i (r .inside) in
       rw (same-place, name, same-label _ _ i here, taken, same-link _ _ i here, same-type _ _ i here, same-rank _ _ i here)
       (check-append i (placeRules t i) (textRules t i ++ typeRules t i ++ sizeRules t i) ∙ ap (λ (c : Check). check i (placeRules t i) then c)
-      (check-append i (textRules t i) (typeRules t i ++ sizeRules t i) ∙ ap (λ (c : Check). check i (textRules t i) then c) (check-append i (typeRules t i) (sizeRules t i))))
+      (check-append i (textRules t i) (typeRules t i ++ sizeRules t i) ∙ ap (λ (c : Check). check i (textRules t i) then c)
+      (check-append i (typeRules t i) (sizeRules t i))))
 
 -- rules 15 to 17 by the running sums; rule 16 asks the records and the words after them
 module _ {s : List ℕ} {size : TableSize} {i w x : ℕ} (z : Sums s size i w x) {r : RecordNumbers} (f : r ≡ numbersOf (tableTree s size) i) where

@@ -14,7 +14,8 @@ returns c =
     rw (c .rejection .ensures) (refuses b (f .args .node) (f .args .k) (no-table b (f .args .node) (f .args .k) e), tt)
 
 sound-value-requires : tie.Need-sound-value-requires
-sound-value-requires c κs = let f = c .before .before .before .before in sound (f .args .image .now) (stage.passes (c .before .before .table-stage .ensures) (c .enum-told .given .1))
+sound-value-requires c κs =
+    let f = c .before .before .before .before in sound (f .args .image .now) (stage.passes (c .before .before .table-stage .ensures) (c .enum-told .given .1))
 
 pub array-value-spec : {M : Type 1} → statement M
 array-value-spec = tie.close (tie.spec (search needs) (search needs) (search needs) (search needs) returns sound-value-requires (λ c. c .sound-value .ensures))

@@ -27,15 +27,19 @@ returns c =
     let d = c .before .before in
     let f = d .before .before .before in
     let b = f .args .image .now in
-    let e : among (dataType (treeOf b) (f .args .i)) readable ≡ false = rw (d .before .data-type-of .ensures .0) at (sym (d .is-readable .ensures) ∙ not-true _ (c .before .if1 .taken)) in
+    let e : among (dataType (treeOf b) (f .args .i)) readable ≡ false = rw (d .before .data-type-of .ensures .0) at
+    (sym (d .is-readable .ensures) ∙ not-true _ (c .before .if1 .taken)) in
     (ap rejected (c .at .ensures) ∙ refuses b (f .args .i) (f .args .k) (unreadable b (f .pre .0 .table) (f .args .i) (f .args .k) (f .pre .1) e), tt)
 
 returns-2 : tie.Need-returns-2
 returns-2 c =
     let d = c .before .before in
     let f = d .before .before .before .before in
-    let b = f .args .image .now in
-    (ap rejected (c .at2 .ensures) ∙ refuses b (f .args .i) (f .args .k) (not-from-one b (f .pre .0 .table) (f .args .i) (f .args .k) (f .pre .1) (readable-node d) (omega arith)), tt)
+    let b = f .args .image .now in (
+      ap rejected (c .at2 .ensures) ∙ refuses b (f .args .i) (f .args .k)
+          (not-from-one b (f .pre .0 .table) (f .args .i) (f .args .k) (f .pre .1) (readable-node d) (omega arith)),
+      tt,
+    )
 
 array-length-requires : tie.Need-array-length-requires
 array-length-requires c κs =
@@ -43,14 +47,17 @@ array-length-requires c κs =
     let f = d .before .before .before .before in
     let w = c .width-of .ensures .0 in
     let t : T (isWidth (c .width-of .result)) = rw w (readable-wide _ (readable-type d) .0) in
-    (f .pre, (t, w ∙ width-is (treeOf (f .args .image .now)) (f .args .i) _ (d .before .before .data-type-of .ensures .0) _ refl))
+    (f .pre, (t, w ∙ width-is _ _ (d .before .before .data-type-of .ensures .0)))
 
 returns-3 : tie.Need-returns-3
 returns-3 c =
     let d = c .before .before .before .before .before in
     let f = d .before .before .before .before in
-    let b = f .args .image .now in
-    (ap rejected (c .at3 .ensures) ∙ refuses b (f .args .i) (f .args .k) (past-end b (f .pre .0 .table) (f .args .i) (f .args .k) (f .pre .1) (readable-node d) (omega arith) (omega arith)), tt)
+    let b = f .args .image .now in (
+      ap rejected (c .at3 .ensures) ∙ refuses b (f .args .i) (f .args .k)
+          (past-end b (f .pre .0 .table) (f .args .i) (f .args .k) (f .pre .1) (readable-node d) (omega arith) (omega arith)),
+      tt,
+    )
 
 value-at-requires : tie.Need-value-at-requires
 value-at-requires c κs =
@@ -62,8 +69,11 @@ returns-4 : tie.Need-returns-4
 returns-4 c =
     let d = c .before .before .before .before .before in
     let f = d .before .before .before .before in
-    let b = f .args .image .now in
-    (c .value-at .ensures .0 ∙ succeeds b (f .args .i) (f .args .k) (in-range b (f .pre .0 .table) (f .args .i) (f .args .k) (f .pre .1) (readable-node d) (omega arith) (omega arith)), c .value-at .ensures .1)
+    let b = f .args .image .now in (
+      c .value-at .ensures .0 ∙ succeeds b (f .args .i) (f .args .k)
+          (in-range b (f .pre .0 .table) (f .args .i) (f .args .k) (f .pre .1) (readable-node d) (omega arith) (omega arith)),
+      c .value-at .ensures .1,
+    )
 
 pub node-value-spec : {M : Type 1} → statement M
 node-value-spec = tie.close (tie.spec (search needs) (search needs) (search needs) returns (search needs) returns-2 (search needs)

@@ -11,8 +11,11 @@ use Rattle.array_values.proofs.sound_value.Tie as tie
 returns : tie.Need-returns
 returns c =
     let f = c .before .before .before .before in
-    let b = f .args .image .now in
-    (ap rejected (c .at .ensures) ∙ refuses b (f .args .node) (f .args .k) (unknown b (f .pre .table) (f .args .node) (f .args .k) (omega (arith, node-count-at b))), tt)
+    let b = f .args .image .now in (
+      ap rejected (c .at .ensures) ∙ refuses b (f .args .node) (f .args .k)
+          (unknown b (f .pre .table) (f .args .node) (f .args .k) (omega (arith, node-count-at b))),
+      tt,
+    )
 
 node-value-requires : tie.Need-node-value-requires
 node-value-requires c κs =

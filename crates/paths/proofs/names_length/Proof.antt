@@ -34,7 +34,8 @@ loop-again c =
     let f = d .before .before in
     let n = c .before .name-length .result in
     let z = sized (f .args .image .now) (d .loop .j) n (c .before .name-length .ensures .0) (omega arith) in
-    let l = longer (f .args .image .now) (f .pre .0) (d .loop .j) (c .parent-of .result) (omega arith) (c .parent-of .ensures .0) (c .before .before .loop-test .taken) in
+    let l = longer (f .args .image .now) (f .pre .0) (d .loop .j) (c .parent-of .result) (omega arith) (c .parent-of .ensures .0)
+    (c .before .before .loop-test .taken) in
     (omega (arith, loop-less c), omega (arith, z, l))
 
 returns : tie.Need-returns Inv-loop μ-loop

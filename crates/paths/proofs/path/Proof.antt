@@ -14,7 +14,9 @@ returns c =
     rw (c .rejection .ensures) (refuses b (f .args .node) (f .args .out .now) (no-table b (f .args .node) _ e))
 
 sound-path-requires : tie.Need-sound-path-requires
-sound-path-requires c κs = let f = c .before .before .before .before .before .before in sound (f .args .image .now) (stage.passes (c .before .before .before .table-stage .ensures) (c .before .enum-told .given .1))
+sound-path-requires c κs =
+    let f = c .before .before .before .before .before .before in sound (f .args .image .now)
+    (stage.passes (c .before .before .before .table-stage .ensures) (c .before .enum-told .given .1))
 
 pub path-spec : {M : Type 1} → statement M
 path-spec = tie.close (tie.spec (search needs) (search needs) (search needs) (search needs) returns sound-path-requires (search needs)

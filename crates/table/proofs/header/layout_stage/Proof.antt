@@ -30,7 +30,8 @@ returns-3 : tie.Need-returns-3
 returns-3 c =
     let g = c .before .before in
     let words = le-leb _ _ (g .before .if2 .left) in
-    holds 0 4 _ (some (g .before .before .before)) (holds 0 5 _ words (fails 0 6 _ (sym (g .laid-out .ensures) ∙ not-true _ (c .before .if3 .taken)) (c .reject3 .ensures)))
+    holds 0 4 _ (some (g .before .before .before))
+    (holds 0 5 _ words (fails 0 6 _ (sym (g .laid-out .ensures) ∙ not-true _ (c .before .if3 .taken)) (c .reject3 .ensures)))
 
 returns-4 : tie.Need-returns-4
 returns-4 c =

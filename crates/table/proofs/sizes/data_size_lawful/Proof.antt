@@ -43,13 +43,15 @@ ranked w = let d = w .before .before in rank-is _ (d .args .i) ∙ sym (ap (λ (
 dimension-requires : tie.Need-dimension-requires Inv-loop μ-loop
 dimension-requires c κs =
     let d = c .before .before .before .before in
-    let q : d .args .r .rank ≡ node (recordsOf (d .args .table .now) (d .args .count)) (d .args .i) .rank = ap (λ (x : RecordNumbers). x .rank) (d .pre .0 .1) in
+    let q : d .args .r .rank ≡ node (recordsOf (d .args .table .now) (d .args .count)) (d .args .i) .rank = ap (λ (x : RecordNumbers). x .rank)
+    (d .pre .0 .1) in
     (d .pre .0 .0, (omega arith, d .pre .1))
 
 returns : tie.Need-returns Inv-loop μ-loop
 returns c =
     let l = c .before .before .before .before in
-    sym (size-off (l .loop .m) _ _ (l .loop .k) (omega (arith, ranked (l .before))) (c .before .before .dimension .ensures) (sym (c .before .product-fits .ensures) ∙ not-true _ (c .if1 .taken)))
+    sym (size-off (l .loop .m) _ _ (l .loop .k) (omega (arith, ranked (l .before))) (c .before .before .dimension .ensures)
+    (sym (c .before .product-fits .ensures) ∙ not-true _ (c .if1 .taken)))
     ∙ l .loop .inv .1
 
 mul-m : tie.Need-mul-m Inv-loop μ-loop
@@ -60,8 +62,11 @@ mul-m c =
 
 loop-again : tie.Need-loop-again Inv-loop μ-loop
 loop-again c =
-    let l = c .before .before .before .before in
-    (omega arith, size-on (l .loop .m) _ _ (l .loop .k) (omega (arith, ranked (l .before))) (c .before .before .dimension .ensures) (sym (c .before .product-fits .ensures) ∙ not-false _ (c .if1 .left)) ∙ l .loop .inv .1)
+    let l = c .before .before .before .before in (
+      omega arith,
+      size-on (l .loop .m) _ _ (l .loop .k) (omega (arith, ranked (l .before))) (c .before .before .dimension .ensures)
+          (sym (c .before .product-fits .ensures) ∙ not-false _ (c .if1 .left)) ∙ l .loop .inv .1,
+    )
 
 returns-2 : tie.Need-returns-2 Inv-loop μ-loop
 returns-2 c =

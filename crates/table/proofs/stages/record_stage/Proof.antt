@@ -10,12 +10,22 @@ use Rattle.table.proofs.stages.record_stage.Statement.{statement}
 use Rattle.table.proofs.stages.record_stage.Tie as tie
 
 returns : tie.Need-returns
-returns c = stop (c .before .before .place-stage .ensures) _ (c .enum-told2 .given .1) ∙ sym (record-groups (c .before .before .before .before .before .pre .0 .0 .0))
+returns c =
+    stop (c .before .before .place-stage .ensures) _ (c .enum-told2 .given .1) ∙ sym (record-groups (c .before .before .before .before .before .pre .0 .0 .0))
 
 text-stage-requires : tie.Need-text-stage-requires
 text-stage-requires c κs =
-    let p = c .before .before .before .before .before .pre in
-    (((omega arith, omega arith), (lawful-before (p .0 .0 .0), check-pass _ _ (passes (c .before .before .place-stage .ensures) (c .enum-told .given .1)) .0)), p .1)
+    let p = c .before .before .before .before .before .pre in (
+      (
+        (omega arith, omega arith),
+        (
+          lawful-before (p .0 .0 .0),
+          check-pass _ _
+              (passes (c .before .before .place-stage .ensures) (c .enum-told .given .1)) .0,
+        ),
+      ),
+      p .1,
+    )
 
 returns-2 : tie.Need-returns-2
 returns-2 c =
@@ -37,7 +47,9 @@ returns-3 c =
     ∙ sym (record-groups (d .before .before .before .before .before .pre .0 .0 .0))
 
 size-stage-requires : tie.Need-size-stage-requires
-size-stage-requires c κs = let p = c .before .before .before .before .before .before .before .before .before .before .before .pre .0 in (((p .0 .0 .laid, p .0 .0 .inside), p .1), p .0 .1)
+size-stage-requires c κs =
+    let p = c .before .before .before .before .before .before .before .before .before .before .before .pre .0 in
+    (((p .0 .0 .laid, p .0 .0 .inside), p .1), p .0 .1)
 
 returns-4 : tie.Need-returns-4
 returns-4 c =
@@ -45,7 +57,8 @@ returns-4 c =
     let e = f .before .before .before in
     let d = e .before .before .before in
     go (d .before .before .place-stage .ensures) (d .enum-told .given .1)
-    (go (e .before .before .text-stage .ensures) (e .enum-told3 .given .1) (go (f .before .before .type-stage .ensures) (f .enum-told5 .given .1) (c .size-stage .ensures)))
+    (go (e .before .before .text-stage .ensures) (e .enum-told3 .given .1)
+    (go (f .before .before .type-stage .ensures) (f .enum-told5 .given .1) (c .size-stage .ensures)))
     ∙ sym (record-groups (d .before .before .before .before .before .pre .0 .0 .0))
 
 pub record-stage-spec : {M : Type 1} → statement M

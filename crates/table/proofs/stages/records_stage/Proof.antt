@@ -37,11 +37,13 @@ numbered : (k : tie.After-numbers Inv-loop μ-loop) → let l = k .before .befor
 numbered k = k .numbers .ensures ∙ numbers-here (reached k)
 
 -- the stage passed at node i
-further : (e : tie.After-enum-told Inv-loop μ-loop) → let k = e .before .before .before .before in let l = k .before .before .before in let a = l .before .before .before .args in
+further : (e : tie.After-enum-told Inv-loop μ-loop)
+    → let k = e .before .before .before .before in let l = k .before .before .before in let a = l .before .before .before .args in
     Progress (a .table .now) (a .size) (l .loop .i + 1) (l .loop .words + k .numbers .result .rank) (l .loop .bytes + k .numbers .result .«data_size»)
 further e =
     let k = e .before .before .before .before in
-    progress-on (k .before .before .before .loop .inv .0) (reached k .inside) (passes (e .before .before .record-stage .ensures) (e .enum-told .given .1)) (numbered k)
+    progress-on (k .before .before .before .loop .inv .0) (reached k .inside) (passes (e .before .before .record-stage .ensures) (e .enum-told .given .1))
+    (numbered k)
 
 record-stage-requires : tie.Need-record-stage-requires Inv-loop μ-loop
 record-stage-requires c κs =
@@ -54,7 +56,8 @@ returns c =
     let k = c .before .before .before .before in
     let l = k .before .before .before in
     let q = c .enum-told2 .given .1 in
-    let r = sym (l .loop .inv .0 .rest) ∙ checkFrom-off (recordCheckAt _) _ (l .loop .i) (reached k .inside) (refuses (c .before .before .record-stage .ensures) q) in
+    let r = sym (l .loop .inv .0 .rest) ∙ checkFrom-off (recordCheckAt _) _ (l .loop .i) (reached k .inside)
+    (refuses (c .before .before .record-stage .ensures) q) in
     ap stageTells q ∙ sym (then-off _ r)
 
 add-words : tie.Need-add-words Inv-loop μ-loop
@@ -64,7 +67,9 @@ add-bytes : tie.Need-add-bytes Inv-loop μ-loop
 add-bytes c = omega (arith, further (c .before .before) .sums .bytes-in)
 
 add-key-requires : tie.Need-add-key-requires Inv-loop μ-loop
-add-key-requires c κs = let m = c .before .before .before .before .before .before .before .before in let v = m .before .before .loop .inv .1 in (v .room, key-fits v (m .name-key .ensures))
+add-key-requires c κs =
+    let m = c .before .before .before .before .before .before .before .before in let v = m .before .before .loop .inv .1 in
+    (v .room, key-fits v (m .name-key .ensures))
 
 loop-again : tie.Need-loop-again Inv-loop μ-loop
 loop-again c =
@@ -74,7 +79,8 @@ loop-again c =
     (further (c .before .before .before .before .before .before), rw (a .ensures) (seen-on (v .1) (m .name-key .ensures)), a .kept .0 ∙ v .2)
 
 -- the sums are those of all nodes
-trails : (o : tie.After-sums-match Inv-loop μ-loop) → let a = o .before .before .before .before .before .args in o .sums-match .result ≡ nothingTrails (tableTree (a .table .now) (a .size))
+trails : (o : tie.After-sums-match Inv-loop μ-loop)
+    → let a = o .before .before .before .before .before .args in o .sums-match .result ≡ nothingTrails (tableTree (a .table .now) (a .size))
 trails o = o .sums-match .ensures ∙ trails-by (o .before .before .loop .inv .0) (omega arith)
 
 returns-2 : tie.Need-returns-2 Inv-loop μ-loop
@@ -90,5 +96,6 @@ returns-3 c =
 pub records-stage-spec : {M : Type 1} → statement M
 records-stage-spec =
     tie.close (tie.spec Inv-loop μ-loop loop-holds (search needs) (search needs) record-stage-requires (search needs) (search needs)
-    (λ c. c .before .before .before .before .before .before .before .loop .inv .2) returns add-words add-bytes add-key-requires (search needs) (search needs) loop-again (search needs) (search needs)
+    (λ c. c .before .before .before .before .before .before .before .loop .inv .2) returns add-words add-bytes add-key-requires (search needs)
+    (search needs) loop-again (search needs) (search needs)
     (λ c. c .before .before .before .before .loop .inv .2) returns-2 (λ c. c .before .before .before .loop .inv .2) returns-3)

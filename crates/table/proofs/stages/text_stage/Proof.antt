@@ -26,7 +26,8 @@ left : {x : Check} (g : tie.Else2) → let a = g .before .before .before .before
     x ≡ check (a .i) (11 unless not (nameTaken t (a .i)) ∷ []) → x ≡ check (a .i) (textRules t (a .i))
 left g e =
     let f = g .before .before in
-    holds _ 9 _ (sym (f .before .name-lawful .ensures) ∙ not-false _ (f .if1 .left)) (holds _ 10 _ (sym (g .before .label-lawful .ensures) ∙ not-false _ (g .if2 .left)) e)
+    holds _ 9 _ (sym (f .before .name-lawful .ensures) ∙ not-false _ (f .if1 .left))
+    (holds _ 10 _ (sym (g .before .label-lawful .ensures) ∙ not-false _ (g .if2 .left)) e)
 
 returns-3 : tie.Need-returns-3
 returns-3 c =

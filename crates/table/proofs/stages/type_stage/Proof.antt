@@ -20,7 +20,8 @@ returns-2 : tie.Need-returns-2
 returns-2 c =
     let k = c .before .before .data-type-of in
     let g = c .before .before .before in
-    holds _ 12 _ (ap not (sym (g .before .is-link .ensures) ∙ g .if1 .left)) (fails _ 13 _ (rw (← k .ensures .0) (le-ltb 0 (k .result) (omega (arith, c .before .if2 .taken)))) (c .reject2 .ensures))
+    holds _ 12 _ (ap not (sym (g .before .is-link .ensures) ∙ g .if1 .left))
+    (fails _ 13 _ (rw (← k .ensures .0) (le-ltb 0 (k .result) (omega (arith, c .before .if2 .taken)))) (c .reject2 .ensures))
 
 -- rule 14 is left
 left : {x : Check} (g : tie.Else2) → let a = g .before .before .before .before .before .args in let t = allRecords (a .table .now) in
@@ -28,7 +29,8 @@ left : {x : Check} (g : tie.Else2) → let a = g .before .before .before .before
 left g e =
     let k = g .before .data-type-of in
     let f = g .before .before in
-    holds _ 12 _ (ap not (sym (f .before .is-link .ensures) ∙ f .if1 .left)) (holds _ 13 _ (rw (← k .ensures .0) (lt-ltb 0 (k .result) (omega (arith, g .if2 .left)))) e)
+    holds _ 12 _ (ap not (sym (f .before .is-link .ensures) ∙ f .if1 .left))
+    (holds _ 13 _ (rw (← k .ensures .0) (lt-ltb 0 (k .result) (omega (arith, g .if2 .left)))) e)
 
 -- the test of rule 14
 ranked : (g : tie.After-rank-lawful) → let a = g .before .before .before .before .before .before .args in

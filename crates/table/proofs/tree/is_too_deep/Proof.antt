@@ -32,8 +32,11 @@ loop-again c =
     let t = allRecords (d .args .table .now) in
     let at = l .loop .at in
     let p : parentLawful t at ≡ true = below-more (λ j. parentLawful t j ≡ true) (d .args .i) (d .pre .1 .0) (d .pre .1 .1) at (omega arith) in
-    let up : parent t at < at = parent-lower t at p (c .before .if1 .left) in
-    (omega (arith, c .parent-of .ensures .0), ap (deeperThan _ _) (c .parent-of .ensures .0) ∙ sym (deeper-up _ (l .loop .left) _ (omega arith) (c .before .if1 .left)) ∙ l .loop .inv .1)
+    let up : parent t at < at = parent-lower t at p (c .before .if1 .left) in (
+      omega (arith, c .parent-of .ensures .0),
+      ap (deeperThan _ _) (c .parent-of .ensures .0) ∙ sym
+          (deeper-up _ (l .loop .left) _ (omega arith) (c .before .if1 .left)) ∙ l .loop .inv .1,
+    )
 
 returns-2 : tie.Need-returns-2 Inv-loop μ-loop
 returns-2 c = sym (deeper-none _ (c .before .loop .left) _ (omega arith)) ∙ c .before .loop .inv .1
