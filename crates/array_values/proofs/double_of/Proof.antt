@@ -20,5 +20,5 @@ returns-2 c =
 
 pub double-of-spec : {M : Type 1} → statement M
 double-of-spec =
-    tie.close (tie.spec (search needs) (λ c. (refl, sym (c .before .nan-double .ensures) ∙ c .if1 .taken))
-    (λ c. no-nan (nanBits binary64 _) (plain c)) returns-2)
+    tie.close (tie.spec (search needs) (λ c. (refl, sym (c .before .nan-double .ensures) ∙ c .if1 .taken)) (λ c. no-nan (nanBits binary64 _) (plain c))
+    returns-2)

@@ -20,5 +20,5 @@ returns-2 c =
 
 pub single-of-spec : {M : Type 1} → statement M
 single-of-spec =
-    tie.close (tie.spec (search needs) (λ c. (refl, sym (c .before .nan-single .ensures) ∙ c .if1 .taken))
-    (λ c. no-nan (nanBits binary32 _) (plain c)) returns-2)
+    tie.close (tie.spec (search needs) (λ c. (refl, sym (c .before .nan-single .ensures) ∙ c .if1 .taken)) (λ c. no-nan (nanBits binary32 _) (plain c))
+    returns-2)

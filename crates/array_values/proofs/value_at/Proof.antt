@@ -62,5 +62,6 @@ returns-3 c =
     (rw (toZ-ofZ (sfits-of {w = w64} {z = c .whole-at .result} (c .whole-at .ok))) (ap answer v), tt)
 
 pub value-at-spec : {M : Type 1} → statement M
-value-at-spec = tie.close (tie.spec number-requires (search needs) (search needs) returns number-requires-2 (search needs) returns-2 width-of-requires
-    whole-at-requires returns-3)
+value-at-spec =
+    tie.close (tie.spec number-requires (search needs) (search needs) returns number-requires-2 (search needs) returns-2 width-of-requires whole-at-requires
+    returns-3)

@@ -39,5 +39,6 @@ returns-2 c =
     (sym (c .before .loop .inv .1) ∙ trim-end (a .image .now) (a .at) (c .before .loop .k) (c .loop-test .left), search needs)
 
 pub text-length-spec : {M : Type 1} → statement M
-text-length-spec = tie.close (tie.spec Inv-loop μ-loop (search needs) (search needs) (search needs) (search needs) returns
-    (search needs) (search needs) loop-again returns-2)
+text-length-spec =
+    tie.close (tie.spec Inv-loop μ-loop (search needs) (search needs) (search needs) (search needs) returns (search needs) (search needs) loop-again
+    returns-2)

@@ -39,4 +39,5 @@ returns-2 c =
 
 pub table-stage-with-spec : {M : Type 1} → statement M
 table-stage-with-spec =
-    tie.close (tie.spec (search needs) (search needs) (search needs) returns node-table-requires read-requires records-stage-requires (search needs) returns-2)
+    tie.close (tie.spec (search needs) (search needs) (search needs) returns node-table-requires read-requires records-stage-requires (search needs)
+    returns-2)

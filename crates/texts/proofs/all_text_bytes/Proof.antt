@@ -38,4 +38,5 @@ returns c =
 
 pub all-text-bytes-spec : {M : Type 1} → statement M
 all-text-bytes-spec =
-    tie.close (tie.spec Inv-loop μ-loop loop-holds (search needs) (search needs) (search needs) (search needs) (search needs) (search needs) loop-again returns)
+    tie.close (tie.spec Inv-loop μ-loop loop-holds (search needs) (search needs) (search needs) (search needs) (search needs) (search needs) loop-again
+    returns)

@@ -38,5 +38,5 @@ returns-5 c =
 
 pub laid-out-spec : {M : Type 1} → statement M
 laid-out-spec =
-    tie.close (tie.spec returns (search needs) (search needs) returns-2 (search needs) (search needs) (search needs)
-    (search needs) returns-3 returns-4 returns-5)
+    tie.close (tie.spec returns (search needs) (search needs) returns-2 (search needs) (search needs) (search needs) (search needs) returns-3 returns-4
+    returns-5)

@@ -40,5 +40,4 @@ returns-4 c =
     holds 0 4 _ (some (g .before .before .before)) (holds 0 5 _ words (holds 0 6 _ (sym (g .laid-out .ensures) ∙ not-false _ (c .if3 .left)) (sym (no-rule 0))))
 
 pub layout-stage-spec : {M : Type 1} → statement M
-layout-stage-spec =
-    tie.close (tie.spec (search needs) (search needs) returns (search needs) returns-2 laid-out-requires (search needs) returns-3 returns-4)
+layout-stage-spec = tie.close (tie.spec (search needs) (search needs) returns (search needs) returns-2 laid-out-requires (search needs) returns-3 returns-4)

@@ -75,5 +75,5 @@ returns-2 c =
 
 pub data-size-lawful-spec : {M : Type 1} → statement M
 data-size-lawful-spec =
-    tie.close (tie.spec Inv-loop μ-loop (search needs) loop-holds dimension-requires (search needs) returns mul-m (search needs) (search needs)
-    loop-again returns-2)
+    tie.close (tie.spec Inv-loop μ-loop (search needs) loop-holds dimension-requires (search needs) returns mul-m (search needs) (search needs) loop-again
+    returns-2)

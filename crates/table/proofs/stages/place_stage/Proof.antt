@@ -29,5 +29,4 @@ returns-3 c =
     holds _ 7 _ (lawful (g .before)) (holds _ 8 _ (ap not (sym (g .is-too-deep .ensures) ∙ c .if2 .left)) (sym (no-rule _)))
 
 pub place-stage-spec : {M : Type 1} → statement M
-place-stage-spec =
-    tie.close (tie.spec (search needs) (search needs) returns is-too-deep-requires (search needs) returns-2 returns-3)
+place-stage-spec = tie.close (tie.spec (search needs) (search needs) returns is-too-deep-requires (search needs) returns-2 returns-3)

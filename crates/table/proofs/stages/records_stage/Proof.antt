@@ -97,5 +97,5 @@ pub records-stage-spec : {M : Type 1} → statement M
 records-stage-spec =
     tie.close (tie.spec Inv-loop μ-loop loop-holds (search needs) (search needs) record-stage-requires (search needs) (search needs)
     (λ c. c .before .before .before .before .before .before .before .loop .inv .2) returns add-words add-bytes add-key-requires (search needs)
-    (search needs) loop-again (search needs) (search needs)
-    (λ c. c .before .before .before .before .loop .inv .2) returns-2 (λ c. c .before .before .before .loop .inv .2) returns-3)
+    (search needs) loop-again (search needs) (search needs) (λ c. c .before .before .before .before .loop .inv .2) returns-2
+    (λ c. c .before .before .before .loop .inv .2) returns-3)

@@ -68,5 +68,5 @@ returns-4 c =
 
 pub size-stage-spec : {M : Type 1} → statement M
 size-stage-spec =
-    tie.close (tie.spec (search needs) (search needs) returns data-size-lawful-requires (search needs) returns-2 (search needs)
-    (search needs) returns-3 returns-4)
+    tie.close (tie.spec (search needs) (search needs) returns data-size-lawful-requires (search needs) returns-2 (search needs) (search needs) returns-3
+    returns-4)

@@ -39,5 +39,5 @@ returns-4 c = left (c .before .before) (holds _ 11 _ (ap not (sym (c .before .na
 
 pub text-stage-spec : {M : Type 1} → statement M
 text-stage-spec =
-    tie.close (tie.spec (search needs) (search needs) returns (search needs) (search needs) returns-2 (λ c κs. search needs)
-    (search needs) returns-3 returns-4)
+    tie.close (tie.spec (search needs) (search needs) returns (search needs) (search needs) returns-2 (λ c κs. search needs) (search needs) returns-3
+    returns-4)

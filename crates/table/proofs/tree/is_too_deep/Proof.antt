@@ -42,5 +42,4 @@ returns-2 : tie.Need-returns-2 Inv-loop μ-loop
 returns-2 c = sym (deeper-none _ (c .before .loop .left) _ (omega arith)) ∙ c .before .loop .inv .1
 
 pub is-too-deep-spec : {M : Type 1} → statement M
-is-too-deep-spec =
-    tie.close (tie.spec Inv-loop μ-loop loop-holds returns (search needs) (search needs) (search needs) loop-again returns-2)
+is-too-deep-spec = tie.close (tie.spec Inv-loop μ-loop loop-holds returns (search needs) (search needs) (search needs) loop-again returns-2)
