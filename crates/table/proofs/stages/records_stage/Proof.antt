@@ -69,7 +69,7 @@ add-bytes c = omega (arith, further (c .before .before) .sums .bytes-in)
 add-key-requires : tie.Need-add-key-requires Inv-loop μ-loop
 add-key-requires c κs =
     let m = c .before .before .before .before .before .before .before .before in let v = m .before .before .loop .inv .1 in
-    (v .room, key-fits v (m .name-key .ensures))
+    (v .room, omega (arith, key-fits v (m .name-key .ensures)))
 
 loop-again : tie.Need-loop-again Inv-loop μ-loop
 loop-again c =
