@@ -1,4 +1,4 @@
--- What an array value's check refuses, in order, where rules 1 to 18 hold; and what is answered.
+-- What is answered for an array value, in the order of the refusals.
 use Prim.Native.Nat.{ℕ, _-_, _≤_, _<_}
 use mathlib.Core.Path.{_≡_, _∙_}
 use mathlib.Core.Bool.{true, false, _&&_}
@@ -11,52 +11,45 @@ use Rattle.model.specs.Rules.{_unless_, rejection, rejected, answer, passed, ch
 use Rattle.model.specs.Image.{treeOf, nodeCount, dimensions, dataType}
 use Rattle.model.specs.Records.{tableCheck, product}
 use Rattle.model.specs.Values.{typed}
+use Rattle.model.specs.Given.{Sound}
 use Rattle.model.specs.ArrayValue.{valueAt, valueCheck, valueAnswer}
 use Rattle.model.proofs.Logic.{and-both}
 use Rattle.model.proofs.Passed.{then-off}
-use Rattle.model.proofs.Staging.{kept, broken}
+use Rattle.model.proofs.Staging.{kept, broken, no-rule}
 use Rattle.model.proofs.Known.{no-node, a-node}
 use Rattle.array_values.specs.Readable.{readable}
 
+refuses : (b : List ℕ) (i k : ℕ) {r : Rejection} → valueCheck b i k ≡ rejected r → rejected r ≡ valueAnswer b i k
+unfolding valueAnswer _gives_ _then_
+refuses b i k e = rw e
+
 -- what rules 1 to 18 refuse
-pub no-table : (b : List ℕ) (i k : ℕ) {r : Rejection} → tableCheck b ≡ rejected r → valueCheck b i k ≡ rejected r
+pub no-table : (b : List ℕ) (i k : ℕ) {r : Rejection} → tableCheck b ≡ rejected r → rejected r ≡ valueAnswer b i k
 unfolding valueCheck
-no-table b i k e = then-off _ e
+no-table b i k e = refuses b i k (then-off _ e)
 
-module _ (b : List ℕ) (sound : tableCheck b ≡ passed) (i k : ℕ) where
-  pub unknown : nodeCount b ≤ i → valueCheck b i k ≡ rejected (rejection 40 0)
+module _ {b : List ℕ} (sound : Sound b) (i k : ℕ) where
+  pub unknown : nodeCount b ≤ i → rejected (rejection 40 0) ≡ valueAnswer b i k
   unfolding valueCheck
-  unknown h = no-node b sound i _ h
+  unknown h = refuses b i k (no-node b (sound .table) i _ h)
 
-  -- rules 47 and 42 are left
-  known : i < nodeCount b → valueCheck b i k ≡ check 0 (47 unless typed (treeOf b) i readable ∷ 42 unless (leb 1 k && leb k (product (dimensions (treeOf b) i))) ∷ [])
-  unfolding valueCheck
-  known h = a-node b sound i _ h
+  module _ (h : i < nodeCount b) where
+    pub unreadable : among (dataType (treeOf b) i) readable ≡ false → rejected (rejection 47 0) ≡ valueAnswer b i k
+    unfolding valueCheck typed
+    unreadable e = refuses b i k (a-node b (sound .table) i _ h ∙ broken 0 47 _ e)
 
-  pub unreadable : i < nodeCount b → among (dataType (treeOf b) i) readable ≡ false → valueCheck b i k ≡ rejected (rejection 47 0)
-  unfolding typed
-  unreadable h e = known h ∙ broken 0 47 _ e
+    -- rule 42 is left
+    module _ (e : among (dataType (treeOf b) i) readable ≡ true) where
+      typed-so : valueCheck b i k ≡ check 0 (42 unless (leb 1 k && leb k (product (dimensions (treeOf b) i))) ∷ [])
+      unfolding valueCheck typed
+      typed-so = a-node b (sound .table) i _ h ∙ kept 0 47 _ e
 
-  -- rule 42 is left
-  typed-so : i < nodeCount b → among (dataType (treeOf b) i) readable ≡ true → valueCheck b i k ≡ check 0 (42 unless (leb 1 k && leb k (product (dimensions (treeOf b) i))) ∷ [])
-  unfolding typed
-  typed-so h e = known h ∙ kept 0 47 _ e
+      pub not-from-one : k < 1 → rejected (rejection 42 0) ≡ valueAnswer b i k
+      not-from-one l = refuses b i k (typed-so ∙ broken 0 42 [] (rw (lt-leb 1 k l)))
 
-  pub not-from-one : i < nodeCount b → among (dataType (treeOf b) i) readable ≡ true → k < 1 → valueCheck b i k ≡ rejected (rejection 42 0)
-  not-from-one h e l = typed-so h e ∙ broken 0 42 [] (rw (lt-leb 1 k l))
+      pub past-end : 1 ≤ k → product (dimensions (treeOf b) i) < k → rejected (rejection 42 0) ≡ valueAnswer b i k
+      past-end m l = refuses b i k (typed-so ∙ broken 0 42 [] (rw (le-leb 1 k m, lt-leb k (product (dimensions (treeOf b) i)) l)))
 
-  pub past-end : i < nodeCount b → among (dataType (treeOf b) i) readable ≡ true → 1 ≤ k → product (dimensions (treeOf b) i) < k → valueCheck b i k ≡ rejected (rejection 42 0)
-  past-end h e m l = typed-so h e ∙ broken 0 42 [] (rw (le-leb 1 k m, lt-leb k (product (dimensions (treeOf b) i)) l))
-
-  pub in-range : i < nodeCount b → among (dataType (treeOf b) i) readable ≡ true → 1 ≤ k → k ≤ product (dimensions (treeOf b) i) → valueCheck b i k ≡ passed
-  unfolding check
-  in-range h e m l = typed-so h e ∙ kept 0 42 [] (and-both (leb 1 k) (leb k (product (dimensions (treeOf b) i))) (le-leb 1 k m) (le-leb k (product (dimensions (treeOf b) i)) l))
-
-module _ (b : List ℕ) (i k : ℕ) where
-  pub refuses : {r : Rejection} → valueCheck b i k ≡ rejected r → rejected r ≡ valueAnswer b i k
-  unfolding valueAnswer _gives_ _then_
-  refuses e = rw e
-
-  pub succeeds : valueCheck b i k ≡ passed → answer (valueAt (treeOf b) i (k - 1)) ≡ valueAnswer b i k
-  unfolding valueAnswer _gives_ _then_
-  succeeds e = rw e
+      pub in-range : 1 ≤ k → k ≤ product (dimensions (treeOf b) i) → answer (valueAt (treeOf b) i (k - 1)) ≡ valueAnswer b i k
+      unfolding valueAnswer _gives_ _then_
+      in-range m l = rw (typed-so ∙ kept 0 42 [] (and-both _ _ (le-leb 1 k m) (le-leb k (product (dimensions (treeOf b) i)) l)) ∙ no-rule 0)

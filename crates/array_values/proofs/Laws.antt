@@ -25,28 +25,32 @@ use Rattle.model.proofs.Accepted.{record-rule}
 pub no-nan : (t : Bool) → t ≡ false → T (not t)
 no-nan t h = rw h tt
 
--- a float that is no NaN has the bits that it was made from
-pub bits-kept : (f : Format) (x : ℕ) → x < 2 * top f → nanBits f x ≡ false → toBits f (ofBits f x) ≡ x
-bits-kept f x l h = toBits-ofBits f x l (no-nan (isNan (ofBits f x)) (sym (nanBits-is f x) ∙ h))
-
-pub or-none : (a : Bool) → a ≡ (a || false)
-or-none true = refl
-or-none false = refl
+-- a float that is no NaN's bits is none, and has the bits that it was made from
+pub bits-kept : (f : Format) (x : ℕ) → x < 2 * top f → nanBits f x ≡ false → (toBits f (ofBits f x) ≡ x) × (isNan (ofBits f x) ≡ false)
+bits-kept f x l h = let n = sym (nanBits-is f x) ∙ h in (toBits-ofBits f x l (no-nan (isNan (ofBits f x)) n), n)
 
 -- rule 16, at a width w
-pub array-size : (b : List ℕ) → Sound b → (i : ℕ) → i < nodeCount b → (w : ℕ) → w ≡ width (treeOf b) i → product (dimensions (treeOf b) i) * w ≡ node (treeOf b) i .dataSize
+pub array-size : (b : List ℕ) → Sound b → (i : ℕ) → i < nodeCount b → (w : ℕ) → w ≡ width (treeOf b) i
+    → product (dimensions (treeOf b) i) * w ≡ node (treeOf b) i .dataSize
 unfolding recordRules dataSizeLawful
-array-size b s i h w e = rw e (eqb-true _ _ (and-second (not (among 0 (dimensions (treeOf b) i))) _ (record-rule b (s .table) 16 i h)))
+array-size b s i h w e =
+    rw e (eqb-true _ _ (and-second (not (among 0 (dimensions (treeOf b) i))) _ (record-rule b (s .table) 16 i h)))
 
--- a value's bytes lie within the data
-pub array-room : (b : List ℕ) → Sound b → (i : ℕ) → i < nodeCount b → (w : ℕ) → w ≡ width (treeOf b) i → (k : ℕ) → k < product (dimensions (treeOf b) i) → w * k + w ≤ node (treeOf b) i .dataSize
-array-room b s i h w e k l =
+pub width-is : (t : Tree) (i : ℕ) {d : ℕ} → d ≡ dataType t i → getD widths d 0 ≡ width t i
+unfolding width
+width-is t i e = rw e
+
+-- a value's bytes lie within the data, where the data type is n and its width w
+pub array-room : (b : List ℕ) → Sound b → (i : ℕ) → i < nodeCount b → {d : ℕ} → d ≡ dataType (treeOf b) i → (n w : ℕ) → d ≡ n → w ≡ getD widths n 0
+    → (k : ℕ) → k < product (dimensions (treeOf b) i) → (w ≡ width (treeOf b) i) × (w * k + w ≤ node (treeOf b) i .dataSize)
+array-room b s i h f n w g u k l =
     let p = product (dimensions (treeOf b) i) in
+    let e : w ≡ width (treeOf b) i = u ∙ width-is (treeOf b) i (sym g ∙ f) in
     let a = array-size b s i h w e in
     let m : w * suc k ≤ w * p = mul-le-mul-left w l in
     let c = mul-comm w p in
     let d : w * suc k ≡ w * k + w = omega (arith, mul-suc w k) in
-    omega arith
+    (e, omega arith)
 
 abbrev every : (ℕ → Bool) → List ℕ → Bool
 every p [] = true
@@ -58,7 +62,8 @@ unfolding among
 each p x [] h e = untrue e
 each p x (y ∷ ys) h e = by-test (p y) refl h (eqb x y) refl e (λ g. each p x ys g)
   where
-    by-test : (a : Bool) → p y ≡ a → T (a && every p ys) → (t : Bool) → eqb x y ≡ t → (t || among x ys) ≡ true → (T (every p ys) → among x ys ≡ true → p x ≡ true) → p x ≡ true
+    by-test : (a : Bool) → p y ≡ a → T (a && every p ys) → (t : Bool) → eqb x y ≡ t → (t || among x ys) ≡ true
+        → (T (every p ys) → among x ys ≡ true → p x ≡ true) → p x ≡ true
     by-test true q g true f m later = ap p (eqb-true x y f) ∙ q
     by-test true q g false f m later = later g m
     by-test false q g t f m later = absurd g
@@ -72,10 +77,6 @@ unfolding widths wide
 readable-wide d e =
     let h = each wide d readable tt e in
     (rw (and-first (isWidth (getD widths d 0)) (leb d 11) h) tt, leb-true d 11 (and-second (isWidth (getD widths d 0)) (leb d 11) h))
-
-pub width-is : (t : Tree) (i d : ℕ) → d ≡ dataType t i → (n : ℕ) → d ≡ n → getD widths n 0 ≡ width t i
-unfolding width
-width-is t i d e n f = rw (← f, e)
 
 -- value k by its data type
 module _ (t : Tree) (i d : ℕ) (e : d ≡ dataType t i) (k : ℕ) where

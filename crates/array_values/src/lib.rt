@@ -3,7 +3,8 @@ use model::ArrayValue;
 use model::Rejection;
 use model::Stage;
 use records::Header;
-use records::Record;
+use records::RecordNumbers;
+use records::data_types;
 ghost use mathlib.Core.Path.{_≡_};
 ghost use mathlib.Core.Bool.{true};
 ghost use Prim.Native.Nat.{_+_, _*_, _≤_, _<_};
@@ -19,15 +20,6 @@ ghost use Rattle.model.specs.Answers.{valueTells, NanCases};
 ghost use Rattle.model.specs.Given.{Sound};
 ghost use Rattle.words.specs.Width.{isWidth};
 ghost use Rattle.array_values.specs.Readable.{readable};
-
-// Data types by their place among the eleven.
-const I4: u64 = 4;
-
-const R4: u64 = 6;
-
-const I8: u64 = 7;
-
-const R8: u64 = 9;
 
 // Whether the bits of a single are a NaN's.
 fn nan_single(bits: u32) -> bool
@@ -67,16 +59,16 @@ fn double_of(bits: u64) -> ArrayValue
 fn is_readable(data_type: u64) -> bool
     ensures { λ r. ⌜ r ≡ among data_type readable ⌝ }
 {
-    if data_type == I4 {
+    if data_type == data_types::I4 {
         return true;
     }
-    if data_type == I8 {
+    if data_type == data_types::I8 {
         return true;
     }
-    if data_type == R4 {
+    if data_type == data_types::R4 {
         return true;
     }
-    data_type == R8
+    data_type == data_types::R8
 }
 
 // How many values node i has; `wide` is its width, 4 or 8.
@@ -84,7 +76,7 @@ fn array_length(image: &[u8], i: usize, wide: u64) -> u64
     requires { ⌜ (Sound (now image) × (i < nodeCount (now image))) × ((T (isWidth wide)) × (wide ≡ width (treeOf (now image)) i)) ⌝ }
     ensures { λ r. ⌜ r ≡ product (dimensions (treeOf (now (image .entry))) i) ⌝ }
 {
-    let size = words::u32_at(image, Record::at(i) + Record::DATA_SIZE);
+    let size = RecordNumbers::read(image, i).data_size;
     if wide == 4 { size / 4 } else { size / 8 }
 }
 
@@ -103,10 +95,10 @@ fn value_at(image: &[u8], i: usize, k: usize, data_type: u64) -> ArrayValue
     requires { ⌜ k < product (dimensions (treeOf (now image)) i) ⌝ }
     ensures { λ r. ⌜ (valueTells r ≡ answer (valueAt (treeOf (now (image .entry))) i k)) × NanCases r ⌝ }
 {
-    if data_type == R4 {
+    if data_type == data_types::R4 {
         return single_of(records::number(image, i, k, 4) as u32);
     }
-    if data_type == R8 {
+    if data_type == data_types::R8 {
         return double_of(records::number(image, i, k, 8));
     }
     let wide = records::width_of(data_type) as usize;

@@ -1,31 +1,29 @@
--- Laws of a name without its padding, of a copy, and of the names down to a node.
+-- Laws of a name without its padding, and of the names down to a node.
 use Prim.Native.Nat.{ℕ, zero, suc, _+_, _-_, _≤_, _<_}
 use mathlib.Core.Path.{_≡_, refl, sym, ap, _∙_}
 use mathlib.Core.Bool.{Bool, true, false, cond, _&&_}
-use mathlib.Core.List.{List, [], _∷_, _++_, append-assoc}
+use mathlib.Core.List.{List, [], _∷_, _++_}
 use native.Mathlib.Omega.{arith}
-use native.Mathlib.Numerals.{add-one}
 use lib.Dec.{eqb}
 use lib.ListN.{length, getD, set, take, drop, length-drop, length-append}
-use lib.Seq.{take-suc, length-take-le, paste, paste-suc, getD-drop, drop-drop, drop-set-lt, take-suc-set, take-append-seam, drop-append-add}
+use lib.Seq.{take-suc, length-take-le, getD-drop}
 use borrow.Author.Tests.{eqb-false, ne-eqb}
-use Rattle.model.specs.Lists.{over}
+use Rattle.model.specs.Lists.{over, overAt}
 use Rattle.model.specs.Bytes.{blank}
 use Rattle.model.specs.Image.{Tree, treeOf, nodeCount, recordAt, name, parent}
 use Rattle.model.specs.Path.{trimmed, namesWithin, pathOf}
 use Rattle.model.specs.Given.{Sound}
+use Rattle.model.proofs.Logic.{and-false}
+use Rattle.model.proofs.Overlays.{over-more}
 use Rattle.model.proofs.Parents.{parent-lower, lawful-at}
-use Rattle.paths.specs.Names.{stepOf, namesOf, written}
+use Rattle.words.proofs.Writes.{overAt-cons}
+use Rattle.paths.specs.Names.{stepOf, namesOf}
 
 -- a blank at the end is padding, another byte is not
 blank-blank : (s : List ℕ) → blank (s ++ (32 ∷ [])) ≡ blank s
 unfolding blank
 blank-blank [] = refl
 blank-blank (x ∷ s) = rw (blank-blank s)
-
-and-false : (a : Bool) → (a && false) ≡ false
-and-false true = refl
-and-false false = refl
 
 blank-byte : (s : List ℕ) (x : ℕ) → eqb x 32 ≡ false → blank (s ++ (x ∷ [])) ≡ false
 unfolding blank
@@ -59,19 +57,6 @@ pub trim-end : (b : List ℕ) (at k : ℕ) → k ≤ 0 → trimmed (take k (drop
 unfolding trimmed
 trim-end b at k h = let e : k ≡ 0 = omega arith in rw e
 
--- one byte more is copied
-pub copy-more : (b : List ℕ) (at : ℕ) (d : List ℕ) (k j : ℕ) → at + j < length b → k + j < length d
-    → set (paste d k (drop at b) j) (k + j) (getD b (at + j) 0) ≡ paste d k (drop at b) (j + 1)
-copy-more b at d k j h l =
-    rw (add-one j, ← getD-drop at b j 0) (paste-suc d k (drop at b) j 0 l (rw length-drop (omega arith)))
-
--- a slash, and a copy after it
-slashed : (d : List ℕ) (k : ℕ) (l : List ℕ) (n : ℕ) → k < length d → length (take n l) ≡ n → paste (set d k 47) (k + 1) l n ≡ written d k (47 ∷ take n l)
-slashed d k l n h e =
-    let g : k + 1 + n ≡ k + suc (length (take n l)) = omega (arith, e) in
-    let f : drop (k + 1 + n) (set d k 47) ≡ drop (k + suc (length (take n l))) d = drop-set-lt (k + 1 + n) d k 47 (omega arith) ∙ ap (λ m. drop m d) g in
-    rw (f, add-one k, take-suc-set d k 47) (simp append-assoc)
-
 -- the name of node i is n bytes of its record
 module _ (b : List ℕ) (i n : ℕ) (e : trimmed (name (treeOf b) i) ≡ take n (drop (recordAt i) b)) (h : recordAt i + n ≤ length b) where
   took : length (take n (drop (recordAt i) b)) ≡ n
@@ -80,13 +65,16 @@ module _ (b : List ℕ) (i n : ℕ) (e : trimmed (name (treeOf b) i) ≡ take n 
   pub sized : length (stepOf (treeOf b) i) ≡ suc n
   sized = rw e (ap suc took)
 
-  pub named : {p : ℕ} → p ≡ recordAt i → (d : List ℕ) (k : ℕ) → k < length d → {new : List ℕ} → new ≡ paste (set d k 47) (k + 1) (drop p b) n → new ≡ written d k (stepOf (treeOf b) i)
-  named f d k l g = rw (g, e, f) (slashed d k (drop (recordAt i) b) n l took)
+  -- they were taken from p to p + n
+  module _ {p : ℕ} (f : p ≡ recordAt i) where
+    part-is : take (p + n - p) (drop p b) ≡ take n (drop (recordAt i) b)
+    part-is = let m : recordAt i + n - recordAt i ≡ n = omega arith in rw (f, m)
 
--- names, and the next one after them
-joined : (p a d : List ℕ) → written (over d p) (length p) a ≡ over d (p ++ a)
-unfolding over
-joined p a d = simp (take-append-seam, drop-append-add, drop-drop, append-assoc, length-append)
+    pub part-length : length (take (p + n - p) (drop p b)) ≡ n
+    part-length = ap length part-is ∙ took
+
+    pub named : (d : List ℕ) (k : ℕ) → k < length d → overAt (k + 1) (set d k 47) (take (p + n - p) (drop p b)) ≡ overAt k d (stepOf (treeOf b) i)
+    named d k l = rw (part-is, e) (sym (overAt-cons k d 47 (take n (drop (recordAt i) b)) l))
 
 -- more names than there are lower nodes make no difference
 enough : (b : List ℕ) → Sound b → (k j i : ℕ) → i < nodeCount b → i ≤ k → i ≤ j → namesWithin (treeOf b) k i ≡ namesWithin (treeOf b) j i
@@ -95,14 +83,17 @@ enough b s zero zero i n h l = refl
 enough b s zero (suc j) i n h l = let e : i ≡ 0 = omega arith in rw e
 enough b s (suc k) zero i n h l = let e : i ≡ 0 = omega arith in rw e
 enough b s (suc k) (suc j) i n h l =
-    by-test (eqb i 0) refl (λ z. let u = parent-lower (treeOf b) i (lawful-at b s i n) z in enough b s k j (parent (treeOf b) i) (omega arith) (omega arith) (omega arith))
+    by-test (eqb i 0) refl (λ z. let u = parent-lower (treeOf b) i (lawful-at b s i n) z in enough b s k j (parent (treeOf b) i) (omega arith) (omega arith)
+    (omega arith))
   where
     by-test : (t : Bool) → eqb i 0 ≡ t → ((i ≡ 0 → ⊥) → namesWithin (treeOf b) k (parent (treeOf b) i) ≡ namesWithin (treeOf b) j (parent (treeOf b) i))
-        → cond t [] (namesWithin (treeOf b) k (parent (treeOf b) i) ++ stepOf (treeOf b) i) ≡ cond t [] (namesWithin (treeOf b) j (parent (treeOf b) i) ++ stepOf (treeOf b) i)
+        → cond t [] (namesWithin (treeOf b) k (parent (treeOf b) i) ++ stepOf (treeOf b) i)
+        ≡ cond t [] (namesWithin (treeOf b) j (parent (treeOf b) i) ++ stepOf (treeOf b) i)
     by-test true e q = refl
     by-test false e q = ap (λ p. p ++ stepOf (treeOf b) i) (q (eqb-false i 0 e))
 
-names-step : (b : List ℕ) → Sound b → (i : ℕ) → i < nodeCount b → (i ≡ 0 → ⊥) → namesOf (treeOf b) i ≡ namesOf (treeOf b) (parent (treeOf b) i) ++ stepOf (treeOf b) i
+names-step : (b : List ℕ) → Sound b → (i : ℕ) → i < nodeCount b → (i ≡ 0 → ⊥)
+    → namesOf (treeOf b) i ≡ namesOf (treeOf b) (parent (treeOf b) i) ++ stepOf (treeOf b) i
 unfolding namesWithin
 names-step b s zero n z = absurd (z refl)
 names-step b s (suc i) n z =
@@ -122,8 +113,9 @@ module _ (b : List ℕ) (s : Sound b) (i p : ℕ) (n : i < nodeCount b) (e : p �
   pub longer : length (namesOf (treeOf b) p) + length (stepOf (treeOf b) i) ≡ length (namesOf (treeOf b) i)
   longer = rw e (sym (ap length (names-step b s i n z) ∙ length-append (namesOf (treeOf b) (parent (treeOf b) i)) (stepOf (treeOf b) i)))
 
-  pub onward : (k : ℕ) (d l : List ℕ) → k ≡ length (namesOf (treeOf b) p) → l ≡ over d (namesOf (treeOf b) p) → written l k (stepOf (treeOf b) i) ≡ over d (namesOf (treeOf b) i)
-  onward k d l f g = rw (f, g, e, names-step b s i n z) (joined (namesOf (treeOf b) (parent (treeOf b) i)) (stepOf (treeOf b) i) d)
+  pub onward : (k : ℕ) (d l : List ℕ) → k ≡ length (namesOf (treeOf b) p) → l ≡ over d (namesOf (treeOf b) p)
+      → overAt k l (stepOf (treeOf b) i) ≡ over d (namesOf (treeOf b) i)
+  onward k d l f g = rw (f, g, e, names-step b s i n z) (over-more d (namesOf (treeOf b) (parent (treeOf b) i)) (stepOf (treeOf b) i))
 
 -- the root's path is one slash, another's its names
 pub path-root : (t : Tree) (i : ℕ) → i ≡ 0 → pathOf t i ≡ 47 ∷ []

@@ -1,7 +1,6 @@
--- The parts of a path, and a buffer that holds one.
-use Prim.Native.Nat.{ℕ, _+_}
-use mathlib.Core.List.{List, _∷_, _++_}
-use lib.ListN.{length, take, drop}
+-- The parts of a path.
+use Prim.Native.Nat.{ℕ}
+use mathlib.Core.List.{List, _∷_}
 use Rattle.model.specs.Image.{Tree, name}
 use Rattle.model.specs.Path.{trimmed, slash, namesWithin}
 
@@ -12,7 +11,3 @@ stepOf t i = slash ∷ trimmed (name t i)
 -- the names from below the root down to node i, each after a slash
 abbrev pub namesOf : Tree → ℕ → List ℕ
 namesOf t i = namesWithin t i i
-
--- a buffer with a list written into it from k on, the rest as it was
-abbrev pub written : List ℕ → ℕ → List ℕ → List ℕ
-written out k new = take k out ++ (new ++ drop (k + length new) out)

@@ -7,14 +7,13 @@ use records::Record;
 ghost use mathlib.Core.Path.{_≡_};
 ghost use Prim.Native.Nat.{_+_, _≤_, _<_};
 ghost use lib.ListN.{length, take, drop};
-ghost use lib.Seq.{paste};
-ghost use Rattle.model.specs.Lists.{over};
+ghost use Rattle.model.specs.Lists.{over, overAt};
 ghost use Rattle.model.specs.Image.{treeOf, nodeCount, recordAt, name};
 ghost use Rattle.model.specs.Path.{trimmed, pathOf, pathAnswer, pathMemory};
 ghost use Rattle.model.specs.Answers.{countTells};
 ghost use Rattle.model.specs.Bounds.{Laid};
 ghost use Rattle.model.specs.Given.{Sound};
-ghost use Rattle.paths.specs.Names.{stepOf, namesOf, written};
+ghost use Rattle.paths.specs.Names.{stepOf, namesOf};
 
 // The length of the 32 bytes from `at` without the blanks at their end.
 fn text_length(image: &[u8], at: usize) -> usize
@@ -39,34 +38,24 @@ fn name_length(image: &[u8], i: usize) -> usize
     text_length(image, Record::at(i))
 }
 
-// Copies n bytes of the image from `at` to `out` from k on.
-fn copy(image: &[u8], at: usize, n: usize, out: &mut [u8], k: usize)
-    requires { ⌜ (at + n ≤ length (now image)) × (k + n ≤ length (now out)) ⌝ }
-    ensures { λ _. ⌜ now (out .exit) ≡ paste (now (out .entry)) k (drop at (now (image .entry))) n ⌝ }
-{
-    let mut j = 0;
-    while j < n {
-        out[k + j] = image[at + j];
-        j += 1;
-    }
-}
-
 // Writes a slash and the name of node i to `out` from k on, and answers the index after them.
 fn write_name(image: &[u8], i: usize, out: &mut [u8], k: usize) -> usize
     requires { ⌜ (Laid (now image) × (i < nodeCount (now image))) × (k + length (stepOf (treeOf (now image)) i) ≤ length (now out)) ⌝ }
-    ensures { λ r. ⌜ (r ≡ k + length (stepOf (treeOf (now (image .entry))) i)) × (now (out .exit) ≡ written (now (out .entry)) k (stepOf (treeOf (now (image .entry))) i)) ⌝ }
+    ensures { λ r. ⌜ (r ≡ k + length (stepOf (treeOf (now (image .entry))) i))
+        × (now (out .exit) ≡ overAt k (now (out .entry)) (stepOf (treeOf (now (image .entry))) i)) ⌝ }
 {
     let p = Record::at(i);
     let n = name_length(image, i);
     out[k] = 47;
-    copy(image, p, n, out, k + 1);
+    words::put_bytes(out, k + 1, &image[p..p + n]);
     k + 1 + n
 }
 
 // Writes the names from below the root down to node i in front of `out`, the parent's first, and answers their length.
 fn write_names(image: &[u8], i: usize, out: &mut [u8]) -> usize
     requires { ⌜ (Sound (now image) × (i < nodeCount (now image))) × (length (namesOf (treeOf (now image)) i) ≤ length (now out)) ⌝ }
-    ensures { λ r. ⌜ (r ≡ length (namesOf (treeOf (now (image .entry))) i)) × (now (out .exit) ≡ over (now (out .entry)) (namesOf (treeOf (now (image .entry))) i)) ⌝ }
+    ensures { λ r. ⌜ (r ≡ length (namesOf (treeOf (now (image .entry))) i))
+        × (now (out .exit) ≡ over (now (out .entry)) (namesOf (treeOf (now (image .entry))) i)) ⌝ }
 {
     if i == 0 {
         return 0;
@@ -116,7 +105,8 @@ fn write_path(image: &[u8], i: usize, out: &mut [u8])
 // The path of a node of an image in which rules 1 to 18 hold: rule 40, then 46, then the path in front of `out` and its length.
 fn sound_path(image: &[u8], node: u64, out: &mut [u8]) -> Count
     requires { ⌜ Sound (now image) ⌝ }
-    ensures { λ r. ⌜ (countTells r ≡ pathAnswer (now (image .entry)) node (length (now (out .entry)))) × (now (out .exit) ≡ pathMemory (now (image .entry)) node (now (out .entry))) ⌝ }
+    ensures { λ r. ⌜ (countTells r ≡ pathAnswer (now (image .entry)) node (length (now (out .entry))))
+        × (now (out .exit) ≡ pathMemory (now (image .entry)) node (now (out .entry))) ⌝ }
 {
     let count = words::u32_at(image, Header::NODE_COUNT);
     if count <= node {
@@ -134,7 +124,8 @@ fn sound_path(image: &[u8], node: u64, out: &mut [u8]) -> Count
 // The path of a node: rules 1 to 18, then 40, then 46; the path is written in front of `out`, its length answered, and the bytes beyond it stay.
 // A rejection leaves `out` as it was.
 pub fn path(image: &[u8], node: u64, out: &mut [u8]) -> Count
-    ensures { λ r. ⌜ (countTells r ≡ pathAnswer (now (image .entry)) node (length (now (out .entry)))) × (now (out .exit) ≡ pathMemory (now (image .entry)) node (now (out .entry))) ⌝ }
+    ensures { λ r. ⌜ (countTells r ≡ pathAnswer (now (image .entry)) node (length (now (out .entry))))
+        × (now (out .exit) ≡ pathMemory (now (image .entry)) node (now (out .entry))) ⌝ }
 {
     let stage = table::table_stage(image);
     let Stage::Pass = stage else {

@@ -10,11 +10,9 @@ use lib.Dec.{eqb, leb}
 use lib.ListN.{length, getD, drop, drop-of-length-le}
 use lib.Seq.{drop-cons}
 use borrow.Author.Tests.{eq-eqb, ne-eqb, le-leb, lt-leb, leb-true, leb-false, eqb-true, eqb-false, not-true}
-use Rattle.model.proofs.Logic.{untrue, and-first}
+use Rattle.model.proofs.Logic.{untrue, and-first, and-second}
 use Rattle.model.specs.Lists.{among}
-use Rattle.model.specs.Bytes.{numbers}
-use Rattle.model.specs.Rules.{check, passed}
-use Rattle.model.specs.Image.{Tree, parent, node, dimensions, dataType, width, widths}
+use Rattle.model.specs.Image.{Tree, parent, node, dimensions, width}
 use Rattle.model.specs.Records.{deeperThan, product, dataSizeLawful}
 
 -- the depth, as a walk up meets it
@@ -45,6 +43,13 @@ within-rest sum size total h = by-test (leb (sum + size) total) refl
     by-test true e = let l = leb-true (sum + size) total e in le-leb size (total - sum) (omega arith)
     by-test false e = let l = leb-false (sum + size) total e in lt-leb size (total - sum) (omega arith)
 
+-- a part that starts at the sum of those before it ends within the total
+pub run-fits : (start sum size total : ℕ) → (eqb start sum && leb (sum + size) total) ≡ true → start + size ≤ total
+run-fits start sum size total e =
+    let f = eqb-true start sum (and-first (eqb start sum) _ e) in
+    let l = leb-true (sum + size) total (and-second (eqb start sum) _ e) in
+    omega arith
+
 -- a product within a limit, by a quotient
 pub nothing-fits : (m d limit : ℕ) → m ≡ 0 → true ≡ leb (m * d) limit
 nothing-fits m d limit e = rw e (sym (le-leb (0 * d) limit (omega arith)))
@@ -67,11 +72,6 @@ rest-is at size total h = by-test (eqb (at + size) total) refl
     by-test : (t : Bool) → eqb (at + size) total ≡ t → eqb size (total - at) ≡ t
     by-test true e = let q = eqb-true (at + size) total e in eq-eqb size (total - at) (omega arith)
     by-test false e = let q = eqb-false (at + size) total e in ne-eqb size (total - at) (λ (z : size ≡ total - at). q (omega arith))
-
--- no rule is left
-pub no-rule : (node : ℕ) → check node [] ≡ passed
-unfolding check
-no-rule node = refl
 
 -- none of the dimensions is 0, and their product times m is the length
 abbrev pub sized : ℕ → ℕ → List ℕ → Bool
@@ -125,20 +125,6 @@ pub size-end : (m len : ℕ) (ds : List ℕ) (k : ℕ) → length ds ≤ k → s
 unfolding among product
 size-end m len ds k h = rw (drop-of-length-le ds {i = k} h, mul-one m)
 
-numbers-length : (w n : ℕ) (s : List ℕ) → length (numbers w n s) ≡ n
-unfolding numbers
-numbers-length w zero s = refl
-numbers-length w (suc n) s = ap suc (numbers-length w n _)
-
-module _ (t : Tree) (i : ℕ) where
-  pub rank-is : length (dimensions t i) ≡ node t i .rank
-  unfolding dimensions
-  rank-is = numbers-length 8 _ _
-
-  pub width-by : {d w : ℕ} → w ≡ getD widths d 0 → d ≡ dataType t i → w ≡ width t i
-  unfolding width
-  width-by e f = e ∙ ap (λ (k : ℕ). getD widths k 0) f
-
-  pub sized-is : sized (width t i) (node t i .dataSize) (dimensions t i) ≡ dataSizeLawful t i
-  unfolding dataSizeLawful
-  sized-is = rw (mul-comm (width t i) (product (dimensions t i)))
+pub sized-is : (t : Tree) (i : ℕ) → sized (width t i) (node t i .dataSize) (dimensions t i) ≡ dataSizeLawful t i
+unfolding dataSizeLawful
+sized-is t i = rw (mul-comm (width t i) (product (dimensions t i)))

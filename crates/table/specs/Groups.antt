@@ -2,13 +2,13 @@
 use Prim.Native.Nat.{ℕ, _+_, _*_}
 use mathlib.Core.Bool.{Bool, not, _&&_}
 use mathlib.Core.List.{List, [], _∷_}
-use lib.ListN.{length}
 use lib.Dec.{eqb, leb, ltb}
 use Rattle.records.specs.declared.Header.{Header}
 use Rattle.model.specs.Rules.{Rule, _unless_}
-use Rattle.model.specs.Image.{Tree, form, totalLength, wordCount, name, label, dataType}
-use Rattle.model.specs.Header.{nodeCountLawful, laidOut, maxWords}
-use Rattle.model.specs.Records.{parentLawful, deeperThan, maxDepth, nameLawful, labelLawful, nameTaken, link, rankLawful, wordsLawful, dataSizeLawful, dataAtLawful}
+use Rattle.model.specs.Image.{Tree, name, label, dataType}
+use Rattle.model.specs.Header.{maxNodes, maxWords}
+use Rattle.model.specs.Records.{parentLawful, deeperThan, maxDepth, nameLawful, labelLawful, nameTaken}
+use Rattle.model.specs.Records.{link, rankLawful, wordsLawful, dataSizeLawful, dataAtLawful}
 
 -- low to high
 abbrev pub isWithin : ℕ → ℕ → ℕ → Bool
@@ -22,11 +22,12 @@ laidOutBy h =
     && eqb (h .«data_offset») (32 + 84 * h .«node_count» + 8 * h .«word_count»)
     && eqb (h .«data_offset» + h .«data_length») (h .«total_length»)
 
-abbrev pub wordRules : List ℕ → List Rule
-wordRules b = 2 unless eqb (form b) 1 ∷ 3 unless eqb (totalLength b) (length b) ∷ []
+-- rules 2 and 3 of the header of an image with n bytes; rules 4 to 6
+abbrev pub wordRules : Header → ℕ → List Rule
+wordRules h n = 2 unless eqb (h .form) 1 ∷ 3 unless eqb (h .«total_length») n ∷ []
 
-abbrev pub layoutRules : List ℕ → List Rule
-layoutRules b = 4 unless nodeCountLawful b ∷ 5 unless leb (wordCount b) maxWords ∷ 6 unless laidOut b ∷ []
+abbrev pub layoutRules : Header → List Rule
+layoutRules h = 4 unless isWithin (h .«node_count») 1 maxNodes ∷ 5 unless leb (h .«word_count») maxWords ∷ 6 unless laidOutBy h ∷ []
 
 abbrev pub placeRules : Tree → ℕ → List Rule
 placeRules t i = 7 unless parentLawful t i ∷ 8 unless not (deeperThan t maxDepth i) ∷ []

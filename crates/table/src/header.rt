@@ -1,7 +1,6 @@
 // Rules 1 to 6: the header.
 ghost use mathlib.Core.Path.{_≡_};
 ghost use Prim.Native.Nat.{_≤_};
-ghost use lib.ListN.{length};
 ghost use Rattle.model.specs.Rules.{check};
 ghost use Rattle.model.specs.Header.{headerCheck};
 ghost use Rattle.model.specs.Answers.{stageTells};
@@ -51,35 +50,27 @@ fn laid_out(h: Header) -> bool
     size == total - data_at
 }
 
-// Rules 2 and 3.
-fn word_stage(image: &[u8]) -> Stage
-    requires { ⌜ 32 ≤ length (now image) ⌝ }
-    ensures { λ r. ⌜ stageTells r ≡ check 0 (wordRules (now (image .entry))) ⌝ }
+// Rules 2 and 3 of the header of an image with so many bytes.
+fn word_stage(h: Header, length: u64) -> Stage
+    ensures { λ r. ⌜ stageTells r ≡ check 0 (wordRules h length) ⌝ }
 {
-    let h = Header::read(image);
-    let form = h.form;
-    let total = h.total_length;
-    if form != 1 {
+    if h.form != 1 {
         return reject(2, 0);
     }
-    if total != image.len() as u64 {
+    if h.total_length != length {
         return reject(3, 0);
     }
     Stage::Pass
 }
 
 // Rules 4 to 6.
-fn layout_stage(image: &[u8]) -> Stage
-    requires { ⌜ 32 ≤ length (now image) ⌝ }
-    ensures { λ r. ⌜ stageTells r ≡ check 0 (layoutRules (now (image .entry))) ⌝ }
+fn layout_stage(h: Header) -> Stage
+    ensures { λ r. ⌜ stageTells r ≡ check 0 (layoutRules h) ⌝ }
 {
-    let h = Header::read(image);
-    let nodes = h.node_count;
-    let words = h.word_count;
-    if !is_within(nodes, 1, MAX_NODES) {
+    if !is_within(h.node_count, 1, MAX_NODES) {
         return reject(4, 0);
     }
-    if MAX_WORDS < words {
+    if MAX_WORDS < h.word_count {
         return reject(5, 0);
     }
     if !laid_out(h) {
@@ -92,12 +83,14 @@ fn layout_stage(image: &[u8]) -> Stage
 pub fn header_stage(image: &[u8]) -> Stage
     ensures { λ r. ⌜ stageTells r ≡ headerCheck (now (image .entry)) ⌝ }
 {
-    if !is_within(image.len() as u64, HEADER_SIZE, MAX_LENGTH) {
+    let length = image.len() as u64;
+    if !is_within(length, HEADER_SIZE, MAX_LENGTH) {
         return reject(1, 0);
     }
-    let s = word_stage(image);
+    let h = Header::read(image);
+    let s = word_stage(h, length);
     let Stage::Pass = s else {
         return s;
     };
-    layout_stage(image)
+    layout_stage(h)
 }

@@ -7,15 +7,17 @@ ghost use Rattle.model.specs.Records.{tableCheck, tableAnswer};
 ghost use Rattle.model.specs.Answers.{stageTells, tableTells};
 ghost use Rattle.table.specs.Groups.{isWithin};
 
-mod header;
-mod sizes;
-mod stages;
-mod tree;
+mod header; // header.rt: rules 1 to 6
+mod sizes; // sizes.rt: rules 14 to 17
+mod stages; // stages.rt: rules 7 to 18, node by node
+mod tree; // tree.rt: rules 7 and 8
 
 use model::Rejection;
 use model::Stage;
 use model::Table;
 use records::Header;
+use records::TableSize;
+pub use stages::records_stage;
 
 // The answer of a stage that a rule ends.
 fn reject(rule: u64, node: usize) -> Stage
@@ -43,7 +45,7 @@ pub fn table_stage_with(image: &[u8], seen: &mut [u16]) -> Stage
     let Stage::Pass = s else {
         return s;
     };
-    stages::records_stage(image, seen)
+    records_stage(records::node_table(image), TableSize::read(image), seen)
 }
 
 // Rules 1 to 18 as one stage.

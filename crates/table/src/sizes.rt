@@ -3,14 +3,16 @@ ghost use mathlib.Core.Path.{_≡_};
 ghost use mathlib.Core.Bool.{cond, not, _&&_};
 ghost use Prim.Native.Nat.{_+_, _*_, _≤_, _<_};
 ghost use lib.Dec.{eqb, leb};
-ghost use Rattle.model.specs.Image.{treeOf, nodeCount, wordCount, node, MT};
+ghost use lib.ListN.{length};
+ghost use Rattle.model.specs.Image.{node, MT};
 ghost use Rattle.model.specs.Records.{dataSizeLawful};
-ghost use Rattle.model.specs.Bounds.{Laid};
+ghost use Rattle.records.specs.Fields.{numbersOf};
+ghost use Rattle.records.specs.Table.{recordsOf, HasRecord};
 ghost use Rattle.table.specs.Groups.{isWithin};
 use super::is_within;
 use records::RecordNumbers;
-
-const MT_TYPE: u64 = 1;
+use records::data_types;
+use records::nodes;
 
 const MAX_RANK: u64 = 12;
 
@@ -18,7 +20,7 @@ const MAX_RANK: u64 = 12;
 pub fn rank_lawful(data_type: u64, rank: u64) -> bool
     ensures { λ r. ⌜ r ≡ cond (eqb data_type MT) (eqb rank 0) (isWithin rank 1 12) ⌝ }
 {
-    if data_type == MT_TYPE {
+    if data_type == data_types::MT {
         return rank == 0;
     }
     is_within(rank, 1, MAX_RANK)
@@ -48,19 +50,19 @@ fn product_fits(m: u64, d: u64, limit: u64) -> bool
     d <= limit / m
 }
 
-// Rule 16: whether no dimension of node i is 0 and their product in elements is the data length in bytes.
-pub fn data_size_lawful(image: &[u8], i: usize) -> bool
-    requires { ⌜ Laid (now image) × (i < nodeCount (now image)) ⌝ }
-    requires { ⌜ node (treeOf (now image)) i .firstWord + node (treeOf (now image)) i .rank ≤ wordCount (now image) ⌝ }
-    ensures { λ r. ⌜ r ≡ dataSizeLawful (treeOf (now (image .entry))) i ⌝ }
+// Rule 16: whether no dimension of node i is 0 and their product in elements is the data length in bytes. `r` has the node's numbers; the
+// dimension words follow `count` records.
+pub fn data_size_lawful(table: &[u8], count: usize, i: usize, r: RecordNumbers) -> bool
+    requires { ⌜ (HasRecord (now table) i × ((i < count) × (count ≤ 4096))) × (r ≡ numbersOf (recordsOf (now table) count) i) ⌝ }
+    requires { ⌜ 84 * count + 8 * (node (recordsOf (now table) count) i .firstWord + node (recordsOf (now table) count) i .rank) ≤ length (now table) ⌝ }
+    ensures { λ a. ⌜ a ≡ dataSizeLawful (recordsOf (now (table .entry)) count) i ⌝ }
 {
-    let r = RecordNumbers::read(image, i);
     let rank = r.rank as usize;
     let size = r.data_size;
-    let mut m = records::width_of(records::data_type_of(image, i));
+    let mut m = nodes::width_at(table, i) as u64;
     let mut k: usize = 0;
     while k < rank {
-        let d = records::dimension(image, i, k);
+        let d = nodes::dimension(table, count, i, k);
         if !product_fits(m, d, size) {
             return false;
         }

@@ -5,11 +5,11 @@ ghost use Prim.Native.Nat.{_≤_, _<_};
 ghost use lib.Dec.{eqb};
 ghost use lib.ListN.{length};
 ghost use Rattle.model.specs.Rules.{check, _then_};
-ghost use Rattle.model.specs.Image.{treeOf, nodeCount};
+ghost use Rattle.model.specs.Image.{node};
 ghost use Rattle.model.specs.Records.{parentLawful, recordCheckAt, recordCheck, trailingCheck};
-ghost use Rattle.model.specs.Bounds.{Laid};
-ghost use Rattle.model.specs.Given.{RecordsTo};
 ghost use Rattle.model.specs.Answers.{stageTells};
+ghost use Rattle.records.specs.Fields.{numbersOf};
+ghost use Rattle.records.specs.Table.{tableTree, allRecords, HasRecord, LawfulBefore, TableLaid, TableTo};
 ghost use Rattle.texts.specs.Keys.{keyAt, Seen};
 ghost use Rattle.table.specs.Groups.{placeRules, textRules, typeRules, sizeRules};
 ghost use Rattle.table.specs.Sums.{Sums};
@@ -17,52 +17,51 @@ use super::reject;
 use super::sizes;
 use super::tree;
 use model::Stage;
-use records::Header;
 use records::RecordNumbers;
+use records::TableSize;
+use records::nodes;
 
 // Rules 7 and 8 at node i.
-fn place_stage(image: &[u8], i: usize) -> Stage
-    requires { ⌜ RecordsTo (now image) i ⌝ }
-    ensures { λ r. ⌜ stageTells r ≡ check i (placeRules (treeOf (now (image .entry))) i) ⌝ }
+fn place_stage(table: &[u8], i: usize) -> Stage
+    requires { ⌜ HasRecord (now table) i × LawfulBefore (now table) i ⌝ }
+    ensures { λ r. ⌜ stageTells r ≡ check i (placeRules (allRecords (now (table .entry))) i) ⌝ }
 {
-    if !tree::parent_lawful(image, i) {
+    if !tree::parent_lawful(table, i) {
         return reject(7, i);
     }
-    if tree::is_too_deep(image, i) {
+    if tree::is_too_deep(table, i) {
         return reject(8, i);
     }
     Stage::Pass
 }
 
 // Rules 9 to 11 at node i, with its key and the keys of the nodes before it.
-fn text_stage(image: &[u8], i: usize, key: usize, seen: &[u16]) -> Stage
-    requires { ⌜ RecordsTo (now image) i × (parentLawful (treeOf (now image)) i ≡ true) ⌝ }
-    requires { ⌜ (key ≡ keyAt (treeOf (now image)) i) × Seen (treeOf (now image)) i (now seen) ⌝ }
-    ensures { λ r. ⌜ stageTells r ≡ check i (textRules (treeOf (now (image .entry))) i) ⌝ }
+fn text_stage(table: &[u8], i: usize, key: usize, seen: &[u16]) -> Stage
+    requires { ⌜ HasRecord (now table) i × (LawfulBefore (now table) i × (parentLawful (allRecords (now table)) i ≡ true)) ⌝ }
+    requires { ⌜ (key ≡ keyAt (allRecords (now table)) i) × Seen (allRecords (now table)) i (now seen) ⌝ }
+    ensures { λ r. ⌜ stageTells r ≡ check i (textRules (allRecords (now (table .entry))) i) ⌝ }
 {
-    if !texts::name_lawful(image, i) {
+    if !texts::name_lawful(table, i) {
         return reject(9, i);
     }
-    if !texts::label_lawful(image, i) {
+    if !texts::label_lawful(table, i) {
         return reject(10, i);
     }
-    if texts::name_taken(image, i, key, seen) {
+    if texts::name_taken(table, i, key, seen) {
         return reject(11, i);
     }
     Stage::Pass
 }
 
-// Rules 12 to 14 at node i.
-fn type_stage(image: &[u8], i: usize) -> Stage
-    requires { ⌜ Laid (now image) × (i < nodeCount (now image)) ⌝ }
-    ensures { λ r. ⌜ stageTells r ≡ check i (typeRules (treeOf (now (image .entry))) i) ⌝ }
+// Rules 12 to 14 at node i, with its dimension count.
+fn type_stage(table: &[u8], i: usize, rank: u64) -> Stage
+    requires { ⌜ HasRecord (now table) i × (rank ≡ node (allRecords (now table)) i .rank) ⌝ }
+    ensures { λ r. ⌜ stageTells r ≡ check i (typeRules (allRecords (now (table .entry))) i) ⌝ }
 {
-    let r = RecordNumbers::read(image, i);
-    let rank = r.rank;
-    let data_type = records::data_type_of(image, i);
-    if records::is_link(image, i) {
+    if nodes::is_link(table, i) {
         return reject(12, i);
     }
+    let data_type = nodes::data_type_of(table, i);
     if data_type == 0 {
         return reject(13, i);
     }
@@ -72,51 +71,59 @@ fn type_stage(image: &[u8], i: usize) -> Stage
     Stage::Pass
 }
 
-// Rules 15 to 17 at node i, with the words and bytes of the nodes before it.
-fn size_stage(image: &[u8], i: usize, words: u64, bytes: u64) -> Stage
-    requires { ⌜ Laid (now image) × (i < nodeCount (now image)) ⌝ }
-    requires { ⌜ Sums (now image) i words bytes ⌝ }
-    ensures { λ r. ⌜ stageTells r ≡ check i (sizeRules (treeOf (now (image .entry))) i) ⌝ }
+// Rules 15 to 17 at node i, with its numbers, and the words and bytes of the nodes before it.
+fn size_stage(
+    table: &[u8],
+    size: TableSize,
+    i: usize,
+    r: RecordNumbers,
+    words: u64,
+    bytes: u64,
+) -> Stage
+    requires { ⌜ (TableLaid (now table) size × (i < size .nodes)) × (r ≡ numbersOf (tableTree (now table) size) i) ⌝ }
+    requires { ⌜ Sums (now table) size i words bytes ⌝ }
+    ensures { λ a. ⌜ stageTells a ≡ check i (sizeRules (tableTree (now (table .entry)) size) i) ⌝ }
 {
-    let h = Header::read(image);
-    let dimensions = h.word_count;
-    let area = h.data_length;
-    let r = RecordNumbers::read(image, i);
-    let first_word = r.first_word;
-    let rank = r.rank;
-    let data_at = r.data_at;
-    let data_size = r.data_size;
-    if !sizes::run_lawful(first_word, words, rank, dimensions) {
+    if !sizes::run_lawful(r.first_word, words, r.rank, size.words) {
         return reject(15, i);
     }
-    if !sizes::data_size_lawful(image, i) {
+    if !sizes::data_size_lawful(table, size.nodes, i, r) {
         return reject(16, i);
     }
-    if !sizes::run_lawful(data_at, bytes, data_size, area) {
+    if !sizes::run_lawful(r.data_at, bytes, r.data_size, size.bytes) {
         return reject(17, i);
     }
     Stage::Pass
 }
 
-// Rules 7 to 17 at node i, with its key, and the words, the bytes and the keys of the nodes before it.
-fn record_stage(image: &[u8], i: usize, words: u64, bytes: u64, key: usize, seen: &[u16]) -> Stage
-    requires { ⌜ RecordsTo (now image) i × Sums (now image) i words bytes ⌝ }
-    requires { ⌜ (key ≡ keyAt (treeOf (now image)) i) × Seen (treeOf (now image)) i (now seen) ⌝ }
-    ensures { λ r. ⌜ stageTells r ≡ recordCheckAt (treeOf (now (image .entry))) i ⌝ }
+// Rules 7 to 17 at node i, with its numbers and its key, and the words, the bytes and the keys of the nodes before it.
+fn record_stage(
+    table: &[u8],
+    size: TableSize,
+    i: usize,
+    r: RecordNumbers,
+    words: u64,
+    bytes: u64,
+    key: usize,
+    seen: &[u16],
+) -> Stage
+    requires { ⌜ (TableTo (now table) size i × Sums (now table) size i words bytes) × (r ≡ numbersOf (tableTree (now table) size) i) ⌝ }
+    requires { ⌜ (key ≡ keyAt (allRecords (now table)) i) × Seen (allRecords (now table)) i (now seen) ⌝ }
+    ensures { λ a. ⌜ stageTells a ≡ recordCheckAt (tableTree (now (table .entry)) size) i ⌝ }
 {
-    let place = place_stage(image, i);
+    let place = place_stage(table, i);
     let Stage::Pass = place else {
         return place;
     };
-    let text = text_stage(image, i, key, seen);
+    let text = text_stage(table, i, key, seen);
     let Stage::Pass = text else {
         return text;
     };
-    let kind = type_stage(image, i);
-    let Stage::Pass = kind else {
-        return kind;
+    let types = type_stage(table, i, r.rank);
+    let Stage::Pass = types else {
+        return types;
     };
-    size_stage(image, i, words, bytes)
+    size_stage(table, size, i, r, words, bytes)
 }
 
 // Whether the sums over all nodes are the totals.
@@ -129,32 +136,30 @@ fn sums_match(words: u64, dimensions: u64, bytes: u64, area: u64) -> bool
     bytes == area
 }
 
-// Rules 7 to 17 at each node, then 18. The keys are marked in the lent filter, whatever it holds.
-pub fn records_stage(image: &[u8], seen: &mut [u16]) -> Stage
-    requires { ⌜ Laid (now image) × (16384 ≤ length (now seen)) ⌝ }
-    ensures { λ r. ⌜ stageTells r ≡ (recordCheck (treeOf (now (image .entry))) then trailingCheck (treeOf (now (image .entry)))) ⌝ }
+// Rules 7 to 18 over the bytes of a table: 7 to 17 at each node, then 18. The keys are marked in the lent filter, whatever it holds.
+pub fn records_stage(table: &[u8], size: TableSize, seen: &mut [u16]) -> Stage
+    requires { ⌜ TableLaid (now table) size × (16384 ≤ length (now seen)) ⌝ }
+    ensures { λ r. ⌜ stageTells r
+        ≡ (recordCheck (tableTree (now (table .entry)) size) then trailingCheck (tableTree (now (table .entry)) size)) ⌝ }
 {
-    let h = Header::read(image);
-    let n = h.node_count as usize;
-    let dimensions = h.word_count;
-    let area = h.data_length;
+    let count = size.nodes;
     let mut i: usize = 0;
     let mut words: u64 = 0;
     let mut bytes: u64 = 0;
-    while i < n {
-        let key = texts::name_key(image, i);
-        let s = record_stage(image, i, words, bytes, key, seen);
+    while i < count {
+        let key = texts::name_key(table, i);
+        let r = nodes::numbers(table, i);
+        let s = record_stage(table, size, i, r, words, bytes, key, seen);
         let Stage::Pass = s else {
             return s;
         };
-        let r = RecordNumbers::read(image, i);
         words += r.rank;
         bytes += r.data_size;
         texts::add_key(seen, key);
         i += 1;
     }
-    if !sums_match(words, dimensions, bytes, area) {
-        return reject(18, n);
+    if !sums_match(words, size.words, bytes, size.bytes) {
+        return reject(18, count);
     }
     Stage::Pass
 }

@@ -46,14 +46,16 @@ module _ (seen : List ℕ) (room : 16384 ≤ length seen) (key : ℕ) (h : key <
   unfolding mayBeMarked withKey
   met-still k e =
       elim (ℕ-discrete (placeOf k) (placeOf key)) [
-        | yes q ↦ rw (q, getD-set-same seen (placeOf key) (marked (getD seen (placeOf key) 0) (markOf key)) 0 (omega arith)) (mark-stays (getD seen (placeOf key) 0) (markOf key) (markOf k) (omega arith) (rw q at e))
+        | yes q ↦ rw (q, getD-set-same seen (placeOf key) (marked (getD seen (placeOf key) 0) (markOf key)) 0 (omega arith))
+            (mark-stays (getD seen (placeOf key) 0) (markOf key) (markOf k) (omega arith) (rw q at e))
         | no n ↦ rw (getD-set-other seen (placeOf key) (placeOf k) (marked (getD seen (placeOf key) 0) (markOf key)) 0 n) e
       ]
 
   met-now : mayBeMarked (withKey seen key) key ≡ true
   unfolding mayBeMarked withKey
   met-now =
-      rw (getD-set-same seen (placeOf key) (marked (getD seen (placeOf key) 0) (markOf key)) 0 (omega arith)) (mark-there (getD seen (placeOf key) 0) (markOf key))
+      rw (getD-set-same seen (placeOf key) (marked (getD seen (placeOf key) 0) (markOf key)) 0 (omega arith))
+      (mark-there (getD seen (placeOf key) 0) (markOf key))
 
   room-still : 16384 ≤ length (withKey seen key)
   unfolding withKey

@@ -46,7 +46,9 @@ counted n false r = rw (ne-eqb (n + 1) 0 (λ (z : n + 1 ≡ 0). absurd (omega ar
 module _ (z : ℕ) (s : List ℕ) (k : ℕ) (h : k < length s) where
   bytes-step : textBytes z (drop k s) ≡ (textByte z (getD s k 0) && textBytes z (drop (k + 1) s))
   unfolding printable among
-  bytes-step = rw (add-one k, drop-cons s k 0 h) (regroup (leb 32 (getD s k 0) && leb (getD s k 0) 126) (printable (drop (suc k) s)) (eqb z (getD s k 0)) (among z (drop (suc k) s)))
+  bytes-step =
+      rw (add-one k, drop-cons s k 0 h) (regroup (leb 32 (getD s k 0) && leb (getD s k 0) 126) (printable (drop (suc k) s)) (eqb z (getD s k 0))
+      (among z (drop (suc k) s)))
 
 -- byte k of a text was read as x
 module _ (b : List ℕ) (at : ℕ) (h : at + 32 ≤ length b) (k : ℕ) (l : k < 32) {x : ℕ} (e : x ≡ getD b (at + k) 0) where

@@ -10,7 +10,7 @@ use Rattle.model.specs.Lists.{over, overAt}
 use Rattle.model.specs.Bytes.{leBytes}
 use Rattle.model.proofs.Overlays.{overAt-nil}
 
-overAt-cons : (k : ℕ) (out : List ℕ) (y : ℕ) (ys : List ℕ) → k < length out → overAt k out (y ∷ ys) ≡ overAt (k + 1) (set out k y) ys
+pub overAt-cons : (k : ℕ) (out : List ℕ) (y : ℕ) (ys : List ℕ) → k < length out → overAt k out (y ∷ ys) ≡ overAt (k + 1) (set out k y) ys
 unfolding overAt over
 overAt-cons k out y ys h =
     let e : k + suc (length ys) ≡ suc k + length ys = omega arith in

@@ -1,8 +1,9 @@
 -- One data type after the other.
+use mathlib.Core.Path.{sym}
 use lib.Dec.{eqb}
 use borrow.Author.Tests.{eq-eqb, ne-eqb}
 use Rattle.model.specs.Lists.{among}
-use Rattle.array_values.proofs.Laws.{or-none}
+use Rattle.model.proofs.Logic.{or-false}
 use Rattle.array_values.proofs.is_readable.Statement.{statement}
 use Rattle.array_values.proofs.is_readable.Tie as tie
 
@@ -22,7 +23,7 @@ returns-4 : tie.Need-returns-4
 unfolding among
 returns-4 c =
     let d = c .before .before .before .args .data-type in
-    rw (ne-eqb d 4 (c .before .before .if1 .left), ne-eqb d 7 (c .before .if2 .left), ne-eqb d 6 (c .if3 .left)) (or-none (eqb d 9))
+    rw (ne-eqb d 4 (c .before .before .if1 .left), ne-eqb d 7 (c .before .if2 .left), ne-eqb d 6 (c .if3 .left)) (sym (or-false (eqb d 9)))
 
 pub is-readable-spec : {M : Type 1} → statement M
 is-readable-spec = tie.close (tie.spec returns returns-2 returns-3 returns-4)

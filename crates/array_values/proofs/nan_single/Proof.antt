@@ -1,3 +1,4 @@
+-- The bits of a NaN are those above infinity, whatever the sign.
 use mathlib.Core.Path.{sym}
 use lib.Ieee.{binary32}
 use lib.Ieee.Bits.{nanBits-above}

@@ -4,15 +4,14 @@ use borrow.Author.Needs.{needs}
 use mathlib.Core.Path.{_∙_, ap}
 use Rattle.model.specs.Rules.{rejected}
 use Rattle.records.proofs.Places.{node-count-at}
-use Rattle.array_values.proofs.Answer.{unknown, refuses}
+use Rattle.array_values.proofs.Answer.{unknown}
 use Rattle.array_values.proofs.sound_value.Statement.{statement}
 use Rattle.array_values.proofs.sound_value.Tie as tie
 
 returns : tie.Need-returns
 returns c =
     let f = c .before .before .before .before in
-    let b = f .args .image .now in
-    (ap rejected (c .at .ensures) ∙ refuses b (f .args .node) (f .args .k) (unknown b (f .pre .table) (f .args .node) (f .args .k) (omega (arith, node-count-at b))), tt)
+    (ap rejected (c .at .ensures) ∙ unknown (f .pre) (f .args .node) (f .args .k) (omega (arith, node-count-at (f .args .image .now))), tt)
 
 node-value-requires : tie.Need-node-value-requires
 node-value-requires c κs =

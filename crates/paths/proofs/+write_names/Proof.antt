@@ -24,7 +24,8 @@ abbrev below : ℕ → In 2 kinds.ps
 below t = and 2 kinds.ps (falls 2 kinds.ps _<_ μ t) write-names.Pre
 
 pub +write-names-spec : {M : Type 1} → statement M
-+write-names-spec = close μ λ t. lts.spec (parent-of-reads.Asked, parent-of-reads.Learnt, below t, write-names.Post, write-name-reads.Asked, write-name-reads.Learnt)
++write-names-spec =
+    close μ λ t. lts.spec (parent-of-reads.Asked, parent-of-reads.Learnt, below t, write-names.Post, write-name-reads.Asked, write-name-reads.Learnt)
     (at t)
     write-names.Post
     (λ c. root _ _ _ (c .if1 .taken))
@@ -33,13 +34,15 @@ pub +write-names-spec : {M : Type 1} → statement M
     let d = c .before in
     let f = d .before .before .before .before in
     let l = lower (f .args .image .now) (f .pre .1 .0 .0) (f .args .i) (d .parent-of .result) (omega arith) (d .parent-of .ensures .0) (d .before .if1 .left) in
-    let g = longer (f .args .image .now) (f .pre .1 .0 .0) (f .args .i) (d .parent-of .result) (omega arith) (d .parent-of .ensures .0) (d .before .if1 .left) in
+    let g = longer (f .args .image .now) (f .pre .1 .0 .0) (f .args .i) (d .parent-of .result) (omega arith) (d .parent-of .ensures .0)
+    (d .before .if1 .left) in
     (omega (arith, l), ((f .pre .1 .0 .0, omega (arith, l)), omega (arith, g))))
     (λ c κs.
     let w = c .before .before .before in
     let d = w .before .before in
     let f = d .before .before .before .before in
-    let g = longer (f .args .image .now) (f .pre .1 .0 .0) (f .args .i) (d .parent-of .result) (omega arith) (d .parent-of .ensures .0) (d .before .if1 .left) in
+    let g = longer (f .args .image .now) (f .pre .1 .0 .0) (f .args .i) (d .parent-of .result) (omega arith) (d .parent-of .ensures .0)
+    (d .before .if1 .left) in
     ((f .pre .1 .0 .0 .laid, omega arith), omega (arith, g, w .write-names .ensures .0, w .write-names .kept .1 .1 .0)))
     (λ c. c .before .before .write-name .kept .1 .1 .0 ∙ c .before .before .before .before .before .before .write-names .kept .1 .1 .0)
     (λ c.
@@ -50,5 +53,6 @@ pub +write-names-spec : {M : Type 1} → statement M
     let b = f .args .image .now in
     let g = longer b (f .pre .1 .0 .0) (f .args .i) (d .parent-of .result) (omega arith) (d .parent-of .ensures .0) (d .before .if1 .left) in (
       omega (arith, n .ensures .0, w .write-names .ensures .0, g),
-      n .ensures .1 ∙ onward b (f .pre .1 .0 .0) (f .args .i) (d .parent-of .result) (omega arith) (d .parent-of .ensures .0) (d .before .if1 .left) _ _ _ (w .write-names .ensures .0) (w .write-names .ensures .1),
+      n .ensures .1 ∙ onward b (f .pre .1 .0 .0) (f .args .i) (d .parent-of .result) (omega arith) (d .parent-of .ensures .0) (d .before .if1 .left) _ _ _
+          (w .write-names .ensures .0) (w .write-names .ensures .1),
     ))

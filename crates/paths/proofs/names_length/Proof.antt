@@ -16,12 +16,6 @@ Inv-loop image i n₀ j₀ n j = (n + 33 * j ≤ 33 * i) × (n + length (namesOf
 abbrev μ-loop : tie.MeasureT-loop
 μ-loop image i n₀ j₀ n j = j
 
-loop-holds : tie.Need-loop-holds Inv-loop μ-loop
-loop-holds c = search needs
-
-add-n-2 : tie.Need-add-n-2 Inv-loop μ-loop
-add-n-2 c = search needs
-
 loop-less : tie.Need-loop-less Inv-loop μ-loop
 loop-less c =
     let d = c .before .before .before in
@@ -34,7 +28,8 @@ loop-again c =
     let f = d .before .before in
     let n = c .before .name-length .result in
     let z = sized (f .args .image .now) (d .loop .j) n (c .before .name-length .ensures .0) (omega arith) in
-    let l = longer (f .args .image .now) (f .pre .0) (d .loop .j) (c .parent-of .result) (omega arith) (c .parent-of .ensures .0) (c .before .before .loop-test .taken) in
+    let l = longer (f .args .image .now) (f .pre .0) (d .loop .j) (c .parent-of .result) (omega arith) (c .parent-of .ensures .0)
+    (c .before .before .loop-test .taken) in
     (omega (arith, loop-less c), omega (arith, z, l))
 
 returns : tie.Need-returns Inv-loop μ-loop
@@ -42,15 +37,5 @@ returns c = let a = c .before .before .before .args in omega (arith, root (a .im
 
 pub names-length-spec : {M : Type 1} → statement M
 names-length-spec =
-    tie.close
-    (tie.spec
-    Inv-loop
-    μ-loop
-    loop-holds
-    (λ c κs. search needs)
-    (search needs)
-    add-n-2
-    (λ c κs. search needs)
-    loop-less
-    loop-again
+    tie.close (tie.spec Inv-loop μ-loop (search needs) (λ c κs. search needs) (search needs) (search needs) (λ c κs. search needs) loop-less loop-again
     returns)

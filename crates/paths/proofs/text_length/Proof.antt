@@ -19,7 +19,8 @@ returns : tie.Need-returns Inv-loop μ-loop
 returns c =
     let d = c .before .before in
     let a = d .before .before .before .args in (
-      sym (d .before .loop .inv .1) ∙ trim-keep (a .image .now) (a .at) (d .before .loop .k) (omega arith) (omega arith) (λ e. c .if1 .taken (c .before .byte-at .ensures .0 ∙ e)),
+      sym (d .before .loop .inv .1) ∙ trim-keep (a .image .now) (a .at) (d .before .loop .k) (omega arith) (omega arith)
+          (λ e. c .if1 .taken (c .before .byte-at .ensures .0 ∙ e)),
       search needs,
     )
 
@@ -28,7 +29,8 @@ loop-again c = (
   search needs,
   let d = c .before .before in
       let a = d .before .before .before .args in
-      trim-drop (a .image .now) (a .at) (d .before .loop .k) (omega arith) (omega arith) (sym (c .before .byte-at .ensures .0) ∙ c .if1 .left) ∙ d .before .loop .inv .1,
+      trim-drop (a .image .now) (a .at) (d .before .loop .k) (omega arith) (omega arith) (sym (c .before .byte-at .ensures .0) ∙ c .if1 .left)
+      ∙ d .before .loop .inv .1,
 )
 
 returns-2 : tie.Need-returns-2 Inv-loop μ-loop
@@ -37,5 +39,6 @@ returns-2 c =
     (sym (c .before .loop .inv .1) ∙ trim-end (a .image .now) (a .at) (c .before .loop .k) (c .loop-test .left), search needs)
 
 pub text-length-spec : {M : Type 1} → statement M
-text-length-spec = tie.close (tie.spec Inv-loop μ-loop (search needs) (search needs) (search needs) (search needs) returns
-    (search needs) (search needs) loop-again returns-2)
+text-length-spec =
+    tie.close (tie.spec Inv-loop μ-loop (search needs) (search needs) (search needs) (search needs) returns (search needs) (search needs) loop-again
+    returns-2)

@@ -1,3 +1,4 @@
+-- Two tests, one after the other.
 use borrow.Author.Tests.{lt-leb, le-leb}
 use Rattle.table.proofs.is_within.Statement.{statement}
 use Rattle.table.proofs.is_within.Tie as tie

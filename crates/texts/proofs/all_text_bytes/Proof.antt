@@ -24,8 +24,11 @@ loop-holds c = ((omega arith, omega arith), refl)
 loop-again : tie.Need-loop-again Inv-loop μ-loop
 loop-again c =
     let l = c .before .before .before in
-    let a = l .before .before .args in
-    ((omega arith, omega (arith, c .bad .ensures .1)), rw (c .bad .ensures .0) (byte-on (a .table .now) (a .at) (omega arith) (l .loop .k) (omega arith) refl (a .barred) (l .loop .n) ∙ l .loop .inv .1))
+    let a = l .before .before .args in (
+      (omega arith, omega (arith, c .bad .ensures .1)),
+      rw (c .bad .ensures .0)
+          (byte-on (a .table .now) (a .at) (omega arith) (l .loop .k) (omega arith) refl (a .barred) (l .loop .n) ∙ l .loop .inv .1),
+    )
 
 returns : tie.Need-returns Inv-loop μ-loop
 returns c =
@@ -35,4 +38,5 @@ returns c =
 
 pub all-text-bytes-spec : {M : Type 1} → statement M
 all-text-bytes-spec =
-    tie.close (tie.spec Inv-loop μ-loop loop-holds (search needs) (search needs) (search needs) (search needs) (search needs) (search needs) loop-again returns)
+    tie.close (tie.spec Inv-loop μ-loop loop-holds (search needs) (search needs) (search needs) (search needs) (search needs) (search needs) loop-again
+    returns)

@@ -27,5 +27,4 @@ returns-2 c =
     (rw (name-in s (d .args .j) (d .pre .0 .1 .0), name-in s (d .args .i) (d .pre .0 .0 .0)) at (c .same-fields .ensures))
 
 pub is-namesake-spec : {M : Type 1} → statement M
-is-namesake-spec =
-    tie.close (tie.spec (search needs) returns (search needs) (search needs) (search needs) (search needs) (search needs) returns-2)
+is-namesake-spec = tie.close (tie.spec (search needs) returns (search needs) (search needs) (search needs) (search needs) (search needs) returns-2)

@@ -19,5 +19,4 @@ returns c =
     rw e at (c .before .put-bytes .ensures) ∙ filled (replicate 32 0) s (rw l (lit≤ tt))
 
 pub text-at-spec : {M : Type 1} → statement M
-text-at-spec = tie.close (tie.spec (search needs) (search needs) (search needs) (search needs) (search needs)
-    (search needs) returns)
+text-at-spec = tie.close (tie.spec (search needs) (search needs) (search needs) (search needs) (search needs) (search needs) returns)

@@ -24,5 +24,6 @@ returns c =
     rw (dimension-in (a .table .now) (a .nodes) (a .i) (a .k) (omega arith), ← first-is (c .before)) (c .u64-at .ensures)
 
 pub dimension-spec : {M : Type 1} → statement M
-dimension-spec = tie.close (tie.spec (search needs) (search needs) (search needs) (search needs) (search needs) (search needs) (search needs)
-    (search needs) u64-at-requires returns)
+dimension-spec =
+    tie.close (tie.spec (search needs) (search needs) (search needs) (search needs) (search needs) (search needs) (search needs) (search needs)
+    u64-at-requires returns)

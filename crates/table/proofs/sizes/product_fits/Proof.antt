@@ -1,3 +1,4 @@
+-- The quotient of the limit bounds the next factor.
 use native.Mathlib.Omega.{arith}
 use borrow.Author.Tests.{eq-eqb, ne-eqb}
 use Rattle.table.proofs.Laws.{product-fits, nothing-fits}

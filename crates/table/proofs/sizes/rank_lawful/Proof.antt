@@ -1,3 +1,4 @@
+-- No dimension for MT, 1 to 12 for another type.
 use borrow.Author.Needs.{needs}
 use borrow.Author.Tests.{eq-eqb, ne-eqb}
 use Rattle.table.proofs.sizes.rank_lawful.Statement.{statement}

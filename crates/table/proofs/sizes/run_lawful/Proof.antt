@@ -1,3 +1,4 @@
+-- The start is the sum so far, and the size fits what the total leaves.
 use native.Mathlib.Omega.{arith}
 use borrow.Author.Needs.{needs}
 use borrow.Author.Tests.{eq-eqb, ne-eqb}

@@ -1,84 +1,72 @@
+-- Three tests in order, with the sums of the nodes before.
 use native.Mathlib.Omega.{arith}
-use Prim.Native.Nat.{_+_}
 use mathlib.Core.Path.{_≡_, sym, ap, _∙_}
-use lib.Dec.{eqb}
+use mathlib.Core.Bool.{true}
+use mathlib.Core.List.{[], _∷_}
 use borrow.Author.Needs.{needs}
-use borrow.Author.Tests.{leb-true, eqb-true, not-true, not-false}
-use Rattle.records.specs.declared.Header.{Header}
+use borrow.Author.Tests.{not-true, not-false}
 use Rattle.records.specs.declared.RecordNumbers.{RecordNumbers}
-use Rattle.model.specs.Image.{treeOf, node, wordCount, dataLength}
-use Rattle.model.proofs.Logic.{and-first, and-second}
-use Rattle.model.proofs.Staging.{broken, kept}
-use Rattle.table.proofs.Laws.{no-rule}
-use Rattle.table.proofs.Progress.{words-by, bytes-by}
+use Rattle.records.specs.Table.{tableTree, recordsOf}
+use Rattle.model.specs.Image.{node}
+use Rattle.model.specs.Rules.{Check, check, _unless_}
+use Rattle.model.specs.Records.{wordsLawful, dataSizeLawful, dataAtLawful}
+use Rattle.model.proofs.Staging.{holds, fails, no-rule}
+use Rattle.table.specs.Groups.{sizeRules}
+use Rattle.table.proofs.Laws.{run-fits}
+use Rattle.table.proofs.Progress.{words-by, size-by, bytes-by, numbers-by}
 use Rattle.table.proofs.stages.size_stage.Statement.{statement}
 use Rattle.table.proofs.stages.size_stage.Tie as tie
-
-run-lawful-requires : tie.Need-run-lawful-requires
-run-lawful-requires c κs =
-    let d = c .before .before .before in
-    let e : c .before .read .result .«word_count» ≡ wordCount (d .args .image .now) = ap (λ (h : Header). h .«word_count») (c .before .read .ensures) in
-    omega (arith, d .pre .1 .words-in)
 
 returns : tie.Need-returns
 returns c =
     let g = c .before .before in
-    let d = g .before .before .before .before in
-    c .reject .ensures ∙ sym (broken _ 15 _ (sym (words-by (d .pre .1) (g .before .before .read .ensures) (g .before .read2 .ensures)) ∙ sym (g .run-lawful .ensures) ∙ not-true _ (c .before .if1 .taken)))
+    let p = g .before .before .pre in
+    fails _ 15 _ (sym (words-by (p .1) (p .0 .1)) ∙ sym (g .run-lawful .ensures) ∙ not-true _ (c .before .if1 .taken)) (c .reject .ensures)
 
 data-size-lawful-requires : tie.Need-data-size-lawful-requires
 data-size-lawful-requires c κs =
-    let g = c .before in
-    let d = g .before .before .before .before in
-    let r = g .before .read2 .result in
-    let h = g .before .before .read .result in
-    let t = treeOf (d .args .image .now) in
-    let yes = sym (g .run-lawful .ensures) ∙ not-false _ (c .if1 .left) in
-    let w = d .args .words in
-    let f = eqb-true (r .«first_word») w (and-first (eqb (r .«first_word») w) _ yes) in
-    let l = leb-true (w + r .rank) (h .«word_count») (and-second (eqb (r .«first_word») w) _ yes) in
-    let e : h .«word_count» ≡ wordCount (d .args .image .now) = ap (λ (x : Header). x .«word_count») (g .before .before .read .ensures) in
-    let m : r .«first_word» ≡ node t (d .args .i) .firstWord = ap (λ (x : RecordNumbers). x .«first_word») (g .before .read2 .ensures) in
-    let n : r .rank ≡ node t (d .args .i) .rank = ap (λ (x : RecordNumbers). x .rank) (g .before .read2 .ensures) in
-    (d .pre .0, omega arith)
+    let d = c .before .before .before in
+    let a = d .args in
+    let l = d .pre .0 .0 .0 in
+    let x = node (recordsOf (a .table .now) (a .size .nodes)) (a .i) in
+    let q = d .pre .0 .1 ∙ numbers-by (a .table .now) (a .size) (a .i) in
+    let m : a .r .«first_word» ≡ x .firstWord = ap (λ (y : RecordNumbers). y .«first_word») q in
+    let n : a .r .rank ≡ x .rank = ap (λ (y : RecordNumbers). y .rank) q in
+    let f = run-fits (a .r .«first_word») (a .words) (a .r .rank) (a .size .words) (sym (c .before .run-lawful .ensures) ∙ not-false _ (c .if1 .left)) in
+    ((((omega arith, omega arith), (d .pre .0 .0 .1, l .few)), q), omega (arith, l .room))
+
+-- rule 15 holds
+fits : (g : tie.Else1) → let a = g .before .before .before .args in wordsLawful (tableTree (a .table .now) (a .size)) (a .i) ≡ true
+fits g = let p = g .before .before .before .pre in sym (words-by (p .1) (p .0 .1)) ∙ sym (g .before .run-lawful .ensures) ∙ not-false _ (g .if1 .left)
+
+-- the test of rule 16
+sized : (f : tie.After-data-size-lawful) → let a = f .before .before .before .before .args in
+    dataSizeLawful (tableTree (a .table .now) (a .size)) (a .i) ≡ f .data-size-lawful .result
+sized f = sym (f .data-size-lawful .ensures ∙ size-by _ _ _)
 
 returns-2 : tie.Need-returns-2
 returns-2 c =
     let f = c .before .before in
-    let g = f .before .before in
-    let d = g .before .before .before .before in
-    let words = sym (words-by (d .pre .1) (g .before .before .read .ensures) (g .before .read2 .ensures)) ∙ sym (g .run-lawful .ensures) ∙ not-false _ (f .before .if1 .left) in
-    c .reject2 .ensures ∙ sym (kept _ 15 _ words ∙ broken _ 16 _ (sym (f .data-size-lawful .ensures) ∙ not-true _ (c .before .if2 .taken)))
+    holds _ 15 _ (fits (f .before)) (fails _ 16 _ (sized f ∙ not-true _ (c .before .if2 .taken)) (c .reject2 .ensures))
 
-run-lawful-requires-2 : tie.Need-run-lawful-requires-2
-run-lawful-requires-2 c κs =
-    let g = c .before .before .before .before .before in
-    let d = g .before .before in
-    let e : g .read .result .«data_length» ≡ dataLength (d .args .image .now) = ap (λ (h : Header). h .«data_length») (g .read .ensures) in
-    omega (arith, d .pre .1 .bytes-in)
+-- rule 17 is left
+left : {x : Check} (g : tie.Else2) → let a = g .before .before .before .before .before .args in let t = tableTree (a .table .now) (a .size) in
+    x ≡ check (a .i) (17 unless dataAtLawful t (a .i) ∷ []) → x ≡ check (a .i) (sizeRules t (a .i))
+left g e = holds _ 15 _ (fits (g .before .before)) (holds _ 16 _ (sized (g .before) ∙ not-false _ (g .if2 .left)) e)
 
 returns-3 : tie.Need-returns-3
 returns-3 c =
     let u = c .before .before in
-    let f = u .before .before in
-    let g = f .before .before in
-    let d = g .before .before .before .before in
-    let words = sym (words-by (d .pre .1) (g .before .before .read .ensures) (g .before .read2 .ensures)) ∙ sym (g .run-lawful .ensures) ∙ not-false _ (f .before .if1 .left) in
-    let size = sym (f .data-size-lawful .ensures) ∙ not-false _ (u .before .if2 .left) in
-    c .reject3 .ensures ∙ sym (kept _ 15 _ words ∙ kept _ 16 _ size ∙ broken _ 17 _ (sym (bytes-by (d .pre .1) (g .before .before .read .ensures) (g .before .read2 .ensures)) ∙ sym (u .run-lawful2 .ensures) ∙ not-true _ (c .before .if3 .taken)))
+    let p = u .before .before .before .before .before .before .pre in
+    left (u .before) (fails _ 17 _ (sym (bytes-by (p .1) (p .0 .1)) ∙ sym (u .run-lawful2 .ensures) ∙ not-true _ (c .before .if3 .taken)) (c .reject3 .ensures))
 
 returns-4 : tie.Need-returns-4
 returns-4 c =
     let u = c .before in
-    let f = u .before .before in
-    let g = f .before .before in
-    let d = g .before .before .before .before in
-    let words = sym (words-by (d .pre .1) (g .before .before .read .ensures) (g .before .read2 .ensures)) ∙ sym (g .run-lawful .ensures) ∙ not-false _ (f .before .if1 .left) in
-    let size = sym (f .data-size-lawful .ensures) ∙ not-false _ (u .before .if2 .left) in
-    let bytes = sym (bytes-by (d .pre .1) (g .before .before .read .ensures) (g .before .read2 .ensures)) ∙ sym (u .run-lawful2 .ensures) ∙ not-false _ (c .if3 .left) in
-    sym (kept _ 15 _ words ∙ kept _ 16 _ size ∙ kept _ 17 _ bytes ∙ no-rule _)
+    let p = u .before .before .before .before .before .before .pre in
+    left (u .before) (holds _ 17 _ (sym (bytes-by (p .1) (p .0 .1)) ∙ sym (u .run-lawful2 .ensures) ∙ not-false _ (c .if3 .left)) (sym (no-rule _)))
 
 pub size-stage-spec : {M : Type 1} → statement M
 size-stage-spec =
-    tie.close (tie.spec (search needs) (search needs) run-lawful-requires (search needs) returns data-size-lawful-requires
-    (search needs) returns-2 run-lawful-requires-2 (search needs) returns-3 returns-4)
+    tie.close (tie.spec (search needs) (search needs) returns data-size-lawful-requires (search needs) returns-2 (search needs) (search needs) returns-3
+    returns-4)

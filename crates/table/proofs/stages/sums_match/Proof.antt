@@ -1,3 +1,4 @@
+-- Two tests, one after the other.
 use borrow.Author.Tests.{eq-eqb, ne-eqb}
 use Rattle.table.proofs.stages.sums_match.Statement.{statement}
 use Rattle.table.proofs.stages.sums_match.Tie as tie

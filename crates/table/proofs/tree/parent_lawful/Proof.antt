@@ -1,3 +1,4 @@
+-- The root has no parent, and another node a lower one.
 use borrow.Author.Needs.{needs}
 use borrow.Author.Tests.{eq-eqb, ne-eqb}
 use Rattle.model.specs.Records.{parentLawful}

@@ -9,5 +9,5 @@ unfolding withKey
 returns c = rw (c .joined .ensures)
 
 pub add-key-spec : {M : Type 1} → statement M
-add-key-spec = tie.close (tie.spec (search needs) (search needs) (search needs) (search needs) (search needs) (search needs) (search needs)
-    (search needs) returns)
+add-key-spec =
+    tie.close (tie.spec (search needs) (search needs) (search needs) (search needs) (search needs) (search needs) (search needs) (search needs) returns)
