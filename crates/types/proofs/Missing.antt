@@ -7,10 +7,11 @@ use native.Mathlib.Omega.{arith}
 use lib.ListN.{length, drop, List·getD-eq-default}
 use lib.Dec.{eqb}
 use borrow.Author.Tests.{ne-eqb}
+use Rattle.model.specs.Lists.{among}
 use Rattle.model.specs.Bytes.{le, same, spells, text, placeFrom}
 use Rattle.model.specs.Image.{Tree, nodeOf, nodesOf, node, treeOf, nodeCount, stored, dataType, dataTypes, width, widths, number}
 use Rattle.model.specs.Containment.{orMissing}
-use Rattle.model.specs.Values.{reads}
+use Rattle.model.specs.Values.{reads, typed, zoneTypeShape}
 
 nodes-length : (n : ℕ) (s : List ℕ) → length (nodesOf n s) ≡ n
 unfolding nodesOf
@@ -34,6 +35,10 @@ module _ (b : List ℕ) (i : ℕ) (h : nodeCount b ≤ i) where
   pub number-past : (k : ℕ) → number (treeOf b) i k ≡ 0
   unfolding number width widths dataType dataTypes placeFrom spells text nodeOf le
   number-past k = rw node-past
+
+  pub shape-past : zoneTypeShape (treeOf b) i ≡ false
+  unfolding zoneTypeShape typed among dataType dataTypes placeFrom spells text nodeOf le
+  shape-past = rw node-past
 
 -- the search found nothing
 pub missing-none : (t : Tree) (c : Bool) (j : ℕ) → j ≡ t .count → t .count ≡ orMissing t c j

@@ -17,12 +17,7 @@ pub fn whole(image: &[u8], i: usize, k: usize) -> u64
     requires { ⌜ Sound (now image) × HasNumber (now image) i k ⌝ }
     ensures { λ r. ⌜ r ≡ number (treeOf (now (image .entry))) i k ⌝ }
 {
-    records::number(
-        image,
-        i,
-        k,
-        records::width_of(records::data_type_of(image, i)) as usize,
-    )
+    records::number(image, i, k, records::width_at(image, i))
 }
 
 // Of two stored numbers the first is at least 1, the second no lower, and at most `most`.

@@ -27,7 +27,7 @@ sizes-lawful-requires c κs =
     let d = c .before .before .before in
     let s = d .before .before .before .before .before in
     let q = check-pass _ _ (passes (d .before .before .place-stage .ensures) (d .enum-told .given .1)) .0 in
-    ((s .pre .1, s .pre .0 .0 .inside), (s .pre .0 .1, sized (s .args .image .now) (s .args .i) (s .pre .0 .0) (s .pre .0 .1) q))
+    ((s .pre .0 .0, s .pre .1), (s .pre .0 .1, sized (s .args .image .now) (s .args .i) (s .pre .0 .0) (s .pre .0 .1) q))
 
 returns-3 : tie.Need-returns-3
 returns-3 c =

@@ -7,7 +7,8 @@ use borrow.Author.Needs.{needs}
 use Rattle.model.specs.Bytes.{same}
 use Rattle.model.specs.Image.{treeOf, node, dimensions}
 use Rattle.model.specs.Values.{shaped}
-use Rattle.types.proofs.Same.{first-on, first-off, first-end, same-not}
+use Rattle.labels.proofs.Fields.{same-not}
+use Rattle.types.proofs.Same.{first-on, first-off, first-end}
 use Rattle.model.proofs.Bounds.{node-placed}
 use Rattle.types.proofs.StoredNumbers.{rank-is}
 use Rattle.types.proofs.shapes.shaped.Statement.{statement}

@@ -1,10 +1,10 @@
--- Word by word against the label's field; the first word is known.
+-- Word by word against the text's field; the first word is known.
 use mathlib.Core.Path.{sym, _∙_}
-use Rattle.labels.proofs.Known.{second-off, third-off, fourth-tells}
+use Rattle.labels.proofs.KnownTexts.{second-off, third-off, fourth-tells}
 use native.Mathlib.Omega.{arith}
 use borrow.Author.Needs.{needs}
-use Rattle.labels.proofs.roles.label_is.Statement.{statement}
-use Rattle.labels.proofs.roles.label_is.Tie as tie
+use Rattle.labels.proofs.known.rest_is.Statement.{statement}
+use Rattle.labels.proofs.known.rest_is.Tie as tie
 
 returns : tie.Need-returns
 returns c =
@@ -33,6 +33,6 @@ returns-3 c =
     (sym (x .before .before .u64-at .ensures) ∙ x .if1 .left ∙ x .before .second-word .ensures)
     (sym (y .before .before .u64-at2 .ensures) ∙ y .if2 .left ∙ y .before .third-word .ensures))
 
-pub label-is-spec : {M : Type 1} → statement M
-label-is-spec = tie.close (tie.spec (search needs) (search needs) (search needs) returns (search needs) (search needs) (search needs) returns-2 (search needs) (search needs)
+pub rest-is-spec : {M : Type 1} → statement M
+rest-is-spec = tie.close (tie.spec (search needs) (search needs) (search needs) returns (search needs) (search needs) (search needs) returns-2 (search needs) (search needs)
     returns-3)
