@@ -26,7 +26,7 @@ use Rattle.model.proofs.TwosComplement.{rise-small, rise-next, rise-las
 use Rattle.model.proofs.Arrays.{Indices, indices, index-array}
 
 -- past the last node is a node of nothing
-nodes-length : (n : ℕ) (s : List ℕ) → length (nodesOf n s) ≡ n
+pub nodes-length : (n : ℕ) (s : List ℕ) → length (nodesOf n s) ≡ n
 unfolding nodesOf
 nodes-length zero s = refl
 nodes-length (suc n) s = ap suc (nodes-length n (drop 84 s))

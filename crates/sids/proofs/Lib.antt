@@ -5,3 +5,4 @@ pub mod Context
 pub mod Sized
 pub mod Once
 mod Siblings
+mod RequiredChild

@@ -16,6 +16,7 @@ ghost use Rattle.sids.specs.Groups.{placeRules, contentRules};
 use super::data_size::data_sizes;
 use super::permitted::value_lawful;
 use super::required::complete;
+use super::required::is_required;
 use super::required::placed;
 use labels::roles;
 use model::Rejection;
@@ -49,11 +50,15 @@ fn place_stage(image: &[u8], index: &[u16], i: usize) -> Stage
     Stage::Pass
 }
 
-// Rules 23 to 25.
+// Rules 23 to 25. A child that rule 23 requires of its parent meets them.
 fn content_stage(image: &[u8], index: &[u16], i: usize) -> Stage
     requires { ⌜ Index (now image) (now index) × NodeContext (now image) i ⌝ }
+    requires { ⌜ NodesTo (now image) i ⌝ }
     ensures { λ r. ⌜ stageTells r ≡ check i (contentRules (treeOf (now (image .entry))) i) ⌝ }
 {
+    if is_required(image, index, i) {
+        return Stage::Pass;
+    }
     if !complete(image, index, i) {
         return reject(23, i);
     }

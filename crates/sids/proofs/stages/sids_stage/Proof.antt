@@ -15,7 +15,7 @@ content-stage-requires : tie.Need-content-stage-requires
 content-stage-requires c κs =
     let s = c .before .before .before .before .before in
     let q = check-pass _ _ (passes (c .before .before .place-stage .ensures) (c .enum-told .given .1)) .0 in
-    (s .pre .1, ready (s .args .image .now) (s .args .i) (s .pre .0 .0) (s .pre .0 .1) q)
+    ((s .pre .1, ready (s .args .image .now) (s .args .i) (s .pre .0 .0) (s .pre .0 .1) q), s .pre .0 .0)
 
 returns-2 : tie.Need-returns-2
 returns-2 c =
