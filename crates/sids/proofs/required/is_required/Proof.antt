@@ -23,21 +23,37 @@ kind-of-requires c κs =
 
 -- the parent, and its kind
 module _ (c : tie.After-kind-of) where
-  up-known : Index (c .before .before .before .before .before .args .image .now) (c .before .before .before .before .before .args .index .now) × (c .before .parent-of .result < nodeCount (c .before .before .before .before .before .args .image .now))
-  up-known = kind-of-requires (c .before) (c .before .before .before .before .before .κs)
+  abbrev start : tie.Start
+  start = c .before .before .before .before .before
+
+  up-known : Index (start .args .image .now) (start .args .index .now) × (c .before .parent-of .result < nodeCount (start .args .image .now))
+  up-known = kind-of-requires (c .before) (start .κs)
 
 returns-2 : tie.Need-returns-2
 unfolding isRequired row text
 returns-2 c =
     let k = c .before .before in
-    rw (ne-eqb _ 0 (k .before .before .if1 .left), ← k .before .parent-of .ensures .0, sym (k .kind-of .ensures .0) ∙ c .before .match .keys1, ← c .zone-type .ensures .0)
+    rw (
+      ne-eqb _ 0 (k .before .before .if1 .left),
+      ← k .before .parent-of .ensures .0,
+      sym (k .kind-of .ensures .0)
+          ∙ c .before .match .keys1,
+      ← c .zone-type .ensures .0,
+    )
 
 returns-3 : tie.Need-returns-3
 unfolding isRequired row text
 returns-3 c =
     let r = c .before in
     let k = r .before .before in
-    rw (ne-eqb _ 0 (k .before .before .if1 .left), ← k .before .parent-of .ensures .0, sym (k .kind-of .ensures .0) ∙ r .before .match .keys2, ← r .range .ensures .0, eq-eqb _ _ (c .if2 .taken))
+    rw (
+      ne-eqb _ 0 (k .before .before .if1 .left),
+      ← k .before .parent-of .ensures .0,
+      sym (k .kind-of .ensures .0)
+          ∙ r .before .match .keys2,
+      ← r .range .ensures .0,
+      eq-eqb _ _ (c .if2 .taken),
+    )
 
 returns-4 : tie.Need-returns-4
 unfolding isRequired row text
@@ -45,7 +61,15 @@ returns-4 c =
     let d = c .before in
     let r = d .before in
     let k = r .before .before in
-    rw (ne-eqb _ 0 (k .before .before .if1 .left), ← k .before .parent-of .ensures .0, sym (k .kind-of .ensures .0) ∙ r .before .match .keys2, ← r .range .ensures .0, ne-eqb _ _ (d .if2 .left), ← c .connectivity .ensures .0)
+    rw (
+      ne-eqb _ 0 (k .before .before .if1 .left),
+      ← k .before .parent-of .ensures .0,
+      sym (k .kind-of .ensures .0)
+          ∙ r .before .match .keys2,
+      ← r .range .ensures .0,
+      ne-eqb _ _ (d .if2 .left),
+      ← c .connectivity .ensures .0,
+    )
 
 returns-5 : tie.Need-returns-5
 unfolding isRequired row
@@ -58,4 +82,8 @@ pub is-required-spec : {M : Type 1} → statement M
 is-required-spec =
     tie.close (tie.spec returns (search needs) kind-of-requires (λ c κs. (up-known (c .before), sym (c .before .kind-of .ensures .0) ∙ c .match .keys1))
     (λ c κs. (up-known (c .before), sym (c .before .kind-of .ensures .0) ∙ c .match .keys2))
-    (λ c κs. let m = c .before .before in (up-known (m .before), sym (m .before .kind-of .ensures .0) ∙ m .match .keys2)) returns-2 returns-3 returns-4 returns-5)
+    (λ c κs. let m = c .before .before in (
+      up-known (m .before),
+      sym (m .before .kind-of .ensures .0)
+          ∙ m .match .keys2,
+    )) returns-2 returns-3 returns-4 returns-5)

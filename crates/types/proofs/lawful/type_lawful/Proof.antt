@@ -50,7 +50,27 @@ returns-10 c =
     let m = c .match .rest in
     let two = m .0 .0 .0 .0 .0 .0 .0 .1 in
     let text = m .0 .0 .0 .0 .0 .1 in
-    let e : r ≡ 0 = omega (arith, d .role-of .ensures .1, m .0 .0 .0 .0 .0 .0 .0 .0 .1, λ (z : r ≡ 2). two (inl z), λ (z : r ≡ 7). two (inr z), m .0 .0 .0 .0 .0 .0 .1, λ (z : r ≡ 4). text (inl z), λ (z : r ≡ 10). text (inr (inl z)), λ (z : r ≡ 12). text (inr (inr z)), λ (z : r ≡ 5). m .0 .0 .0 .0 .1 (inl z), λ (z : r ≡ 13). m .0 .0 .0 .0 .1 (inr z), λ (z : r ≡ 6). m .0 .0 .0 .1 (inl z), λ (z : r ≡ 14). m .0 .0 .0 .1 (inr z), m .0 .0 .1, m .0 .1, m .1) in
+    let e : r ≡ 0 = omega (
+      arith,
+      d .role-of .ensures .1,
+      m .0 .0 .0 .0 .0 .0 .0 .0 .1,
+      λ (z : r ≡ 2). two (inl z),
+      λ (z : r ≡ 7). two
+          (inr z),
+      m .0 .0 .0 .0 .0 .0 .1,
+      λ (z : r ≡ 4). text (inl z),
+      λ (z : r ≡ 10). text (inr (inl z)),
+      λ (z : r ≡ 12). text (inr (inr z)),
+      λ
+          (z : r ≡ 5). m .0 .0 .0 .0 .1 (inl z),
+      λ (z : r ≡ 13). m .0 .0 .0 .0 .1 (inr z),
+      λ (z : r ≡ 6). m .0 .0 .0 .1 (inl z),
+      λ (z : r ≡ 14). m .0 .0 .0 .1
+          (inr z),
+      m .0 .0 .1,
+      m .0 .1,
+      m .1,
+    ) in
     rw (role-is d e)
 
 pub type-lawful-spec : {M : Type 1} → statement M
@@ -64,8 +84,10 @@ type-lawful-spec =
     (λ c. rw (role-is (c .before .before) (c .before .match .keys3)) (c .zone-shape .ensures))
     (λ c. ⊎-elim (λ e. rw (role-is (c .before .before) e) (c .text-shape .ensures)) (⊎-elim (λ e. rw (role-is (c .before .before) e) (c .text-shape .ensures))
     (λ e. rw (role-is (c .before .before) e) (c .text-shape .ensures))) (c .before .match .keys4))
-    (λ c. ⊎-elim (λ e. rw (role-is (c .before .before) e) (c .typed .ensures)) (λ e. rw (role-is (c .before .before) e) (c .typed .ensures)) (c .before .match .keys5))
-    (λ c. ⊎-elim (λ e. rw (role-is (c .before .before) e) (c .typed2 .ensures)) (λ e. rw (role-is (c .before .before) e) (c .typed2 .ensures)) (c .before .match .keys6))
+    (λ c. ⊎-elim (λ e. rw (role-is (c .before .before) e) (c .typed .ensures)) (λ e. rw (role-is (c .before .before) e) (c .typed .ensures))
+    (c .before .match .keys5))
+    (λ c. ⊎-elim (λ e. rw (role-is (c .before .before) e) (c .typed2 .ensures)) (λ e. rw (role-is (c .before .before) e) (c .typed2 .ensures))
+    (c .before .match .keys6))
     (λ c. rw (role-is (c .before .before) (c .before .match .keys7)) (c .whole-shaped .ensures))
     (λ c. rw (role-is (c .before .before) (c .before .match .keys8)) (c .rind-shape .ensures))
     (λ c. rw (role-is (c .before .before) (c .before .match .keys9)) (c .array-type .ensures))
