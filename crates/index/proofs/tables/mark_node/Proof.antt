@@ -22,7 +22,10 @@ module _ (c : tie.After-slot-of) where
   parent-known = c .before .before .before .before .before .before .before .before .before
 
   up-lower : parent-known .parent-of .result < start .args .j
-  up-lower = let p = start .pre .0 in rw (parent-known .parent-of .ensures .0) (lower _ (p .0) _ (p .1 .1) (p .1 .0))
+  up-lower =
+      let p = start .pre .0 in
+      let l = lower b (p .0) (start .args .j) (p .1 .1) (p .1 .0) in
+      omega (arith, parent-known .parent-of .ensures .0)
 
   above-is : c .before .before .before .before .before .before .before .row-kind .result ≡ kind (treeOf b) (parent-known .parent-of .result)
   above-is = c .before .before .before .before .before .before .before .row-kind .ensures ∙ start .pre .1 .kinds _ up-lower

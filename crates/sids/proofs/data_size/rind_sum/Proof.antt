@@ -65,4 +65,4 @@ module _ (c : tie.After-whole2) where
 
 pub rind-sum-spec : {M : Type 1} → statement M
 rind-sum-spec = tie.close (tie.spec (search needs) returns (search needs) whole-requires (search needs) (search needs) whole-requires-2
-    (λ c. let n = numbers c in omega arith) (λ c. let n = numbers c in (rw (n .0 .0, n .0 .1), omega arith)))
+    (λ c. let n = numbers c in omega arith) (λ c. let n = numbers c in (omega arith, omega arith)))

@@ -48,30 +48,22 @@ returns-10 c =
     let d = c .before in
     let r = d .role-of .result in
     let m = c .match .rest in
-    let two = m .0 .0 .0 .0 .0 .0 .0 .1 in
-    let text = m .0 .0 .0 .0 .0 .1 in
-    let e : r ≡ 0 = omega (
-      arith,
-      d .role-of .ensures .1,
-      m .0 .0 .0 .0 .0 .0 .0 .0 .1,
-      λ (z : r ≡ 2). two (inl z),
-      λ (z : r ≡ 7). two
-          (inr z),
-      m .0 .0 .0 .0 .0 .0 .1,
-      λ (z : r ≡ 4). text (inl z),
-      λ (z : r ≡ 10). text (inr (inl z)),
-      λ (z : r ≡ 12). text (inr (inr z)),
-      λ
-          (z : r ≡ 5). m .0 .0 .0 .0 .1 (inl z),
-      λ (z : r ≡ 13). m .0 .0 .0 .0 .1 (inr z),
-      λ (z : r ≡ 6). m .0 .0 .0 .1 (inl z),
-      λ (z : r ≡ 14). m .0 .0 .0 .1
-          (inr z),
-      m .0 .0 .1,
-      m .0 .1,
-      m .1,
-    ) in
-    rw (role-is d e)
+    let n1 : r ≡ 1 → ⊥ = m .0 .0 .0 .0 .0 .0 .0 .0 .1 in
+    let n2 : r ≡ 2 → ⊥ = λ e. m .0 .0 .0 .0 .0 .0 .0 .1 (inl e) in
+    let n7 : r ≡ 7 → ⊥ = λ e. m .0 .0 .0 .0 .0 .0 .0 .1 (inr e) in
+    let n3 : r ≡ 3 → ⊥ = m .0 .0 .0 .0 .0 .0 .1 in
+    let n4 : r ≡ 4 → ⊥ = λ e. m .0 .0 .0 .0 .0 .1 (inl e) in
+    let n10 : r ≡ 10 → ⊥ = λ e. m .0 .0 .0 .0 .0 .1 (inr (inl e)) in
+    let n12 : r ≡ 12 → ⊥ = λ e. m .0 .0 .0 .0 .0 .1 (inr (inr e)) in
+    let n5 : r ≡ 5 → ⊥ = λ e. m .0 .0 .0 .0 .1 (inl e) in
+    let n13 : r ≡ 13 → ⊥ = λ e. m .0 .0 .0 .0 .1 (inr e) in
+    let n6 : r ≡ 6 → ⊥ = λ e. m .0 .0 .0 .1 (inl e) in
+    let n14 : r ≡ 14 → ⊥ = λ e. m .0 .0 .0 .1 (inr e) in
+    let n8 : r ≡ 8 → ⊥ = m .0 .0 .1 in
+    let n9 : r ≡ 9 → ⊥ = m .0 .1 in
+    let n11 : r ≡ 11 → ⊥ = m .1 in
+    rw (← d .role-of .ensures .0, ne-eqb r 14 n14, ne-eqb r 1 n1, ne-eqb r 2 n2, ne-eqb r 3 n3, ne-eqb r 4 n4, ne-eqb r 5 n5, ne-eqb r 6 n6)
+    (rw (ne-eqb r 7 n7, ne-eqb r 8 n8, ne-eqb r 9 n9, ne-eqb r 10 n10, ne-eqb r 11 n11, ne-eqb r 12 n12, ne-eqb r 13 n13))
 
 pub type-lawful-spec : {M : Type 1} → statement M
 unfolding typeLawful row zoneTypeShape
@@ -79,15 +71,15 @@ type-lawful-spec =
     tie.close (tie.spec (λ c κs. let p = c .before .before .pre in ((p .0, p .1 .inside), p .1 .is-validated)) (λ c κs. search needs) (λ c κs. search needs)
     zone-shape-requires (search needs) (search needs) (search needs) (λ c κs. search needs) rind-shape-requires array-type-requires
     (λ c. rw (role-is (c .before .before) (c .before .match .keys1)) (c .typed-shaped .ensures))
-    (λ c. ⊎-elim (λ e. rw (role-is (c .before .before) e) (c .typed-shaped2 .ensures)) (λ e. rw (role-is (c .before .before) e) (c .typed-shaped2 .ensures))
-    (c .before .match .keys2))
+    (λ c. ⊎-elim (λ e. rw (role-is (c .before .before) {k = 2} e) (c .typed-shaped2 .ensures))
+    (λ e. rw (role-is (c .before .before) {k = 7} e) (c .typed-shaped2 .ensures)) (c .before .match .keys2))
     (λ c. rw (role-is (c .before .before) (c .before .match .keys3)) (c .zone-shape .ensures))
-    (λ c. ⊎-elim (λ e. rw (role-is (c .before .before) e) (c .text-shape .ensures)) (⊎-elim (λ e. rw (role-is (c .before .before) e) (c .text-shape .ensures))
-    (λ e. rw (role-is (c .before .before) e) (c .text-shape .ensures))) (c .before .match .keys4))
-    (λ c. ⊎-elim (λ e. rw (role-is (c .before .before) e) (c .typed .ensures)) (λ e. rw (role-is (c .before .before) e) (c .typed .ensures))
-    (c .before .match .keys5))
-    (λ c. ⊎-elim (λ e. rw (role-is (c .before .before) e) (c .typed2 .ensures)) (λ e. rw (role-is (c .before .before) e) (c .typed2 .ensures))
-    (c .before .match .keys6))
+    (λ c. ⊎-elim (λ e. rw (role-is (c .before .before) {k = 4} e) (c .text-shape .ensures))
+    (⊎-elim (λ e. rw (role-is (c .before .before) {k = 10} e) (c .text-shape .ensures)) (λ e. rw (role-is (c .before .before) {k = 12} e) (c .text-shape .ensures))) (c .before .match .keys4))
+    (λ c. ⊎-elim (λ e. rw (role-is (c .before .before) {k = 5} e) (c .typed .ensures))
+    (λ e. rw (role-is (c .before .before) {k = 13} e) (c .typed .ensures)) (c .before .match .keys5))
+    (λ c. ⊎-elim (λ e. rw (role-is (c .before .before) {k = 6} e) (c .typed2 .ensures))
+    (λ e. rw (role-is (c .before .before) {k = 14} e) (c .typed2 .ensures)) (c .before .match .keys6))
     (λ c. rw (role-is (c .before .before) (c .before .match .keys7)) (c .whole-shaped .ensures))
     (λ c. rw (role-is (c .before .before) (c .before .match .keys8)) (c .rind-shape .ensures))
     (λ c. rw (role-is (c .before .before) (c .before .match .keys9)) (c .array-type .ensures))
