@@ -21,24 +21,15 @@ loop-holds c =
     let a = c .before .before .before .before .before .before .before in
     let p = a .pre in
     let s = p .0 .laid .some in
-    let f = p .0 .laid .few in (
-      refl,
-      (
-        (omega arith, omega (arith, c .before .before .before .before .node-count .ensures)),
-        root-row (p .0) s
-            (begin-row (p .0) (no-rows _ (a .args .index .now) (omega (arith, p .1))) (c .before .before .begin-row .ensures) s (kind-root _) (omega arith)),
-      ),
-    )
+    let f = p .0 .laid .few in
+    let r = begin-row (p .0) (no-rows _ (a .args .index .now) (omega (arith, p .1))) (c .before .before .begin-row .ensures) s (kind-root _) (omega arith) in
+    (refl, ((omega arith, omega (arith, c .before .before .before .before .node-count .ensures)), root-row (p .0) s r))
 
 mark-node-requires : tie.Need-mark-node-requires Inv-loop μ-loop
 mark-node-requires c κs =
-    let i = c .before .before .loop .inv .1 in (
-      (
-        c .before .before .before .before .before .before .before .before .before .before .pre .0,
-        (i .0 .0, omega (arith, c .before .before .before .before .before .before .before .node-count .ensures)),
-      ),
-      i .1,
-    )
+    let i = c .before .before .loop .inv .1 in
+    let n = c .before .before .before .before .before .before .before in
+    ((n .before .before .before .pre .0, (i .0 .0, omega (arith, n .node-count .ensures))), i .1)
 
 loop-again : tie.Need-loop-again Inv-loop μ-loop
 loop-again c =

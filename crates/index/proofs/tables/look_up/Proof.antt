@@ -9,11 +9,9 @@ use Rattle.index.proofs.tables.look_up.Tie as tie
 returns : tie.Need-returns
 returns c =
     let a = c .before .before .before .before .before in
-    let p = a .pre in (
-      c .node-count .ensures .0 ∙ slot-empty (p .0) (a .args .p) (a .args .k) (p .1 .0) (p .1 .1) (c .before .if1 .taken),
-      omega
-          (arith, c .node-count .ensures .0),
-    )
+    let p = a .pre in
+    let n = c .node-count .ensures .0 in
+    (n ∙ slot-empty (p .0) (a .args .p) (a .args .k) (p .1 .0) (p .1 .1) (c .before .if1 .taken), omega (arith, n))
 
 returns-2 : tie.Need-returns-2
 returns-2 c =

@@ -9,13 +9,8 @@ use Rattle.sids.proofs.required.section_complete.Tie as tie
 returns : tie.Need-returns
 unfolding found treeOf
 returns c =
-    rw (
-      ← c .before .before .range-of .ensures .0,
-      ← c .connectivity-of .ensures .0,
-      ← c .before .before .before .node-count .ensures .0,
-      lt-ltb _ _
-          (c .before .if1 .taken),
-    )
+    let r = c .before .before in
+    rw (← r .range-of .ensures .0, ← c .connectivity-of .ensures .0, ← r .before .node-count .ensures .0, lt-ltb _ _ (c .before .if1 .taken))
 
 returns-2 : tie.Need-returns-2
 unfolding found treeOf

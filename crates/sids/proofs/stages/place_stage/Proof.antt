@@ -27,29 +27,22 @@ module _ (c : tie.After-placed) where
 returns : tie.Need-returns
 returns c = root-place _ _ (c .if1 .taken)
 
+-- the parent is a validated node
 role-of-requires : tie.Need-role-of-requires
 role-of-requires c κs =
     let a = c .before .before .before .before in
     let p = a .pre in
     let b = a .args .image .now in
+    let i = a .args .i in
     let e = c .parent-of .ensures .0 in
-    let n = c .before .if1 .left in (
-      (p .1, parent-inside b (a .args .i) (p .1 .sound) (p .0 .0 .inside) n e),
-      rw e
-          (validated-above b (p .1 .sound) (a .args .i) (p .0 .0 .inside) n (p .0 .1)),
-    )
+    let n = c .before .if1 .left in
+    ((p .1, parent-inside b i (p .1 .sound) (p .0 .0 .inside) n e), rw e (validated-above b (p .1 .sound) i (p .0 .0 .inside) n (p .0 .1)))
 
 placed-requires : tie.Need-placed-requires
 placed-requires c κs =
-    let a = c .before .before .before .before .before .before in
-    let p = a .pre in
-    let b = a .args .image .now in
-    let e = c .before .before .parent-of .ensures .0 in
-    let n = c .before .before .before .if1 .left in
-    let r = c .before .role-of .ensures in (
-      (p .1, parent-inside b (a .args .i) (p .1 .sound) (p .0 .0 .inside) n e),
-      ((rw e (validated-above b (p .1 .sound) (a .args .i) (p .0 .0 .inside) n (p .0 .1)), r .0), (r .1, c .role-of2 .ensures .1)),
-    )
+    let u = role-of-requires (c .before .before) κs in
+    let r = c .before .role-of .ensures in
+    (u .0, ((u .1, r .0), (r .1, c .role-of2 .ensures .1)))
 
 returns-2 : tie.Need-returns-2
 returns-2 c = c .reject .ensures ∙ sym (broken _ 20 _ (place-is (c .before .before) ∙ not-true _ (c .before .if2 .taken)))
