@@ -1,65 +1,36 @@
--- The tables of keys, and that a node is for one slot at most.
-use Prim.Native.Nat.{ℕ, zero, suc, _+_, _*_, _/_, _%_, _≤_, _<_}
+-- The keys: a node is for one slot at most.
+use Prim.Native.Nat.{ℕ, _+_, _≤_, _<_}
 use mathlib.Core.Path.{_≡_, refl, sym, _∙_}
-use mathlib.Core.Bool.{Bool, true, false, not, _&&_, _||_}
+use mathlib.Core.Bool.{Bool, true, false, not, _&&_, _||_, and-false}
 use mathlib.Core.List.{List, [], _∷_}
 use native.Mathlib.Omega.{arith}
-use native.Mathlib.Nat.{add-zero, zero-add}
 use native.Mathlib.Decide.{ℕ-discrete}
 use lib.Dec.{eqb, leb}
-use lib.ListN.{length, getD}
+use lib.ListN.{getD}
 use borrow.Author.Tests.{eq-eqb, ne-eqb, eqb-true, leb-true}
 use Rattle.model.specs.Lists.{row, everyFrom}
 use Rattle.model.specs.Bytes.{text, spells}
 use Rattle.model.specs.Image.{Tree, name}
 use Rattle.model.specs.Containment.{role}
 use Rattle.model.proofs.Logic.{untrue, and-first, and-second}
-use Rattle.model.proofs.Walks.{every-at, seek-before}
-use Rattle.index.specs.Keys.{keyNames, keyRoles, slotKeys, keyAt, keyRole, keyName, isKey, hasRole, firstSlot, SlotOf}
-
--- a table of k values, from i on
-abbrev pub values : (ℕ → ℕ) → ℕ → ℕ → List ℕ
-values f zero i = []
-values f (suc k) i = f i ∷ values f k (suc i)
-
-values-at : (f : ℕ → ℕ) (k i j : ℕ) → j < k → getD (values f k i) j 0 ≡ f (i + j)
-values-at f zero i j h = absurd (omega arith)
-values-at f (suc k) i zero h = rw (add-zero i)
-values-at f (suc k) i (suc j) h = let e : suc i + j ≡ i + suc j = omega arith in values-at f k (suc i) j (omega arith) ∙ rw e
-
--- two tables of digits
-pub keys-at : (above k : ℕ) → above < 15 → k < 4 → getD (values (λ x. 48 + keyAt (x / 4) (x % 4)) 60 0) (4 * above + k) 0 ≡ 48 + keyAt above k
-keys-at above k h l =
-    let e : (4 * above + k) / 4 ≡ above = omega arith in
-    let f : (4 * above + k) % 4 ≡ k = omega arith in
-    values-at (λ x. 48 + keyAt (x / 4) (x % 4)) 60 0 (4 * above + k) (omega arith) ∙ rw (zero-add (4 * above + k), e, f)
-
-pub firsts-at : (above below : ℕ) → above < 15 → below < 15 → getD (values (λ x. 48 + firstSlot (x / 15) (x % 15)) 225 0) (15 * above + below) 0 ≡ 48 + firstSlot above below
-firsts-at above below h l =
-    let e : (15 * above + below) / 15 ≡ above = omega arith in
-    let f : (15 * above + below) % 15 ≡ below = omega arith in
-    values-at (λ x. 48 + firstSlot (x / 15) (x % 15)) 225 0 (15 * above + below) (omega arith) ∙ rw (zero-add (15 * above + below), e, f)
-
-pub roles-at : (key : ℕ) → key ≤ 6 → getD (values (λ x. getD keyRoles x 15) 7 0) key 0 ≡ getD keyRoles key 15
-roles-at key h = values-at (λ x. getD keyRoles x 15) 7 0 key (omega arith) ∙ rw (zero-add key)
+use Rattle.model.proofs.Walks.{seek-before}
+use Rattle.labels.specs.Padded.{knownNames}
+use Rattle.labels.proofs.Arms.{each}
+use Rattle.index.specs.Keys.{keyRoles, slotKeys, keyAt, keyRole, keyName, isKey, hasRole, firstSlot, SlotOf}
 
 -- what holds of every slot of every kind holds of this one
 every-slot : (p : ℕ → ℕ → Bool) → everyFrom (λ (a : ℕ). everyFrom (p a) 4 0) 15 0 ≡ true → (above k : ℕ) → above < 15 → k < 4 → p above k ≡ true
-every-slot p e above k h l = every-at (p above) 4 0 k (every-at (λ (a : ℕ). everyFrom (p a) 4 0) 15 0 above e (omega arith) (omega arith)) (omega arith) (omega arith)
+every-slot p e above k h l = each (p above) 4 (each (λ (a : ℕ). everyFrom (p a) 4 0) 15 e above h) k l
 
-pub key-few : (above k : ℕ) → above < 15 → k < 4 → keyAt above k ≤ 6
+pub key-few : (above k : ℕ) → above < 15 → k < 4 → keyAt above k ≤ 7
 unfolding everyFrom keyAt row slotKeys
-key-few above k h l = leb-true (keyAt above k) 6 (every-slot (λ a i. leb (keyAt a i) 6) refl above k h l)
-
-pub name-short : (key : ℕ) → key < 6 → length (getD keyNames key []) ≤ 32
-unfolding everyFrom keyNames text
-name-short key h = leb-true (length (getD keyNames key [])) 32 (every-at (λ (k : ℕ). leb (length (getD keyNames k [])) 32) 6 0 key refl (omega arith) (omega arith))
+key-few above k h l = leb-true (keyAt above k) 7 (every-slot (λ a i. leb (keyAt a i) 7) refl above k h l)
 
 -- a role that a node can have is that of a key
-pub some-key : (key : ℕ) {r : ℕ} → key ≤ 6 → getD keyRoles key 15 ≡ r → r < 15 → key < 6
+pub some-key : (key : ℕ) {r : ℕ} → key ≤ 7 → getD keyRoles key 15 ≡ r → r < 15 → key < 7
 unfolding keyRoles
 some-key key h e l =
-    elim (ℕ-discrete key 6) [
+    elim (ℕ-discrete key 7) [
       | yes q ↦ absurd (let f : _≡_ {A = ℕ} 15 _ = rw q at e in omega arith)
       | no z ↦ omega (arith, z)
     ]
@@ -87,8 +58,8 @@ abbrev differ : ℕ → ℕ → ℕ → Bool
 differ a i k = eqb i k || (not (eqb (keyRole a i) (keyRole a k)) || (eqb (keyRole a i) 15 || clash (keyName a i) (keyName a k)))
 
 all-differ : (a i k : ℕ) → a < 15 → i < 4 → k < 4 → differ a i k ≡ true
-unfolding everyFrom keyAt keyRole keyName row slotKeys keyRoles keyNames text
-all-differ a i k h l m = every-at (differ a i) 4 0 k (every-slot (λ b n. everyFrom (differ b n) 4 0) refl a i h l) (omega arith) (omega arith)
+unfolding everyFrom keyAt keyRole keyName row slotKeys keyRoles knownNames text
+all-differ a i k h l m = each (differ a i) 4 (every-slot (λ b n. everyFrom (differ b n) 4 0) refl a i h l) k m
 
 module _ (t : Tree) (above j : ℕ) {below : ℕ} (h : above < 15) (b : below ≡ role t j) (r : below < 15) where
   other-slot : (i k : ℕ) → i < 4 → k < 4 → (i ≡ k → ⊥) → isKey t above i j ≡ true → isKey t above k j ≡ false
@@ -100,19 +71,17 @@ module _ (t : Tree) (above j : ℕ) {below : ℕ} (h : above < 15) (b : below �
         | yes p ↦
             let n : keyRole above i ≡ keyRole above k = sym q ∙ p in
             let o : keyRole above i ≡ 15 → ⊥ = λ y. absurd (omega arith) in
-            rw (one-text (name t j) (keyName above i) (keyName above k) (rw (ne-eqb i k z, eq-eqb _ _ n, ne-eqb (keyRole above i) 15 o) at (all-differ above i k h l m)) s) (shut (eqb (role t j) (keyRole above k)))
+            rw (one-text (name t j) (keyName above i) (keyName above k) (rw (ne-eqb i k z, eq-eqb _ _ n, ne-eqb (keyRole above i) 15 o) at
+            (all-differ above i k h l m)) s) (and-false (eqb (role t j) (keyRole above k)))
         | no n ↦ rw (ne-eqb (role t j) (keyRole above k) n)
       ]
-    where
-      shut : (c : Bool) → (c && false) ≡ false
-      shut true = refl
-      shut false = refl
 
   -- the search for the slot has come to slot k
   pub not-before : {k : ℕ} → k ≡ firstSlot above below → (i : ℕ) → i < 4 → i < k → isKey t above i j ≡ false
   unfolding isKey firstSlot hasRole
   not-before {k} e i l m =
-      rw (ne-eqb (role t j) (keyRole above i) (λ q. let f = seek-before (hasRole above below) 4 0 i (eq-eqb _ _ (sym q ∙ sym b)) (omega arith) (omega arith) in absurd (omega arith)))
+      rw (ne-eqb (role t j) (keyRole above i) (λ q. let f = seek-before (hasRole above below) 4 0 i (eq-eqb _ _ (sym q ∙ sym b)) (omega arith)
+      (omega arith) in absurd (omega arith)))
 
   pub slot-found : (k : ℕ) → k < 4 → isKey t above k j ≡ true → SlotOf t above j k
   slot-found k l e =
@@ -127,7 +96,8 @@ module _ (t : Tree) (above j : ℕ) {below : ℕ} (h : above < 15) (b : below �
   no-slot {k} f l = record { is = λ i m. f i m (omega arith) ∙ sym (ne-eqb i k (λ q. absurd (omega arith))) }
 
   -- one slot more
-  pub not-up-to : {k : ℕ} → ((i : ℕ) → i < 4 → i < k → isKey t above i j ≡ false) → isKey t above k j ≡ false → (i : ℕ) → i < 4 → i < k + 1 → isKey t above i j ≡ false
+  pub not-up-to : {k : ℕ} → ((i : ℕ) → i < 4 → i < k → isKey t above i j ≡ false) → isKey t above k j ≡ false → (i : ℕ) → i < 4 → i < k + 1
+      → isKey t above i j ≡ false
   not-up-to {k} f e i l m =
       elim (ℕ-discrete i k) [
         | yes q ↦ rw q e
@@ -140,6 +110,6 @@ module _ (t : Tree) (above k j : ℕ) {key r below : ℕ} (e : key ≡ keyAt abo
   unfolding isKey keyRole
   key-off z = rw (← e, ← f, ← g, ne-eqb below r (λ q. z (sym q)))
 
-  pub key-on : {c : Bool} → r ≡ below → c ≡ spells (name t j) (getD keyNames key []) → c ≡ isKey t above k j
+  pub key-on : {c : Bool} → r ≡ below → c ≡ spells (name t j) (getD knownNames key []) → c ≡ isKey t above k j
   unfolding isKey keyRole keyName
   key-on q h = rw (← e, ← f, ← g, eq-eqb below r (sym q)) h

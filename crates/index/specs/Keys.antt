@@ -6,43 +6,33 @@ use mathlib.Core.List.{List, [], _∷_}
 use lib.Dec.{eqb}
 use lib.ListN.{getD}
 use Rattle.model.specs.Lists.{Row, _has_, row, seekFrom}
-use Rattle.model.specs.Bytes.{text, spells}
+use Rattle.model.specs.Bytes.{spells}
 use Rattle.model.specs.Image.{Tree, name}
 use Rattle.model.specs.Containment.{Zone, ZoneType, GridCoordinates, FlowSolution, Elements, IndexRange, Rind, GridLocation, DataArray, role}
+use Rattle.labels.specs.Padded.{knownNames}
 
--- the keys: a name and a role each
-unfoldable pub keyNames : List (List ℕ)
-keyNames =
-    text "ZoneType"
-    ∷ text "Rind"
-    ∷ text "GridLocation"
-    ∷ text "ElementRange"
-    ∷ text "ElementConnectivity"
-    ∷ text "ElementStartOffset"
-    ∷ []
-
+-- the keys are known names, by their place, with a role each; no node has the role 15
 unfoldable pub keyRoles : List ℕ
-keyRoles = ZoneType ∷ Rind ∷ GridLocation ∷ IndexRange ∷ DataArray ∷ DataArray ∷ []
+keyRoles = 15 ∷ ZoneType ∷ Rind ∷ GridLocation ∷ IndexRange ∷ DataArray ∷ DataArray ∷ []
 
 -- the keys of a node's slots, by what it is validated as
 unfoldable pub slotKeys : List (Row (List ℕ))
 slotKeys =
-    Zone has (0 ∷ [])
-    ∷ GridCoordinates has (1 ∷ [])
-    ∷ FlowSolution has (1 ∷ 2 ∷ [])
-    ∷ Elements has (3 ∷ 4 ∷ 5 ∷ [])
+    Zone has (1 ∷ [])
+    ∷ GridCoordinates has (2 ∷ [])
+    ∷ FlowSolution has (2 ∷ 3 ∷ [])
+    ∷ Elements has (4 ∷ 5 ∷ 6 ∷ [])
     ∷ []
 
--- the key of slot k; 6 where the slot has none
+-- the key of slot k; 7 where the slot has none
 unfoldable pub keyAt : ℕ → ℕ → ℕ
-keyAt above k = getD (row above [] slotKeys) k 6
+keyAt above k = getD (row above [] slotKeys) k 7
 
--- no node has the role 15
 unfoldable pub keyRole : ℕ → ℕ → ℕ
 keyRole above k = getD keyRoles (keyAt above k) 15
 
 unfoldable pub keyName : ℕ → ℕ → List ℕ
-keyName above k = getD keyNames (keyAt above k) []
+keyName above k = getD knownNames (keyAt above k) []
 
 -- node j is what slot k of a node is for
 unfoldable pub isKey : Tree → ℕ → ℕ → ℕ → Bool

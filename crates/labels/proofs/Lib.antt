@@ -1,5 +1,6 @@
+pub mod Arms
 pub mod Fields
 pub mod Tables
-pub mod Known
+pub mod KnownTexts
 pub mod Nodes
 pub mod Grid

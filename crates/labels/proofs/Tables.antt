@@ -1,14 +1,14 @@
--- A table of padded texts, one after the other, and a search in it for what a field holds.
+-- A field of 32 bytes against a padded text, and the search in a list of texts for what a field holds.
 use Prim.Native.Nat.{ℕ, zero, suc, _+_, _*_, _-_, _≤_, _<_}
 use mathlib.Core.Path.{_≡_, refl, ap, sym, _∙_}
 use mathlib.Core.Bool.{Bool, true, false, cond, _&&_}
-use mathlib.Core.List.{List, [], _∷_, _++_}
+use mathlib.Core.List.{List, [], _∷_}
 use native.Mathlib.Omega.{arith}
 use native.Mathlib.Nat.{zero-add}
 use native.Mathlib.Numerals.{add-one}
 use lib.Dec.{eqb, leb}
 use lib.ListN.{length, getD, take, drop, drop-of-length-le, length-drop}
-use lib.Seq.{take-all, take-at, drop-append-add, drop-cons, length-take-le}
+use lib.Seq.{take-all, drop-cons, length-take-le}
 use borrow.Author.Tests.{leb-true, eqb-true, eqb-false}
 use Rattle.model.specs.Bytes.{le, same, spells, blank, placeFrom}
 use Rattle.model.proofs.Logic.{and-first, and-second}
@@ -53,11 +53,13 @@ pad-full : (x : List ℕ) → 0 + 32 ≤ length (pad 32 x)
 pad-full x = rw (length-pad 32 x) (omega arith)
 
 -- the field at p against the words of a text: after the last one
-spelling-done : {b : List ℕ} {p : ℕ} (x : List ℕ) (j : ℕ) → Same 32 b p (pad 32 x) 0 (8 * j) → p + 32 ≤ length b → length x ≤ 32 → 4 ≤ j → true ≡ spells (take 32 (drop p b)) x
+spelling-done : {b : List ℕ} {p : ℕ} (x : List ℕ) (j : ℕ) → Same 32 b p (pad 32 x) 0 (8 * j) → p + 32 ≤ length b → length x ≤ 32 → 4 ≤ j
+    → true ≡ spells (take 32 (drop p b)) x
 spelling-done {b} {p} x j l h m k = same-done l h (pad-full x) (omega arith) ∙ field-spells b p x h m
 
 -- at word j
-module _ {b : List ℕ} {p : ℕ} (x : List ℕ) (j : ℕ) (l : Same 32 b p (pad 32 x) 0 (8 * j)) (h : p + 32 ≤ length b) (f : Bytes b) (a : allBytes x ≡ true) (k : j < 4) where
+module _ {b : List ℕ} {p : ℕ} (x : List ℕ) (j : ℕ) (l : Same 32 b p (pad 32 x) 0 (8 * j)) (h : p + 32 ≤ length b) (f : Bytes b) (a : allBytes x ≡ true)
+    (k : j < 4) where
   pub spelling-more : le 8 (drop (p + 8 * j) b) ≡ fieldWord x j → Same 32 b p (pad 32 x) 0 (8 * (j + 1))
   unfolding fieldWord
   spelling-more e =
@@ -75,24 +77,6 @@ module _ {b : List ℕ} {p : ℕ} (x : List ℕ) (j : ℕ) (l : Same 32 b p (pad
       by-test : (c : Bool) → eqb (le 8 (drop (p + 8 * j) b)) (fieldWord x j) ≡ c → c ≡ spells (take 32 (drop p b)) x
       by-test true e = spelling-done x (j + 1) (spelling-more (eqb-true _ _ e)) h m (omega arith)
       by-test false e = spelling-stop m (eqb-false _ _ e)
-
--- padded texts, one after the other
-abbrev pub padded : List (List ℕ) → List ℕ
-padded [] = []
-padded (x ∷ ts) = pad 32 x ++ padded ts
-
-padded-at : (ts : List (List ℕ)) (k : ℕ) → k < length ts → take 32 (drop (32 * k) (padded ts)) ≡ pad 32 (getD ts k [])
-padded-at [] k h = absurd (omega arith)
-padded-at (x ∷ ts) zero h = take-at (pad 32 x) (padded ts) 32 (length-pad 32 x)
-padded-at (x ∷ ts) (suc k) h =
-    let e : 32 * suc k ≡ length (pad 32 x) + 32 * k = omega (arith, length-pad 32 x) in
-    ap (take 32) (ap (λ (n : ℕ). drop n (padded (x ∷ ts))) e ∙ drop-append-add (pad 32 x) (padded ts) (32 * k)) ∙ padded-at ts k (omega arith)
-
--- the field at p against row k of such a table
-pub row-spells : (b : List ℕ) (p : ℕ) (ts : List (List ℕ)) (k : ℕ) → p + 32 ≤ length b → k < length ts → length (getD ts k []) ≤ 32
-    → same (take 32 (drop p b)) (take 32 (drop (32 * k) (padded ts))) ≡ spells (take 32 (drop p b)) (getD ts k [])
-row-spells b p ts k h l m =
-    rw (padded-at ts k l) (sym (spells-pad 32 (take 32 (drop p b)) (getD ts k []) (length-take-le 32 (drop p b) (rw length-drop (omega arith))) m))
 
 -- the search for a field's text in a list of texts has come to text k: what is left gives the whole
 pub record Placing (s : List ℕ) (ts : List (List ℕ)) (k : ℕ) : Type 0 where

@@ -1,9 +1,11 @@
--- Texts as fields of 32 bytes.
+-- Texts as fields of 32 bytes: the known ones.
 use Prim.Native.Nat.{ℕ, zero, suc, _*_, _≤_, _<_}
 use mathlib.Core.Path.{_≡_}
-use mathlib.Core.List.{List, [], _∷_}
+use mathlib.Core.Bool.{Bool, _&&_}
+use mathlib.Core.List.{List, [], _∷_, _++_}
+use lib.Dec.{eqb}
 use lib.ListN.{drop, getD}
-use Rattle.model.specs.Bytes.{le}
+use Rattle.model.specs.Bytes.{le, text}
 use Rattle.model.specs.Containment.{knownLabels}
 
 -- a text padded right with blanks to n bytes
@@ -16,8 +18,29 @@ pad (suc n) (y ∷ x) = y ∷ pad n x
 unfoldable pub fieldWord : List ℕ → ℕ → ℕ
 fieldWord x j = le 8 (drop (8 * j) (pad 32 x))
 
+-- the known names: those that a node must have, or is looked up by
+unfoldable pub knownNames : List (List ℕ)
+knownNames =
+    text "CGNSLibraryVersion"
+    ∷ text "ZoneType"
+    ∷ text "Rind"
+    ∷ text "GridLocation"
+    ∷ text "ElementRange"
+    ∷ text "ElementConnectivity"
+    ∷ text "ElementStartOffset"
+    ∷ []
+
+-- the known labels, and after them the known names
+unfoldable pub knownTexts : List (List ℕ)
+knownTexts = knownLabels ++ knownNames
+
+-- the words after the first one of text k
+abbrev pub restIs : ℕ → ℕ → ℕ → ℕ → Bool
+restIs k second third fourth =
+    eqb second (fieldWord (getD knownTexts k []) 1) && (eqb third (fieldWord (getD knownTexts k []) 2) && eqb fourth (fieldWord (getD knownTexts k []) 3))
+
 -- known label r, counted from 0, begins with this word, and no other does; 13 where none does
 pub record Begins (word r : ℕ) : Type 0 where
   pub inside : r ≤ 13
-  pub is : r < 13 → word ≡ fieldWord (getD knownLabels r []) 0
-  pub only : (k : ℕ) → k < 13 → word ≡ fieldWord (getD knownLabels k []) 0 → k ≡ r
+  pub is : r < 13 → word ≡ fieldWord (getD knownTexts r []) 0
+  pub only : (k : ℕ) → k < 13 → word ≡ fieldWord (getD knownTexts k []) 0 → k ≡ r

@@ -1,51 +1,41 @@
 // The placing table and the fixed names: the table's part of rule 20, and rule 21.
 ghost use mathlib.Core.Path.{_≡_};
-ghost use mathlib.Core.List.{[]};
-ghost use Prim.Native.Nat.{_+_, _≤_, _<_};
-ghost use lib.ListN.{length, take, drop, getD};
-ghost use Rattle.model.specs.Bytes.{spells};
+ghost use Prim.Native.Nat.{_<_};
 ghost use Rattle.model.specs.Image.{treeOf, nodeCount, parent};
 ghost use Rattle.model.specs.Bounds.{Laid};
 ghost use Rattle.model.specs.Containment.{role, mayHold};
 ghost use Rattle.model.specs.Values.{named};
-ghost use Rattle.labels.specs.Cells.{fixedTexts, cellOf};
-use records::Record;
+ghost use Rattle.labels.specs.Cells.{Digits, cellOf};
+use super::digits::digit;
+use super::names::name_is;
+use super::roles;
 
-// The fixed names, each padded to 32 bytes.
-const FIXED_NAMES: [u8; 160] = *b"CGNSLibraryVersion              \
-ZoneType                        \
-Rind                            \
-GridLocation                    \
-ElementRange                    ";
+// A cell of the table: 0 where the parent may not hold the child, 1 where it may; more where the child has a fixed name, 2 for the first known name.
+const NO_FIXED_NAME: u64 = 1;
 
-// A row for each role above, 0 to 14, with a column for each role below: a dot where the parent may not hold the child, else the
-// place of the child's fixed name, 0 where it has none.
-const CELLS: [u8; 225] = *b"...............\
-...............\
-...0........00.\
-....2000....00.\
-...............\
-.........3.000.\
-.........34000.\
-........53.000.\
-...............\
-...............\
-...............\
-............0..\
-...............\
-...............\
-.10............";
-
-const NOT_HELD: u64 = 46;
-
-const NO_FIXED_NAME: u64 = 48;
+// The table's row for a parent of this role: a hexadecimal digit for each role of a child, role 0 rightmost.
+fn row(above: u64) -> u64
+    requires { ⌜ above < 15 ⌝ }
+    ensures { λ r. ⌜ Digits (cellOf above) 15 r ⌝ }
+{
+    match above {
+        roles::BASE => 0x011_0000_0000_1000,
+        roles::ZONE => 0x011_0000_1113_0000,
+        roles::GRID_COORDINATES => 0x011_1040_0000_0000,
+        roles::FLOW_SOLUTION => 0x011_1540_0000_0000,
+        roles::ELEMENTS => 0x011_1046_0000_0000,
+        roles::DATA_ARRAY => 0x001_0000_0000_0000,
+        roles::ROOT => 0x120,
+        _ => 0,
+    }
+}
 
 // The table's cell for a child of one role under a parent of another.
 fn cell(above: u64, below: u64) -> u64
     requires { ⌜ (above < 15) × (below < 15) ⌝ }
     ensures { λ r. ⌜ r ≡ cellOf above below ⌝ }
 {
-    words::byte_at(&CELLS, (15 * above + below) as usize)
+    digit(row(above), below)
 }
 
 // Does the placing table have a label under a parent? Both are roles.
@@ -53,15 +43,7 @@ pub fn may_hold(above: u64, below: u64) -> bool
     requires { ⌜ (above < 15) × (below < 15) ⌝ }
     ensures { λ r. ⌜ r ≡ mayHold above below ⌝ }
 {
-    cell(above, below) != NOT_HELD
-}
-
-// Does a field hold the fixed name k, counted from 0?
-fn name_is(image: &[u8], at: usize, k: usize) -> bool
-    requires { ⌜ (at + 32 ≤ length (now image)) × (k < 5) ⌝ }
-    ensures { λ r. ⌜ r ≡ spells (take 32 (drop at (now (image .entry)))) (getD fixedTexts k []) ⌝ }
-{
-    words::same_fields(image, at, &FIXED_NAMES, 32 * k)
+    0 < cell(above, below)
 }
 
 // Rule 21: does node i have its fixed name, where it is to have one? Both roles are known; it is not the root.
@@ -75,9 +57,5 @@ pub fn named(image: &[u8], above: u64, below: u64, i: usize) -> bool
     if k <= NO_FIXED_NAME {
         return true;
     }
-    name_is(
-        image,
-        Record::at(i) + Record::NAME,
-        (k - NO_FIXED_NAME - 1) as usize,
-    )
+    name_is(image, i, (k - NO_FIXED_NAME - 1) as usize)
 }

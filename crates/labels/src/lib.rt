@@ -5,15 +5,19 @@ ghost use Rattle.model.specs.Image.{nodeCount};
 ghost use Rattle.model.specs.Bounds.{Laid};
 
 mod containment; // containment.rt: the placing table, the fixed names
+mod digits; // digits.rt: small numbers as digits of one number
+mod known; // known.rt: the known labels and names as words
+pub mod names; // names.rt: the known names
 pub mod roles; // roles.rt: the label's place among the known ones
 mod texts; // texts.rt: texts compared in place
 
 pub use containment::may_hold;
 pub use containment::named;
+pub use digits::digit;
+pub use names::name_is;
 use records::Header;
 pub use roles::role_of;
 pub use texts::same_at;
-pub use texts::spells_at;
 
 // The node count.
 pub fn node_count(image: &[u8]) -> usize

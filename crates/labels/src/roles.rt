@@ -1,13 +1,11 @@
 // What a node is validated as: the place of its label among the known ones, 14 for the root.
 ghost use mathlib.Core.Path.{_≡_};
-ghost use Prim.Native.Nat.{_+_, _≤_, _<_};
-ghost use mathlib.Core.List.{[]};
-ghost use lib.ListN.{length, take, drop, getD};
-ghost use Rattle.model.specs.Bytes.{le, spells};
+ghost use Prim.Native.Nat.{_<_};
 ghost use Rattle.model.specs.Image.{treeOf, nodeCount};
 ghost use Rattle.model.specs.Bounds.{Laid};
-ghost use Rattle.model.specs.Containment.{role, knownLabels};
-ghost use Rattle.labels.specs.Padded.{fieldWord, Begins};
+ghost use Rattle.model.specs.Containment.{role};
+ghost use Rattle.labels.specs.Padded.{Begins};
+use super::known::rest_is;
 use records::Record;
 
 pub const LIBRARY_VERSION: u64 = 1;
@@ -38,80 +36,26 @@ pub const USER_DEFINED_DATA: u64 = 13;
 
 pub const ROOT: u64 = 14;
 
-// Eight blanks.
-const BLANKS: u64 = 2314885530818453536;
-
-// The known labels as words, each label padded to 32 bytes: their first eight bytes are all different.
-// Here is the one label that may begin with this word, counted from 0; 13 where none does.
+// The one known label that may begin with these eight bytes, counted from 0; 13 where none does. The first words of labels are all different.
 fn candidate(word: u64) -> usize
     ensures { λ r. ⌜ Begins word r ⌝ }
 {
     match word {
-        8242266044577498947 => 0, // CGNSLibr
-        7310293557645821763 => 1, // CGNSBase
-        2314978161540886362 => 2, // Zone_t
-        7309475598608265050 => 3, // ZoneType
-        8245931777976791623 => 4, // GridCoor
-        8461260204199078982 => 5, // FlowSolu
-        8319395793566264389 => 6, // Elements
-        7953729093963640393 => 7, // IndexRan
-        2314978161524107602 => 8, // Rind_t
-        7017575018266194503 => 9, // GridLoca
-        7021800394157482308 => 10, // DataArra
-        8390322045806929220 => 11, // Descript
-        7594869166258352981 => 12, // UserDefi
+        0x7262_694c_534e_4743 => 0, // CGNSLibr
+        0x6573_6142_534e_4743 => 1, // CGNSBase
+        0x2020_745f_656e_6f5a => 2, // Zone_t
+        0x6570_7954_656e_6f5a => 3, // ZoneType
+        0x726f_6f43_6469_7247 => 4, // GridCoor
+        0x756c_6f53_776f_6c46 => 5, // FlowSolu
+        0x7374_6e65_6d65_6c45 => 6, // Elements
+        0x6e61_5278_6564_6e49 => 7, // IndexRan
+        0x2020_745f_646e_6952 => 8, // Rind_t
+        0x6163_6f4c_6469_7247 => 9, // GridLoca
+        0x6172_7241_6174_6144 => 10, // DataArra
+        0x7470_6972_6373_6544 => 11, // Descript
+        0x6966_6544_7265_7355 => 12, // UserDefi
         _ => 13,
     }
-}
-
-// The second eight bytes of label k.
-fn second_word(k: usize) -> u64
-    requires { ⌜ k < 13 ⌝ }
-    ensures { λ r. ⌜ r ≡ fieldWord (getD knownLabels k []) 1 ⌝ }
-{
-    match k {
-        0 => 7598542775872221793, // aryVersi
-        1 => 2314885530818475103, // _t
-        2 => 2314885530818453536, // blanks
-        3 => 2314885530818475103, // _t
-        4 => 6877952606450116964, // dinates_
-        5 => 2314978161691945332, // tion_t
-        6 => 2314885530818475103, // _t
-        7 => 2314885532231886183, // ge_t
-        8 => 2314885530818453536, // blanks
-        9 => 2314978161691945332, // tion_t
-        10 => 2314885530823974777, // y_t
-        11 => 2314885532231889519, // or_t
-        _ => 6872902467452167534, // nedData_
-    }
-}
-
-// The third.
-fn third_word(k: usize) -> u64
-    requires { ⌜ k < 13 ⌝ }
-    ensures { λ r. ⌜ r ≡ fieldWord (getD knownLabels k []) 2 ⌝ }
-{
-    match k {
-        0 => 2314885532231888495, // on_t
-        4 => 2314885530818453620, // t
-        12 => 2314885530818453620, // t
-        _ => BLANKS,
-    }
-}
-
-// Does a field that begins as the known label k hold it? It leaves off at the first word that differs.
-fn label_is(image: &[u8], at: usize, k: usize) -> bool
-    requires { ⌜ (at + 32 ≤ length (now image)) × (k < 13) ⌝ }
-    requires { ⌜ le 8 (drop at (now image)) ≡ fieldWord (getD knownLabels k []) 0 ⌝ }
-    ensures { λ r. ⌜ r ≡ spells (take 32 (drop at (now (image .entry)))) (getD knownLabels k []) ⌝ }
-{
-    if words::u64_at(image, at + 8) != second_word(k) {
-        return false;
-    }
-    if words::u64_at(image, at + 16) != third_word(k) {
-        return false;
-    }
-    words::u64_at(image, at + 24) == BLANKS
 }
 
 // The role of node i: 1 to 13 for a known label, 0 for any other, 14 for the root whatever its label.
@@ -125,7 +69,10 @@ pub fn role_of(image: &[u8], i: usize) -> u64
     let at = Record::at(i) + Record::LABEL;
     let k = candidate(words::u64_at(image, at));
     if k < 13 {
-        if label_is(image, at, k) {
+        let second = words::u64_at(image, at + 8);
+        let third = words::u64_at(image, at + 16);
+        let fourth = words::u64_at(image, at + 24);
+        if rest_is(k, second, third, fourth) {
             return k as u64 + 1;
         }
     }

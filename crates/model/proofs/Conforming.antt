@@ -14,7 +14,7 @@ use Rattle.model.specs.Values.{conforming, typeLawful, valueLawful}
 use Rattle.model.proofs.Logic.{and-first, and-second}
 use Rattle.model.proofs.Walks.{seek-holds}
 
-or-missing : (t : Tree) (conforms : Bool) (j : ℕ) → found t (orMissing t conforms j) ≡ true → (orMissing t conforms j ≡ j) × (conforms ≡ true)
+pub or-missing : (t : Tree) (conforms : Bool) (j : ℕ) → found t (orMissing t conforms j) ≡ true → (orMissing t conforms j ≡ j) × (conforms ≡ true)
 unfolding orMissing found
 or-missing t true j h = (refl, refl)
 or-missing t false j h = absurd (omega (arith, ltb-true (t .count) (t .count) h))

@@ -4,3 +4,5 @@ pub mod Rinds
 pub mod Context
 pub mod Sized
 pub mod Once
+mod Siblings
+mod RequiredChild

@@ -9,6 +9,7 @@ ghost use Rattle.model.specs.Given.{Sound};
 ghost use Rattle.model.specs.Containment.{role, mayHold, found, validated, Elements};
 ghost use Rattle.model.specs.Values.{unstructured, baseChild, complete, rangeOf, connectivityOf};
 ghost use Rattle.index.specs.Index.{kind, Index};
+ghost use Rattle.sids.specs.Groups.{isRequired};
 use super::children::connectivity_of;
 use super::children::range_of;
 use labels::roles;
@@ -57,7 +58,8 @@ fn has_base(image: &[u8]) -> bool
 fn section_complete(image: &[u8], index: &[u16], s: usize) -> bool
     requires { ⌜ Index (now image) (now index) × (s < nodeCount (now image)) ⌝ }
     requires { ⌜ kind (treeOf (now image)) s ≡ Elements ⌝ }
-    ensures { λ r. ⌜ r ≡ (found (treeOf (now (image .entry))) (rangeOf (treeOf (now (image .entry))) s) && found (treeOf (now (image .entry))) (connectivityOf (treeOf (now (image .entry))) s)) ⌝ }
+    ensures { λ r. ⌜ r ≡ (found (treeOf (now (image .entry))) (rangeOf (treeOf (now (image .entry))) s)
+        && found (treeOf (now (image .entry))) (connectivityOf (treeOf (now (image .entry))) s)) ⌝ }
 {
     let n = labels::node_count(image);
     range_of(image, index, s) < n && connectivity_of(image, index, s) < n
@@ -75,5 +77,23 @@ pub fn complete(image: &[u8], index: &[u16], i: usize) -> bool
         roles::ZONE => types::zone_type_of(image, index, i) < labels::node_count(image),
         roles::ELEMENTS => section_complete(image, index, i),
         _ => true,
+    }
+}
+
+// Node i is the ZoneType of a zone, or the ElementRange or ElementConnectivity of a section: rule 23 above it says that it meets 24 and 25.
+pub fn is_required(image: &[u8], index: &[u16], i: usize) -> bool
+    requires { ⌜ Index (now image) (now index) × (i < nodeCount (now image)) ⌝ }
+    ensures { λ r. ⌜ r ≡ isRequired (treeOf (now (image .entry))) i ⌝ }
+{
+    if i == 0 {
+        return false;
+    }
+    let up = records::parent_of(image, i);
+    let kind = index::kind_of(image, index, up);
+    match kind {
+        roles::ZONE => index::zone_type(image, index, up) == i,
+        roles::ELEMENTS => index::range(image, index, up) == i
+            || index::connectivity(image, index, up) == i,
+        _ => false,
     }
 }

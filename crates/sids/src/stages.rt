@@ -1,11 +1,12 @@
 // Rules 20 to 26 at a node, the lowest first.
 ghost use mathlib.Core.Path.{_≡_};
-ghost use mathlib.Core.Bool.{true};
-ghost use Prim.Native.Nat.{_<_};
+ghost use mathlib.Core.Bool.{true, _&&_};
+ghost use Prim.Native.Nat.{_-_, _<_};
+ghost use lib.Dec.{eqb};
 ghost use Rattle.model.specs.Rules.{check, rejected, rejection};
 ghost use Rattle.model.specs.Image.{treeOf, nodeCount, parent};
 ghost use Rattle.model.specs.Given.{NodesTo};
-ghost use Rattle.model.specs.Containment.{validated};
+ghost use Rattle.model.specs.Containment.{validated, validatedAs, DataArray};
 ghost use Rattle.model.specs.Values.{sidsRules, sizedArray, sizesLawful};
 ghost use Rattle.model.specs.Answers.{stageTells};
 ghost use Rattle.index.specs.Index.{Index};
@@ -15,6 +16,7 @@ ghost use Rattle.sids.specs.Groups.{placeRules, contentRules};
 use super::data_size::data_sizes;
 use super::permitted::value_lawful;
 use super::required::complete;
+use super::required::is_required;
 use super::required::placed;
 use labels::roles;
 use model::Rejection;
@@ -48,11 +50,15 @@ fn place_stage(image: &[u8], index: &[u16], i: usize) -> Stage
     Stage::Pass
 }
 
-// Rules 23 to 25.
+// Rules 23 to 25. A child that rule 23 requires of its parent meets them.
 fn content_stage(image: &[u8], index: &[u16], i: usize) -> Stage
     requires { ⌜ Index (now image) (now index) × NodeContext (now image) i ⌝ }
+    requires { ⌜ NodesTo (now image) i ⌝ }
     ensures { λ r. ⌜ stageTells r ≡ check i (contentRules (treeOf (now (image .entry))) i) ⌝ }
 {
+    if is_required(image, index, i) {
+        return Stage::Pass;
+    }
     if !complete(image, index, i) {
         return reject(23, i);
     }
@@ -78,9 +84,18 @@ pub fn sized_array(image: &[u8], index: &[u16], i: usize) -> bool
     above == roles::GRID_COORDINATES || above == roles::FLOW_SOLUTION
 }
 
-// Rule 26: a coordinate or flow array has exactly the dimensions of DataSize.
+// The node before node i, whose parent is `up`, is an array with the same parent.
+fn follows_array(image: &[u8], index: &[u16], i: usize, up: usize) -> bool
+    requires { ⌜ Index (now image) (now index) × ((0 < i) × (i < nodeCount (now image))) ⌝ }
+    ensures { λ r. ⌜ r ≡ (eqb (parent (treeOf (now (image .entry))) (i - 1)) up && validatedAs (treeOf (now (image .entry))) DataArray (i - 1)) ⌝ }
+{
+    records::parent_of(image, i - 1) == up
+        && index::validated_as(image, index, roles::DATA_ARRAY, i - 1)
+}
+
+// Rule 26: a coordinate or flow array has exactly the dimensions of DataSize. An array before it under the same node has them.
 fn sizes_lawful(image: &[u8], index: &[u16], i: usize) -> bool
-    requires { ⌜ Index (now image) (now index) × (i < nodeCount (now image)) ⌝ }
+    requires { ⌜ NodesTo (now image) i × Index (now image) (now index) ⌝ }
     requires { ⌜ validated (treeOf (now image)) i ≡ true ⌝ }
     requires { ⌜ (sizedArray (treeOf (now image)) i ≡ true → Sized (now image) (parent (treeOf (now image)) i)) ⌝ }
     ensures { λ r. ⌜ r ≡ sizesLawful (treeOf (now (image .entry))) i ⌝ }
@@ -89,6 +104,9 @@ fn sizes_lawful(image: &[u8], index: &[u16], i: usize) -> bool
         return true;
     }
     let up = records::parent_of(image, i);
+    if follows_array(image, index, i, up) {
+        return types::same_shape(image, i, i - 1);
+    }
     let n = types::index_dimension(image, index, records::parent_of(image, up)) as usize;
     types::shaped(image, i, n, data_sizes(image, index, up, n))
 }

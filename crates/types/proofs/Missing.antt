@@ -7,10 +7,11 @@ use native.Mathlib.Omega.{arith}
 use lib.ListN.{length}
 use lib.Dec.{eqb}
 use borrow.Author.Tests.{ne-eqb}
+use Rattle.model.specs.Lists.{among}
 use Rattle.model.specs.Bytes.{le, same, spells, text, placeFrom}
 use Rattle.model.specs.Image.{Tree, nodeOf, node, treeOf, nodeCount, stored, dataType, dataTypes, width, widths, number}
 use Rattle.model.specs.Containment.{orMissing}
-use Rattle.model.specs.Values.{reads}
+use Rattle.model.specs.Values.{reads, typed, zoneTypeShape}
 use Rattle.model.proofs.Absent.{node-past}
 
 empty : (u : List ℕ) → same [] u ≡ eqb (length u) 0
@@ -26,6 +27,10 @@ module _ (b : List ℕ) (i : ℕ) (h : nodeCount b ≤ i) where
   pub number-past : (k : ℕ) → number (treeOf b) i k ≡ 0
   unfolding number width widths dataType dataTypes placeFrom spells text nodeOf le
   number-past k = rw (node-past b i h)
+
+  pub shape-past : zoneTypeShape (treeOf b) i ≡ false
+  unfolding zoneTypeShape typed among dataType dataTypes placeFrom spells text nodeOf le
+  shape-past = rw (node-past b i h)
 
 -- the search found nothing
 pub missing-none : (t : Tree) (c : Bool) (j : ℕ) → j ≡ t .count → t .count ≡ orMissing t c j

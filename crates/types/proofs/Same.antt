@@ -10,18 +10,6 @@ use lib.Dec.{eqb}
 use borrow.Author.Tests.{eq-eqb, ne-eqb}
 use Rattle.model.specs.Bytes.{same}
 
--- lists of two lengths differ
-pub same-not : (s u : List ℕ) → (length s ≡ length u → ⊥) → same s u ≡ false
-unfolding same
-same-not [] [] n = absurd (n refl)
-same-not [] (y ∷ u) n = refl
-same-not (x ∷ s) [] n = refl
-same-not (x ∷ s) (y ∷ u) n = by-test (eqb x y) (same-not s u (λ e. n (ap suc e)))
-  where
-    by-test : (t : Bool) → same s u ≡ false → (t && same s u) ≡ false
-    by-test true e = e
-    by-test false e = refl
-
 -- the first k are the same: the next one, and the end
 module _ (s u : List ℕ) (k : ℕ) where
   same-step : k < length s → k < length u → same (drop k s) (drop k u) ≡ (eqb (getD s k 0) (getD u k 0) && same (drop (k + 1) s) (drop (k + 1) u))

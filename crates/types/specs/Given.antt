@@ -1,14 +1,19 @@
--- What the functions here are given, in place of tests that were made before them.
+-- What the functions here are given, in place of tests that were made before them; a zone's type.
 use Prim.Native.Nat.{ℕ, _+_, _*_, _≤_, _<_}
 use mathlib.Core.Path.{_≡_}
-use mathlib.Core.Bool.{true}
+use mathlib.Core.Bool.{Bool, true, _&&_}
 use mathlib.Core.List.{List}
 use lib.Dec.{T}
-use Rattle.model.specs.Image.{treeOf, nodeCount, node, width, parent}
-use Rattle.model.specs.Containment.{role, validated, Base, Zone, Rind}
-use Rattle.model.specs.Values.{typeLawful, valueLawful, zoneAbove}
+use Rattle.model.specs.Bytes.{text}
+use Rattle.model.specs.Image.{Tree, treeOf, nodeCount, node, width, parent}
+use Rattle.model.specs.Containment.{role, validated, child, Base, Zone, ZoneType, Rind}
+use Rattle.model.specs.Values.{zoneTypeShape, reads, typeLawful, valueLawful, zoneAbove}
 use Rattle.words.specs.Width.{isWidth}
 use Rattle.index.specs.Index.{kind}
+
+-- the zone's ZoneType has the shape of one and reads this text
+abbrev pub zoneTypeReads : Tree → ℕ → List ℕ → Bool
+zoneTypeReads t z s = let j = child t z ZoneType (text "ZoneType") in zoneTypeShape t j && reads t j s
 
 -- node i stores numbers of 4 or 8 bytes, more than k of them
 pub record HasNumber (b : List ℕ) (i k : ℕ) : Type 0 where

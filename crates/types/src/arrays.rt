@@ -8,21 +8,20 @@ ghost use Rattle.model.specs.Containment.{validated};
 ghost use Rattle.model.specs.Values.{typed, indexArray, sectionArrayType, arrayType};
 ghost use Rattle.index.specs.Index.{Index};
 ghost use mathlib.Core.Bool.{true};
-use super::shapes;
 use super::shapes::flat;
 use super::shapes::typed;
 use super::shapes::typed_either;
+use labels::names;
 use labels::roles;
-use records::Record;
+use records::data_types;
 
 // The name is ElementConnectivity or ElementStartOffset.
 fn index_array(image: &[u8], i: usize) -> bool
     requires { ⌜ Sound (now image) × (i < nodeCount (now image)) ⌝ }
     ensures { λ r. ⌜ r ≡ indexArray (treeOf (now (image .entry))) i ⌝ }
 {
-    let at = Record::at(i) + Record::NAME;
-    labels::spells_at(image, at, b"ElementConnectivity")
-        || labels::spells_at(image, at, b"ElementStartOffset")
+    labels::name_is(image, i, names::ELEMENT_CONNECTIVITY)
+        || labels::name_is(image, i, names::ELEMENT_START_OFFSET)
 }
 
 // Under a section: those two I4 or I8 with one dimension, others anything but MT.
@@ -31,9 +30,9 @@ fn section_array_type(image: &[u8], i: usize) -> bool
     ensures { λ r. ⌜ r ≡ sectionArrayType (treeOf (now (image .entry))) i ⌝ }
 {
     if !index_array(image, i) {
-        return !typed(image, i, shapes::MT);
+        return !typed(image, i, data_types::MT);
     }
-    typed_either(image, i, shapes::I4, shapes::I8) && flat(image, i)
+    typed_either(image, i, data_types::I4, data_types::I8) && flat(image, i)
 }
 
 // I4, I8, R4 or R8.
@@ -41,7 +40,8 @@ fn number_type(image: &[u8], i: usize) -> bool
     requires { ⌜ Sound (now image) × (i < nodeCount (now image)) ⌝ }
     ensures { λ r. ⌜ r ≡ typed (treeOf (now (image .entry))) i (I4 ∷ I8 ∷ R4 ∷ R8 ∷ []) ⌝ }
 {
-    typed_either(image, i, shapes::I4, shapes::I8) || typed_either(image, i, shapes::R4, shapes::R8)
+    typed_either(image, i, data_types::I4, data_types::I8)
+        || typed_either(image, i, data_types::R4, data_types::R8)
 }
 
 // DataArray_t: R4 or R8 under coordinates; I4, I8, R4, R8 under flow; under a section as above.
@@ -52,7 +52,7 @@ pub fn array_type(image: &[u8], index: &[u16], i: usize) -> bool
 {
     let role = index::role_of(image, index, records::parent_of(image, i));
     match role {
-        roles::GRID_COORDINATES => typed_either(image, i, shapes::R4, shapes::R8),
+        roles::GRID_COORDINATES => typed_either(image, i, data_types::R4, data_types::R8),
         roles::FLOW_SOLUTION => number_type(image, i),
         roles::ELEMENTS => section_array_type(image, i),
         _ => false,

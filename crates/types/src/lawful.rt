@@ -10,13 +10,13 @@ ghost use Rattle.model.specs.Values.{typed, shaped, indexDimension, zoneAbove, 
 ghost use Rattle.index.specs.Index.{Index};
 ghost use Rattle.types.specs.Given.{ZoneInBase, NodeContext};
 use super::arrays::array_type;
-use super::shapes;
 use super::shapes::shaped;
 use super::shapes::text_shape;
 use super::shapes::typed;
 use super::shapes::typed_either;
 use super::zones::index_dimension;
 use labels::roles;
+use records::data_types;
 
 // The data type is a, and the dimensions are the first n of these sizes.
 fn typed_shaped(image: &[u8], i: usize, a: u64, n: usize, sizes: [u64; 3]) -> bool
@@ -31,27 +31,30 @@ fn whole_shaped(image: &[u8], i: usize, n: usize, sizes: [u64; 3]) -> bool
     requires { ⌜ (Sound (now image) × (i < nodeCount (now image))) × (n ≤ 3) ⌝ }
     ensures { λ r. ⌜ r ≡ (typed (treeOf (now (image .entry))) i (I4 ∷ I8 ∷ []) && shaped (treeOf (now (image .entry))) i (take n sizes)) ⌝ }
 {
-    typed_either(image, i, shapes::I4, shapes::I8) && shaped(image, i, n, sizes)
+    typed_either(image, i, data_types::I4, data_types::I8) && shaped(image, i, n, sizes)
 }
 
 // Zone_t: I4 or I8 [IndexDimension, 3].
 fn zone_shape(image: &[u8], index: &[u16], z: usize) -> bool
     requires { ⌜ Index (now image) (now index) × ZoneInBase (now image) z ⌝ }
-    ensures { λ r. ⌜ r ≡ (typed (treeOf (now (image .entry))) z (I4 ∷ I8 ∷ []) && shaped (treeOf (now (image .entry))) z (indexDimension (treeOf (now (image .entry))) z ∷ 3 ∷ [])) ⌝ }
+    ensures { λ r. ⌜ r ≡ (typed (treeOf (now (image .entry))) z (I4 ∷ I8 ∷ [])
+        && shaped (treeOf (now (image .entry))) z (indexDimension (treeOf (now (image .entry))) z ∷ 3 ∷ [])) ⌝ }
 {
     whole_shaped(image, z, 2, [index_dimension(image, index, z), 3, 0])
 }
 
 // Rind_t: I4 [2 × IndexDimension] of the zone two above.
 fn rind_shape(image: &[u8], index: &[u16], i: usize) -> bool
-    requires { ⌜ (Index (now image) (now index) × (parent (treeOf (now image)) i < nodeCount (now image))) × ((i < nodeCount (now image)) × ZoneInBase (now image) (zoneAbove (treeOf (now image)) i)) ⌝ }
-    ensures { λ r. ⌜ r ≡ (typed (treeOf (now (image .entry))) i (I4 ∷ []) && shaped (treeOf (now (image .entry))) i (2 * indexDimension (treeOf (now (image .entry))) (zoneAbove (treeOf (now (image .entry))) i) ∷ [])) ⌝ }
+    requires { ⌜ (Index (now image) (now index) × (parent (treeOf (now image)) i < nodeCount (now image)))
+        × ((i < nodeCount (now image)) × ZoneInBase (now image) (zoneAbove (treeOf (now image)) i)) ⌝ }
+    ensures { λ r. ⌜ r ≡ (typed (treeOf (now (image .entry))) i (I4 ∷ [])
+        && shaped (treeOf (now (image .entry))) i (2 * indexDimension (treeOf (now (image .entry))) (zoneAbove (treeOf (now (image .entry))) i) ∷ [])) ⌝ }
 {
     let zone = records::parent_of(image, records::parent_of(image, i));
     typed_shaped(
         image,
         i,
-        shapes::I4,
+        data_types::I4,
         1,
         [2 * index_dimension(image, index, zone), 0, 0],
     )
@@ -64,12 +67,12 @@ pub fn type_lawful(image: &[u8], index: &[u16], i: usize) -> bool
 {
     let role = index::role_of(image, index, i);
     match role {
-        roles::LIBRARY_VERSION => typed_shaped(image, i, shapes::R4, 1, [1, 0, 0]),
-        roles::BASE | roles::ELEMENTS => typed_shaped(image, i, shapes::I4, 1, [2, 0, 0]),
+        roles::LIBRARY_VERSION => typed_shaped(image, i, data_types::R4, 1, [1, 0, 0]),
+        roles::BASE | roles::ELEMENTS => typed_shaped(image, i, data_types::I4, 1, [2, 0, 0]),
         roles::ZONE => zone_shape(image, index, i),
         roles::ZONE_TYPE | roles::GRID_LOCATION | roles::DESCRIPTOR => text_shape(image, i),
-        roles::GRID_COORDINATES | roles::USER_DEFINED_DATA => typed(image, i, shapes::MT),
-        roles::FLOW_SOLUTION | roles::ROOT => typed(image, i, shapes::MT),
+        roles::GRID_COORDINATES | roles::USER_DEFINED_DATA => typed(image, i, data_types::MT),
+        roles::FLOW_SOLUTION | roles::ROOT => typed(image, i, data_types::MT),
         roles::INDEX_RANGE => whole_shaped(image, i, 1, [2, 0, 0]),
         roles::RIND => rind_shape(image, index, i),
         roles::DATA_ARRAY => array_type(image, index, i),

@@ -3,23 +3,12 @@ ghost use mathlib.Core.Path.{_≡_};
 ghost use mathlib.Core.List.{[], _∷_};
 ghost use Prim.Native.Nat.{_≤_, _<_};
 ghost use lib.ListN.{take};
-ghost use Rattle.model.specs.Image.{treeOf, nodeCount};
+ghost use Rattle.model.specs.Image.{treeOf, nodeCount, dimensions};
 ghost use Rattle.model.specs.Bounds.{Laid};
 ghost use Rattle.model.specs.Given.{Sound};
 ghost use Rattle.model.specs.Values.{typed, shaped, flat, zoneTypeShape};
 use records::RecordNumbers;
-
-pub const MT: u64 = 1;
-
-pub const C1: u64 = 2;
-
-pub const I4: u64 = 4;
-
-pub const R4: u64 = 6;
-
-pub const I8: u64 = 7;
-
-pub const R8: u64 = 9;
+use records::data_types;
 
 // The data type of node i is a.
 pub fn typed(image: &[u8], i: usize, a: u64) -> bool
@@ -65,10 +54,29 @@ pub fn shaped(image: &[u8], i: usize, n: usize, sizes: [u64; 3]) -> bool
     true
 }
 
+// Node i has the dimensions of node j.
+pub fn same_shape(image: &[u8], i: usize, j: usize) -> bool
+    requires { ⌜ Sound (now image) × ((i < nodeCount (now image)) × (j < nodeCount (now image))) ⌝ }
+    ensures { λ r. ⌜ r ≡ shaped (treeOf (now (image .entry))) i (dimensions (treeOf (now (image .entry))) j) ⌝ }
+{
+    let n = RecordNumbers::read(image, i).rank as usize;
+    if RecordNumbers::read(image, j).rank as usize != n {
+        return false;
+    }
+    let mut k = 0;
+    while k < n {
+        if records::dimension(image, i, k) != records::dimension(image, j, k) {
+            return false;
+        }
+        k += 1;
+    }
+    true
+}
+
 // A text: C1 with one dimension.
 pub fn text_shape(image: &[u8], i: usize) -> bool
     requires { ⌜ Laid (now image) × (i < nodeCount (now image)) ⌝ }
     ensures { λ r. ⌜ r ≡ zoneTypeShape (treeOf (now (image .entry))) i ⌝ }
 {
-    typed(image, i, C1) && flat(image, i)
+    typed(image, i, data_types::C1) && flat(image, i)
 }

@@ -3,12 +3,14 @@ ghost use mathlib.Core.Path.{_≡_};
 ghost use Prim.Native.Nat.{_≤_, _<_};
 ghost use Rattle.model.specs.Image.{treeOf, nodeCount};
 ghost use Rattle.model.specs.Containment.{Zone};
+ghost use Rattle.model.specs.Given.{Sound};
 ghost use Rattle.model.specs.Values.{zoneTypeOf, structured, unstructured, indexDimension};
+ghost use Rattle.model.specs.Values.{structured as isStructured};
 ghost use Rattle.index.specs.Index.{kind, Index};
-ghost use Rattle.types.specs.Given.{ZoneInBase};
+ghost use Rattle.types.specs.Given.{ZoneInBase, zoneTypeReads};
 use super::shapes::text_shape;
 use super::stored_numbers::whole;
-use super::stored_texts::reads_if_found;
+use super::stored_texts::reads;
 use super::stored_texts::zone_type_value;
 
 // The zone's conforming ZoneType; the node count where there is none.
@@ -31,13 +33,26 @@ pub fn zone_type_of(image: &[u8], index: &[u16], z: usize) -> usize
     j
 }
 
+// The zone's ZoneType has the shape of one and reads this text.
+fn zone_type_reads(image: &[u8], index: &[u16], z: usize, text: &[u8]) -> bool
+    requires { ⌜ Index (now image) (now index) × (z < nodeCount (now image)) ⌝ }
+    requires { ⌜ kind (treeOf (now image)) z ≡ Zone ⌝ }
+    ensures { λ r. ⌜ r ≡ zoneTypeReads (treeOf (now (image .entry))) z (now (text .entry)) ⌝ }
+{
+    let j = index::zone_type(image, index, z);
+    if j == labels::node_count(image) {
+        return false;
+    }
+    text_shape(image, j) && reads(image, j, text)
+}
+
 // The zone is structured.
 pub fn structured(image: &[u8], index: &[u16], z: usize) -> bool
     requires { ⌜ Index (now image) (now index) × (z < nodeCount (now image)) ⌝ }
     requires { ⌜ kind (treeOf (now image)) z ≡ Zone ⌝ }
     ensures { λ r. ⌜ r ≡ structured (treeOf (now (image .entry))) z ⌝ }
 {
-    reads_if_found(image, zone_type_of(image, index, z), b"Structured")
+    zone_type_reads(image, index, z, b"Structured")
 }
 
 // The zone is unstructured.
@@ -46,16 +61,25 @@ pub fn unstructured(image: &[u8], index: &[u16], z: usize) -> bool
     requires { ⌜ kind (treeOf (now image)) z ≡ Zone ⌝ }
     ensures { λ r. ⌜ r ≡ unstructured (treeOf (now (image .entry))) z ⌝ }
 {
-    reads_if_found(image, zone_type_of(image, index, z), b"Unstructured")
+    zone_type_reads(image, index, z, b"Unstructured")
 }
 
-// IndexDimension: CellDimension of the base if the zone is structured, else 1.
+// IndexDimension of a zone that is structured or not: CellDimension of the base if it is, else 1.
+pub fn dimension_of(image: &[u8], z: usize, structured: bool) -> u64
+    requires { ⌜ Sound (now image) × ZoneInBase (now image) z ⌝ }
+    requires { ⌜ structured ≡ isStructured (treeOf (now image)) z ⌝ }
+    ensures { λ r. ⌜ (r ≡ indexDimension (treeOf (now (image .entry))) z) × (1 ≤ r) × (r ≤ 3) ⌝ }
+{
+    if !structured {
+        return 1;
+    }
+    whole(image, records::parent_of(image, z), 0)
+}
+
+// IndexDimension.
 pub fn index_dimension(image: &[u8], index: &[u16], z: usize) -> u64
     requires { ⌜ Index (now image) (now index) × ZoneInBase (now image) z ⌝ }
     ensures { λ r. ⌜ (r ≡ indexDimension (treeOf (now (image .entry))) z) × (1 ≤ r) × (r ≤ 3) ⌝ }
 {
-    if !structured(image, index, z) {
-        return 1;
-    }
-    whole(image, records::parent_of(image, z), 0)
+    dimension_of(image, z, structured(image, index, z))
 }

@@ -17,7 +17,6 @@ ghost use Rattle.model.specs.Answers.{stageTells, validationTells};
 ghost use Rattle.index.specs.Index.{Index};
 ghost use Rattle.elements.specs.Ranges.{overlapAt, Faces};
 
-mod counting; // counting.rt: how many nodes are validated
 mod sizes; // sizes.rt: the DataSize of an array
 
 use labels::roles::ELEMENTS;
@@ -151,18 +150,33 @@ pub fn image_stage(image: &[u8], index: &mut [u16]) -> Stage
     image_stage_with(image, index, &mut firsts, &mut reach, &mut hints)
 }
 
+// 1 for a test that holds, 0 for one that does not.
+fn unit(test: bool) -> u64
+    ensures { λ r. ⌜ (r ≡ cond test 1 0) × (r ≤ 1) ⌝ }
+{
+    if test { 1 } else { 0 }
+}
+
 // The four counts of an image in which rules 1 to 18 hold.
 fn counted(image: &[u8], index: &[u16]) -> Validation
     requires { ⌜ Index (now image) (now index) ⌝ }
     ensures { λ r. ⌜ validationTells r ≡ answer (counts (treeOf (now (image .entry)))) ⌝ }
 {
-    let n = labels::node_count(image) as u64;
-    let validated = counting::count_validated(image, index);
-    let zones = counting::count_as(image, index, ZONE);
-    let sections = counting::count_as(image, index, ELEMENTS);
+    let n = labels::node_count(image);
+    let mut validated: u64 = 0;
+    let mut zones: u64 = 0;
+    let mut sections: u64 = 0;
+    let mut i = 0;
+    while i < n {
+        let kind = index::kind_of(image, index, i);
+        validated += unit(0 < kind);
+        zones += unit(kind == ZONE);
+        sections += unit(kind == ELEMENTS);
+        i += 1;
+    }
     Validation::Accepted {
         validated,
-        skipped: n - validated,
+        skipped: n as u64 - validated,
         zones,
         sections,
     }

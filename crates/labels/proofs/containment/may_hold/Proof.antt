@@ -1,4 +1,4 @@
--- A dot.
+-- The cell is not 0.
 use Rattle.labels.proofs.Grid.{cell-held}
 use borrow.Author.Needs.{needs}
 use Rattle.labels.proofs.containment.may_hold.Statement.{statement}

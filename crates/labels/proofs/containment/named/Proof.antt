@@ -1,13 +1,8 @@
 -- The cell tells the fixed name.
-use Prim.Native.Nat.{ℕ, _-_}
-use mathlib.Core.Path.{ap, _∙_}
-use mathlib.Core.List.{List, []}
-use lib.ListN.{getD}
-use Rattle.model.specs.Bytes.{spells}
+use mathlib.Core.Path.{_∙_}
+use mathlib.Core.List.{[]}
 use Rattle.model.specs.Image.{treeOf, name}
-use Rattle.labels.specs.Cells.{fixedTexts}
-use Rattle.labels.proofs.Nodes.{named-is, name-field}
-use Rattle.labels.proofs.Grid.{name-free, name-place, name-fixed}
+use Rattle.labels.proofs.Grid.{named-is, name-free, name-place, name-fixed}
 use native.Mathlib.Omega.{arith}
 use borrow.Author.Needs.{needs}
 use Rattle.labels.proofs.containment.named.Statement.{statement}
@@ -17,23 +12,23 @@ returns : tie.Need-returns
 returns c =
     let a = c .before .before .before in
     let p = a .pre .1 in
-    name-free _ _ (c .before .cell .ensures) (p .1 .0) (p .1 .1) (name (treeOf (a .args .image .now)) (a .args .i)) (c .if1 .taken) ∙ named-is _ _ (p .0 .0) (p .0 .1)
+    name-free _ _ (c .before .cell .ensures) (p .1 .0) (p .1 .1) (name (treeOf (a .args .image .now)) (a .args .i)) (c .if1 .taken)
+    ∙ named-is _ _ (p .0 .0) (p .0 .1)
 
 name-is-requires : tie.Need-name-is-requires
 name-is-requires c κs =
-    let d = c .before .before in
+    let d = c .before in
     let p = d .before .before .pre .1 in
     let m = name-place _ _ (d .cell .ensures) (p .1 .0) (p .1 .1) [] (omega arith) in
     search needs
 
 returns-2 : tie.Need-returns-2
 returns-2 c =
-    let d = c .before .before .before in
+    let d = c .before .before in
     let a = d .before .before in
     let p = a .pre .1 in
-    let n = name (treeOf (a .args .image .now)) (a .args .i) in
-    c .name-is .ensures ∙ ap (λ (f : List ℕ). spells f (getD fixedTexts (d .cell .result - 48 - 1) [])) (name-field (a .args .image .now) (a .args .i) (omega arith) (c .before .at .ensures))
-    ∙ name-fixed _ _ (d .cell .ensures) (p .1 .0) (p .1 .1) n (omega arith) ∙ named-is _ _ (p .0 .0) (p .0 .1)
+    c .name-is .ensures
+    ∙ name-fixed _ _ (d .cell .ensures) (p .1 .0) (p .1 .1) (name (treeOf (a .args .image .now)) (a .args .i)) (omega arith) ∙ named-is _ _ (p .0 .0) (p .0 .1)
 
 pub named-spec : {M : Type 1} → statement M
-named-spec = tie.close (tie.spec (λ c κs. search needs) returns (search needs) (search needs) (search needs) (search needs) name-is-requires returns-2)
+named-spec = tie.close (tie.spec (λ c κs. search needs) returns (search needs) (search needs) name-is-requires returns-2)

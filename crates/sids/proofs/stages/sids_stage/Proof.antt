@@ -15,19 +15,20 @@ content-stage-requires : tie.Need-content-stage-requires
 content-stage-requires c κs =
     let s = c .before .before .before .before .before in
     let q = check-pass _ _ (passes (c .before .before .place-stage .ensures) (c .enum-told .given .1)) .0 in
-    (s .pre .1, ready (s .args .image .now) (s .args .i) (s .pre .0 .0) (s .pre .0 .1) q)
+    ((s .pre .1, ready (s .args .image .now) (s .args .i) (s .pre .0 .0) (s .pre .0 .1) q), s .pre .0 .0)
 
 returns-2 : tie.Need-returns-2
 returns-2 c =
     let d = c .before .before .before in
-    go (d .before .before .place-stage .ensures) (d .enum-told .given .1) (stop (c .before .before .content-stage .ensures) _ (c .enum-told4 .given .1)) ∙ sym (sids-groups _ _)
+    go (d .before .before .place-stage .ensures) (d .enum-told .given .1) (stop (c .before .before .content-stage .ensures) _ (c .enum-told4 .given .1)) ∙ sym
+    (sids-groups _ _)
 
 sizes-lawful-requires : tie.Need-sizes-lawful-requires
 sizes-lawful-requires c κs =
     let d = c .before .before .before in
     let s = d .before .before .before .before .before in
     let q = check-pass _ _ (passes (d .before .before .place-stage .ensures) (d .enum-told .given .1)) .0 in
-    ((s .pre .1, s .pre .0 .0 .inside), (s .pre .0 .1, sized (s .args .image .now) (s .args .i) (s .pre .0 .0) (s .pre .0 .1) q))
+    ((s .pre .0 .0, s .pre .1), (s .pre .0 .1, sized (s .args .image .now) (s .args .i) (s .pre .0 .0) (s .pre .0 .1) q))
 
 returns-3 : tie.Need-returns-3
 returns-3 c =
@@ -47,5 +48,6 @@ returns-4 c =
 
 pub sids-stage-spec : {M : Type 1} → statement M
 sids-stage-spec =
-    tie.close (tie.spec (λ c κs. search needs) (search needs) (search needs) returns content-stage-requires (search needs) (search needs) returns-2 sizes-lawful-requires
+    tie.close (tie.spec (λ c κs. search needs) (search needs) (search needs) returns content-stage-requires (search needs)
+    (search needs) returns-2 sizes-lawful-requires
     (search needs) returns-3 returns-4)

@@ -1,12 +1,14 @@
+-- A ZoneType that reads this text reads a permitted one.
+use mathlib.Core.Path.{_∙_}
 use borrow.Author.Needs.{needs}
 use Rattle.model.specs.Bytes.{text}
-use Rattle.model.specs.Values.{unstructured}
+use Rattle.types.proofs.ZoneTypes.{is-unstructured}
 use Rattle.types.proofs.zones.unstructured.Statement.{statement}
 use Rattle.types.proofs.zones.unstructured.Tie as tie
 
 returns : tie.Need-returns
-unfolding unstructured text
-returns c = rw (c .before .before .zone-type-of .ensures .0) at (c .reads-if-found .ensures)
+unfolding text
+returns c = c .zone-type-reads .ensures ∙ is-unstructured _ _
 
 pub unstructured-spec : {M : Type 1} → statement M
-unstructured-spec = tie.close (tie.spec (λ c κs. search needs) (search needs) (λ c κs. search needs) returns)
+unstructured-spec = tie.close (tie.spec (search needs) (λ c κs. search needs) returns)
