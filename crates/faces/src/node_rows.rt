@@ -6,7 +6,6 @@ ghost use Rattle.model.specs.Given.{Sound};
 ghost use Rattle.rows.specs.Rows.{Numbers};
 ghost use Rattle.elements.specs.Given.{Stores};
 ghost use Rattle.faces.specs.Rows.{RowOf, endsAfterAt};
-
 use rows::Row;
 
 // The n numbers of node j.

@@ -19,13 +19,14 @@ use super::cells::references_of;
 use super::ledger::use_face;
 use model::Rejection;
 use model::Stage;
+use ranges::Spread;
 use rows::Row;
 
-// The faces of a zone in the tables: how many entries there are, and by how many bits a face's number is shifted to its hint.
+// The faces of a zone in the tables: how many entries there are, and how a face's hint is found.
 struct Faces {
     zone: usize,
     count: usize,
-    shift: u64,
+    spread: Spread,
 }
 
 // The place of face f, which entry j holds.
@@ -54,13 +55,13 @@ fn use_entry(
     requires { ⌜ faceOf (treeOf (now image)) (faces .zone) (magnitude (row .width) (numberAt (now image) (row .at) (row .width) k)) ≡ true ⌝ }
     requires { ⌜ Accepted (now image)
         × Ranges (treeOf (now image)) (faces .zone) (nodeCount (now image)) (now firsts) (now reach) (now places) (faces .count) ⌝ }
-    requires { ⌜ ((faces .shift ≤ 52) × (4096 ≤ length (now hints))) × (faceCount (treeOf (now image)) (faces .zone) ≤ length (now out)) ⌝ }
+    requires { ⌜ (4096 ≤ length (now hints)) × (faceCount (treeOf (now image)) (faces .zone) ≤ length (now out)) ⌝ }
     ensures { λ r. ⌜ UsedAt (treeOf (now (image .entry))) (faces .zone) (row .width) (numberAt (now (image .entry)) (row .at) (row .width) k)
         (now (out .entry)) (ltb r (faces .count)) (now (out .exit)) ⌝ }
 {
     let count = faces.count;
     let f = rows::magnitude_at(image, row, k);
-    let j = ranges::find_near(firsts, reach, count, hints, faces.shift, last, f);
+    let j = ranges::find_near(firsts, reach, count, hints, faces.spread, last, f);
     let p = place_of(firsts, places, j, f);
     if !use_face(out, p, rows::is_negative(image, row, k)) {
         return count;
@@ -84,7 +85,7 @@ fn use_entries(
     requires { ⌜ References (now image) (now index) (faces .zone) s row ⌝ }
     requires { ⌜ Accepted (now image)
         × Ranges (treeOf (now image)) (faces .zone) (nodeCount (now image)) (now firsts) (now reach) (now places) (faces .count) ⌝ }
-    requires { ⌜ ((faces .shift ≤ 52) × (4096 ≤ length (now hints))) × (faceCount (treeOf (now image)) (faces .zone) ≤ length (now out)) ⌝ }
+    requires { ⌜ (4096 ≤ length (now hints)) × (faceCount (treeOf (now image)) (faces .zone) ≤ length (now out)) ⌝ }
     ensures { λ r. ⌜ Used (faceCount (treeOf (now (image .entry))) (faces .zone))
         (useEntries (treeOf (now (image .entry))) s (usesIn (treeOf (now (image .entry))) (faces .zone) s) 0 (now (out .entry)))
         (now (out .entry)) r (now (out .exit)) ⌝ }
@@ -133,11 +134,11 @@ pub fn use_nodes(
     ensures { λ r. ⌜ Used (faceCount (treeOf (now (image .entry))) z)
         (useNodes (treeOf (now (image .entry))) z (nodeCount (now (image .entry))) 0 (now (out .entry))) (now (out .entry)) r (now (out .exit)) ⌝ }
 {
-    let shift = ranges::shift_for(firsts, reach, count);
+    let spread = ranges::spread_for(firsts, reach, count, hints, image.len());
     let faces = Faces {
         zone: z,
         count,
-        shift,
+        spread,
     };
     let nodes = labels::node_count(image);
     let mut i: usize = 0;

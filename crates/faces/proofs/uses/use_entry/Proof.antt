@@ -14,7 +14,7 @@ find-near-requires c κs =
     let d = c .before .before .before .before .before .before .before .before .pre .1 in
     let p = d .1 in
     let s = face-small (p .0 .0 .sound) _ _ (d .0) in
-    ((p .0 .1 .gathered .ordered, omega (arith, few-ranges (p .0 .0) (p .0 .1)), omega (arith, c .before .magnitude-at .ensures)), (p .1 .0 .1, p .1 .0 .0))
+    ((p .0 .1 .gathered .ordered, omega (arith, few-ranges (p .0 .0) (p .0 .1)), omega (arith, c .before .magnitude-at .ensures)), p .1 .0)
 
 place-of-requires : tie.Need-place-of-requires
 place-of-requires c κs =
