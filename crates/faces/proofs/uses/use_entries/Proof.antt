@@ -29,7 +29,7 @@ use-entry-requires c κs =
     let l = c .before .before .before .before .loop in
     let p = c .before .before .before .before .before .before .before .before .before .before .before .before .pre in
     let e = p .0 .each (l .k) (omega arith) in
-    ((p .0 .numbers, omega arith), (entry-face e, (p .1 .0, ((p .1 .1 .0 .0, omega (arith, l .inv .0 .1)), omega (arith, l .inv .1 .long)))))
+    ((p .0 .numbers, omega arith), (entry-face e, (p .1 .0, (omega (arith, l .inv .0 .1, p .1 .1 .0), omega (arith, l .inv .1 .long)))))
 
 element-holding-requires : tie.Need-element-holding-requires Inv-loop μ-loop
 element-holding-requires c κs =
