@@ -3,16 +3,11 @@ use Prim.Native.Nat.{ℕ, zero, suc, _+_, _-_, _≤_, _<_}
 use mathlib.Core.Path.{_≡_, refl, _∙_}
 use mathlib.Core.Bool.{Bool, true, false, _&&_}
 use native.Mathlib.Omega.{arith}
-use Rattle.model.specs.Lists.{someFrom, everyFrom}
+use Rattle.model.specs.Lists.{everyFrom}
 use Rattle.model.proofs.Logic.{and-first, and-second}
 use Rattle.model.proofs.Loops.{EveryLeft, every-more, every-stop, every-done}
 
 module _ (p q : ℕ → Bool) where
-  pub some-same : (k i : ℕ) → ((j : ℕ) → i ≤ j → j < i + k → p j ≡ q j) → someFrom p k i ≡ someFrom q k i
-  unfolding someFrom
-  some-same zero i e = refl
-  some-same (suc k) i e = rw (e i (omega arith) (omega arith), some-same k (suc i) (λ j l h. e j (omega arith) (omega arith)))
-
   pub every-same : (k i : ℕ) → ((j : ℕ) → i ≤ j → j < i + k → p j ≡ q j) → everyFrom p k i ≡ everyFrom q k i
   unfolding everyFrom
   every-same zero i e = refl

@@ -1,9 +1,7 @@
 pub mod Agree
 pub mod Offsets
-pub mod Stages
 pub mod Stored
 pub mod SectionContext
-pub mod Searches
 pub mod RangeLaws
 pub mod FaceLaws
 pub mod RuleLaws

@@ -16,7 +16,7 @@ use Rattle.model.specs.Validation.{nodeRules, nodeCheckAt}
 use Rattle.model.specs.Elements.{NGON, elementType, firstElement, lastElement, inRange, meets, overlap, overlaps, faceSection, hasFace, faceOf, elementRules}
 use Rattle.model.proofs.Logic.{untrue, and-first, and-second}
 use Rattle.model.proofs.Loops.{SeekLeft, seek-start, seek-stop}
-use Rattle.model.proofs.Walks.{some-at, seek-holds}
+use Rattle.model.proofs.Walks.{some-at, some-same, seek-holds}
 use Rattle.model.proofs.Passed.{check-pass, hold-right, claim}
 use Rattle.model.proofs.Conforming.{conforming-inside, conforming-parent, conforming-role}
 use Rattle.model.proofs.Above.{earlier-rule}
@@ -27,7 +27,6 @@ use Rattle.ranges.proofs.Half.{half}
 use Rattle.ranges.proofs.Keys.{key-meets}
 use Rattle.elements.specs.Given.{Ranged, SectionContext}
 use Rattle.elements.specs.Ranges.{isRanged, firstKey, lastKey, rangedOverlap, overlapAt, RangeOf, Faces}
-use Rattle.elements.proofs.Agree.{some-same}
 use Rattle.elements.proofs.Stored.{type-section, range-ready}
 use Rattle.elements.proofs.SectionContext.{complete-is}
 

@@ -17,33 +17,23 @@ use Rattle.model.proofs.Logic.{untrue, and-first, and-second}
 use Rattle.model.proofs.Passed.{check-pass}
 use Rattle.model.proofs.Accepted.{record-rule}
 use Rattle.model.proofs.Parents.{parent-lower, lawful-at}
-use Rattle.model.proofs.Above.{validated-above, earlier-rule, held-by}
+use Rattle.model.proofs.Above.{validated-above, earlier-rule}
+use Rattle.model.proofs.Sections.{not-root}
 use Rattle.index.proofs.Marking.{kind-role}
+use Rattle.sids.proofs.Context.{section-zone}
 use Rattle.types.specs.Given.{HasNumber}
 use Rattle.types.proofs.StoredNumbers.{whole-wide, whole-four, shaped-is, has-by}
 use Rattle.elements.specs.Given.{SectionContext}
 use Rattle.elements.proofs.Stored.{type-section, stores-pair, range-ready, connectivity-stores, offsets-stores}
 
 -- the root is no section
-not-root : (t : Tree) (s : ℕ) → role t s ≡ Elements → s ≡ 0 → ⊥
-unfolding role
-not-root t s e z =
-    let r : _≡_ {A = ℕ} 14 7 = rw z at e in
-    omega arith
-
--- only a zone may hold a section
-zone-holds : (above : ℕ) → mayHold above Elements ≡ true → above ≡ Zone
-unfolding containment among
-zone-holds above e = let h = held-by above Elements e in eqb-true above 3 (by-test (eqb above 3) h)
-  where
-    by-test : (a : Bool) → (a || false) ≡ true → a ≡ true
-    by-test true q = refl
-    by-test false q = q
+no-root : (t : Tree) (s : ℕ) → role t s ≡ Elements → s ≡ 0 → ⊥
+no-root t s e = not-root t s Elements e (λ (z : _≡_ {A = ℕ} 7 14). absurd (omega arith))
 
 module _ (t : Tree) (s : ℕ) (e : role t s ≡ Elements) where
   placed-is : placed t s ≡ (mayHold (role t (parent t s)) Elements && unstructured t (parent t s))
   unfolding placed _⊃_
-  placed-is = rw (ne-eqb s 0 (not-root t s e), e)
+  placed-is = rw (ne-eqb s 0 (no-root t s e), e)
 
   pub complete-is : complete t s ≡ (found t (rangeOf t s) && found t (connectivityOf t s))
   unfolding complete row
@@ -77,9 +67,9 @@ section-ready {b} {s} g v e c =
     let p = sym (placed-is t s e) ∙ held .0 in
     let full = sym (complete-is t s e) ∙ held .1 .1 .1 .0 in
     let own = sym (type-section t s e) ∙ held .1 .1 .1 .1 .0 in
-    let z = zone-holds (role t (parent t s)) (and-first (mayHold (role t (parent t s)) Elements) _ p) in
-    let low = parent-lower t s (lawful-at b (g .sound) s (g .inside)) (not-root t s e) in
-    let vz = validated-above b (g .sound) s (g .inside) (not-root t s e) v in
+    let z = section-zone (role t (parent t s)) Elements refl (and-first (mayHold (role t (parent t s)) Elements) _ p) in
+    let low = parent-lower t s (lawful-at b (g .sound) s (g .inside)) (no-root t s e) in
+    let vz = validated-above b (g .sound) s (g .inside) (no-root t s e) v in
     record {
       inside = g .inside;
       elements = e;

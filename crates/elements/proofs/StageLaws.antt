@@ -4,9 +4,11 @@ use mathlib.Core.Path.{_≡_, sym, ap, _∙_}
 use mathlib.Core.Bool.{Bool, true, false, not}
 use mathlib.Core.List.{List}
 use native.Mathlib.Omega.{arith}
+use lib.Dec.{eqb}
+use borrow.Author.Tests.{eq-eqb, ne-eqb}
 use Rattle.model.specs.Rules.{check, Check, rejected, rejection, _then_}
 use Rattle.model.specs.Image.{Tree, treeOf, number}
-use Rattle.model.specs.Values.{size, connectivityOf}
+use Rattle.model.specs.Values.{size, rangeOf, connectivityOf}
 use Rattle.model.specs.Elements.{taken, elementType, firstElement, lastElement, elementCount, connectivityLength, overlaps, elementRules}
 use Rattle.model.proofs.Staging.{broken, kept, check-append}
 use Rattle.rows.specs.declared.Row.{Row}
@@ -52,3 +54,21 @@ up-read d p q = let u = d .ranged .up in omega arith
 
 pub most-read : {b : List ℕ} {s : ℕ} → SectionContext b s → {l : ℕ} → l ≡ lastElement (treeOf b) s → l ≤ 2147483647
 most-read d q = let u = d .ranged .most in omega arith
+
+-- the numbers of a range, read at its node
+module _ (t : Tree) (s j w : ℕ) (e : j ≡ rangeOf t s) where
+  pub first-by : w ≡ number t j 0 → w ≡ firstElement t s
+  unfolding firstElement
+  first-by h = rw (← e) h
+
+  pub last-by : w ≡ number t j 1 → w ≡ lastElement t s
+  unfolding lastElement
+  last-by h = rw (← e) h
+
+-- r was read where x stands
+module _ {r x y : ℕ} (e : r ≡ x) where
+  pub same-read : r ≡ y → eqb x y ≡ true
+  same-read h = eq-eqb x y (sym e ∙ h)
+
+  pub other-read : (r ≡ y → ⊥) → eqb x y ≡ false
+  other-read h = ne-eqb x y (λ q. h (e ∙ q))

@@ -1,3 +1,4 @@
+-- The two tests are those of the definition.
 use borrow.Author.Tests.{ne-eqb, eq-eqb}
 use Rattle.model.specs.Elements.{hasOffsets}
 use Rattle.element_types.proofs.has_offsets.Statement.{statement}

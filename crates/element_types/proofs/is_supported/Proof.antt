@@ -1,3 +1,4 @@
+-- A type is supported where it has a fixed number of nodes or start offsets.
 use borrow.Author.Needs.{needs}
 use borrow.Author.Tests.{lt-ltb, le-ltb}
 use Rattle.model.specs.Elements.{taken}

@@ -1,3 +1,4 @@
+-- Rules 24 and 25 of a section are three tests, and its type is its first number.
 use native.Mathlib.Omega.{arith}
 use mathlib.Core.Path.{sym, _∙_}
 use borrow.Author.Needs.{needs}

@@ -1,6 +1,6 @@
 -- The range stores its two numbers.
 use Rattle.elements.proofs.Stored.{stores-has}
-use Rattle.elements.proofs.Searches.{first-by, last-by}
+use Rattle.elements.proofs.StageLaws.{first-by, last-by}
 use Rattle.elements.proofs.RangeLaws.{first-key, last-key}
 use native.Mathlib.Omega.{arith}
 use borrow.Author.Needs.{needs}

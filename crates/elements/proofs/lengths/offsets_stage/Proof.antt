@@ -5,7 +5,8 @@ use borrow.Author.Tests.{not-true, not-false}
 use Rattle.model.specs.Rules.{rejected}
 use Rattle.model.proofs.Staging.{broken, kept}
 use Rattle.elements.specs.Arrays.{offsetRules}
-use Rattle.elements.proofs.Stages.{check-none, same-read, other-read}
+use Rattle.sids.proofs.Context.{no-rule}
+use Rattle.elements.proofs.StageLaws.{same-read, other-read}
 use Rattle.elements.proofs.lengths.offsets_stage.Statement.{statement}
 use Rattle.elements.proofs.lengths.offsets_stage.Tie as tie
 
@@ -44,7 +45,7 @@ returns-4 c =
     let z = r .before in
     sym (kept _ 30 _ (same-read (z .before .number-at .ensures) (z .if1 .left))
     ∙ kept _ 31 _ (sym (r .all-rise .ensures) ∙ not-false _ (l .before .if2 .left))
-    ∙ kept _ 32 _ (same-read (l .number-at2 .ensures) (c .if3 .left)) ∙ check-none _)
+    ∙ kept _ 32 _ (same-read (l .number-at2 .ensures) (c .if3 .left)) ∙ no-rule _)
 
 pub offsets-stage-spec : {M : Type 1} → statement M
 offsets-stage-spec = tie.close (tie.spec (search needs) (λ c κs. search needs) (search needs) returns all-rise-requires (search needs) returns-2

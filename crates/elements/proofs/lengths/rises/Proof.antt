@@ -1,3 +1,4 @@
+-- Of numbers that are not negative the bits tell the order.
 use borrow.Author.Needs.{needs}
 use borrow.Author.Tests.{lt-leb, le-leb}
 use Rattle.elements.proofs.Offsets.{below-low}

@@ -1,3 +1,4 @@
+-- The type decides whether start offsets tell the length.
 use native.Mathlib.Omega.{arith}
 use mathlib.Core.Path.{sym, ap, _∙_}
 use native.Mathlib.Nat.{mul-le-mul-left}

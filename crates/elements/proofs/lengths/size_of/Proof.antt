@@ -1,3 +1,4 @@
+-- Past the last node nothing is stored; a node with one dimension has its word.
 use native.Mathlib.Omega.{arith}
 use mathlib.Core.Path.{sym}
 use borrow.Author.Needs.{needs}

@@ -1,3 +1,4 @@
+-- The two tests are those of the definition.
 use borrow.Author.Needs.{needs}
 use borrow.Author.Tests.{lt-leb, le-leb}
 use Rattle.elements.specs.Arrays.{isWithin}
