@@ -20,18 +20,10 @@ build-requires c κs =
     let t = c .before .before .before .before .before in
     (sound _ (passes (t .table-stage-with .ensures) (c .before .enum-told .given .1)), search needs)
 
--- the index is built
-module _ (c : tie.After-build) where
-  abbrev enum : tie.Else1
-  enum = c .before .before
-
-  abbrev table : tie.After-table-stage-with
-  table = c .before .before .before .before .before .before
-
 nodes-stage-requires : tie.Need-nodes-stage-requires
 nodes-stage-requires c κs =
     let k = c .before .before .before .before .before .before in
-    let p = table k .before .before .before .before .before .before .before .pre in
+    let p = k .before .before .before .before .before .before .before .before .before .before .before .before .before .pre in
     ((k .build .ensures, p .0 .1), p .1)
 
 returns-2 : tie.Need-returns-2
@@ -39,7 +31,8 @@ unfolding imageCheck
 returns-2 c =
     let n = c .before .before .before .before .before .before in
     let k = n .before .before .before .before .before .before .before in
-    (go (table k .table-stage-with .ensures) (enum k .enum-told .given .1) (n .nodes-stage .ensures), λ e. k .build .ensures)
+    let t = k .before .before .before .before .before .before in
+    (go (t .table-stage-with .ensures) (k .before .before .enum-told .given .1) (n .nodes-stage .ensures), λ e. k .build .ensures)
 
 pub image-stage-with-spec : {M : Type 1} → statement M
 image-stage-with-spec =
