@@ -19,7 +19,8 @@ every-on {p} {n} {i} {j} {w} l h u f = on (j - i) i l (omega arith) h f
   where
     on : (d i : ℕ) → EveryLeft p n i w → d ≡ j - i → i ≤ j → ((m : ℕ) → i ≤ m → m < j → p m ≡ true) → EveryLeft p n j w
     on zero i l e h f = let q : j ≡ i = omega arith in rw q l
-    on (suc d) i l e h f = on d (i + 1) (every-more l (omega arith) (f i (omega arith) (omega arith))) (omega arith) (omega arith) (λ m x y. f m (omega arith) y)
+    on (suc d) i l e h f = on d (i + 1) (every-more l (omega arith) (f i (omega arith) (omega arith))) (omega arith) (omega arith)
+        (λ m x y. f m (omega arith) y)
 
 -- a walk that takes two at a time, and the last by itself
 module _ {p : ℕ → Bool} {n k : ℕ} {w : Bool} (l : EveryLeft p n k w) where

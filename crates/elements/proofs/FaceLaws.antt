@@ -37,7 +37,8 @@ skipped-more {b} {row} {last} {before} {k} {j} s h e =
     }
 
 -- what number k of a row refers to, by its magnitude
-pub refers-by : (t : Tree) (z : ℕ) (b : List ℕ) (at w k : ℕ) {f : ℕ} {v : Bool} → f ≡ magnitude w (numberAt b at w k) → faceOf t z f ≡ v → refersFace t z b at w k ≡ v
+pub refers-by : (t : Tree) (z : ℕ) (b : List ℕ) (at w k : ℕ) {f : ℕ} {v : Bool} → f ≡ magnitude w (numberAt b at w k) → faceOf t z f ≡ v
+    → refersFace t z b at w k ≡ v
 unfolding refersFace
 refers-by t z b at w k e h = rw (← e) h
 

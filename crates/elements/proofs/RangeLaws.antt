@@ -36,7 +36,8 @@ module _ (t : Tree) (i : ℕ) (e : role t i ≡ Elements) where
   unfolding valueLawful row
   value-section = rw e
 
-  pub ngon-is : (typeLawful t i && valueLawful t i && eqb (elementType t i) NGON) ≡ (typed t i (I4 ∷ []) && shaped t i (2 ∷ []) && notNegative t i 1 && eqb (number t i 0) NGON)
+  pub ngon-is : (typeLawful t i && valueLawful t i && eqb (elementType t i) NGON)
+      ≡ (typed t i (I4 ∷ []) && shaped t i (2 ∷ []) && notNegative t i 1 && eqb (number t i 0) NGON)
   unfolding elementType
   ngon-is = rw (type-section t i e, value-section)
 
@@ -50,7 +51,8 @@ module _ (b : List ℕ) (s : ℕ) where
   unfolding isRanged
   not-section faces e = rw e
 
-  pub not-wanted : (faces : Bool) → (faces ⊃ (typeLawful (treeOf b) s && valueLawful (treeOf b) s && eqb (elementType (treeOf b) s) NGON)) ≡ false → isRanged (treeOf b) faces s ≡ false
+  pub not-wanted : (faces : Bool) → (faces ⊃ (typeLawful (treeOf b) s && valueLawful (treeOf b) s && eqb (elementType (treeOf b) s) NGON)) ≡ false
+      → isRanged (treeOf b) faces s ≡ false
   unfolding isRanged
   not-wanted faces e = rw e (by-test (validatedAs (treeOf b) Elements s))
     where
@@ -58,7 +60,8 @@ module _ (b : List ℕ) (s : ℕ) where
       by-test true = refl
       by-test false = refl
 
-  pub range-by : (faces : Bool) {r : ℕ} → validatedAs (treeOf b) Elements s ≡ true → (faces ⊃ (typeLawful (treeOf b) s && valueLawful (treeOf b) s && eqb (elementType (treeOf b) s) NGON)) ≡ true
+  pub range-by : (faces : Bool) {r : ℕ} → validatedAs (treeOf b) Elements s ≡ true
+      → (faces ⊃ (typeLawful (treeOf b) s && valueLawful (treeOf b) s && eqb (elementType (treeOf b) s) NGON)) ≡ true
       → r ≡ rangeOf (treeOf b) s → RangeOf b faces s r
   unfolding isRanged found treeOf
   range-by faces e g q = record { tells = rw (e, g, q); is = λ h. q }
@@ -111,7 +114,8 @@ ranged-few {b} g faces =
     let f = g .laid .few in
     omega arith
 
-pub room : {b : List ℕ} (faces : Bool) {firsts reach : List ℕ} {n i : ℕ} → Sound b → Gathered (isRanged (treeOf b) faces) (firstKey (treeOf b)) (lastKey (treeOf b)) firsts reach n i
+pub room : {b : List ℕ} (faces : Bool) {firsts reach : List ℕ} {n i : ℕ} → Sound b
+    → Gathered (isRanged (treeOf b) faces) (firstKey (treeOf b)) (lastKey (treeOf b)) firsts reach n i
     → i < nodeCount b → isRanged (treeOf b) faces i ≡ true → n < 2048
 room {b} faces s g h e = let l = gathered-room g (nodeCount b) h e in let m = ranged-few s faces in omega arith
 
@@ -126,7 +130,8 @@ last-key t s e f h = h ∙ rw (e, f)
 
 -- 28: two sections meet where their keys do
 module _ {b : List ℕ} (g : Sound b) (s : ℕ) (e : isRanged (treeOf b) false s ≡ true) where
-  meets-key : (r : ℕ) → meetsSection (isRanged (treeOf b) false) (firstKey (treeOf b)) (lastKey (treeOf b)) (firstKey (treeOf b) s) (lastKey (treeOf b) s) r ≡ rangedOverlap (treeOf b) s r
+  meets-key : (r : ℕ) → meetsSection (isRanged (treeOf b) false) (firstKey (treeOf b)) (lastKey (treeOf b)) (firstKey (treeOf b) s) (lastKey (treeOf b) s) r
+      ≡ rangedOverlap (treeOf b) s r
   unfolding meetsSection rangedOverlap overlap meets sectionOf firstKey lastKey
   meets-key r = by-test (isRanged (treeOf b) false r) refl
     where
@@ -138,22 +143,30 @@ module _ {b : List ℕ} (g : Sound b) (s : ℕ) (e : isRanged (treeOf b) false s
       turn true false false = refl
 
       by-test : (c : Bool) → isRanged (treeOf b) false r ≡ c
-          → (c && (leb (key (parent (treeOf b) r) (firstElement (treeOf b) r)) (key (parent (treeOf b) s) (lastElement (treeOf b) s)) && leb (key (parent (treeOf b) s) (firstElement (treeOf b) s)) (key (parent (treeOf b) r) (lastElement (treeOf b) r))))
-          ≡ (c && ((eqb (parent (treeOf b) r) (parent (treeOf b) s) && validatedAs (treeOf b) Elements r) && (leb (firstElement (treeOf b) s) (lastElement (treeOf b) r) && leb (firstElement (treeOf b) r) (lastElement (treeOf b) s))))
+          → (c && (leb (key (parent (treeOf b) r) (firstElement (treeOf b) r)) (key (parent (treeOf b) s) (lastElement (treeOf b) s))
+          && leb (key (parent (treeOf b) s) (firstElement (treeOf b) s)) (key (parent (treeOf b) r) (lastElement (treeOf b) r))))
+          ≡ (c && ((eqb (parent (treeOf b) r) (parent (treeOf b) s) && validatedAs (treeOf b) Elements r)
+          && (leb (firstElement (treeOf b) s) (lastElement (treeOf b) r) && leb (firstElement (treeOf b) r) (lastElement (treeOf b) s))))
       by-test true q =
           let t = treeOf b in
           let x = ranged g false s e .most in
           let y = ranged g false r q .most in
-          rw (is-section g false r q, key-meets (parent t r) (parent t s) (firstElement t r) (lastElement t r) (firstElement t s) (lastElement t s) (omega arith) (omega arith))
+          rw (
+            is-section g false r q,
+            key-meets (parent t r) (parent t s) (firstElement t r) (lastElement t r) (firstElement t s) (lastElement t s)
+                (omega arith) (omega arith),
+          )
           (turn (eqb (parent t r) (parent t s)) (leb (firstElement t r) (lastElement t s)) (leb (firstElement t s) (lastElement t r)))
       by-test false q = refl
 
-  pub overlap-by : {firsts reach : List ℕ} {n first last : ℕ} {r : Bool} → Gathered (isRanged (treeOf b) false) (firstKey (treeOf b)) (lastKey (treeOf b)) firsts reach n s
+  pub overlap-by : {firsts reach : List ℕ} {n first last : ℕ} {r : Bool}
+      → Gathered (isRanged (treeOf b) false) (firstKey (treeOf b)) (lastKey (treeOf b)) firsts reach n s
       → first ≡ firstKey (treeOf b) s → last ≡ lastKey (treeOf b) s → r ≡ someFrom (meetsAt firsts reach first last) n 0 → r ≡ overlapAt (treeOf b) s
   unfolding overlapAt
   overlap-by {firsts} {reach} {n} {first} {last} f p q h =
       h ∙ f .meets first last ∙ rw (e, p, q)
-      (some-same (meetsSection (isRanged (treeOf b) false) (firstKey (treeOf b)) (lastKey (treeOf b)) (firstKey (treeOf b) s) (lastKey (treeOf b) s)) (rangedOverlap (treeOf b) s) s 0 (λ r l m. meets-key r))
+      (some-same (meetsSection (isRanged (treeOf b) false) (firstKey (treeOf b)) (lastKey (treeOf b)) (firstKey (treeOf b) s) (lastKey (treeOf b) s))
+      (rangedOverlap (treeOf b) s) s 0 (λ r l m. meets-key r))
 
 pub no-overlap : (b : List ℕ) (s : ℕ) → isRanged (treeOf b) false s ≡ false → false ≡ overlapAt (treeOf b) s
 unfolding overlapAt
@@ -165,7 +178,8 @@ module _ {b : List ℕ} {s : ℕ} (g : NodesTo b s) (e : isRanged (treeOf b) fal
   unfolding isRanged _⊃_ sidsRules validatedAs
   earlier-ranged r h v =
       let t = treeOf b in
-      let full = sym (complete-is t r (eqb-true _ _ (and-first (eqb (role t r) Elements) _ v))) ∙ earlier-rule b s g 23 r h (and-second (eqb (role t r) Elements) _ v) in
+      let full = sym (complete-is t r (eqb-true _ _ (and-first (eqb (role t r) Elements) _ v)))
+      ∙ earlier-rule b s g 23 r h (and-second (eqb (role t r) Elements) _ v) in
       rw (v, and-first (found t (rangeOf t r)) (found t (connectivityOf t r)) full)
 
   -- so the ranges decide
@@ -182,7 +196,8 @@ module _ {b : List ℕ} {s : ℕ} (g : NodesTo b s) (e : isRanged (treeOf b) fal
       closed false = refl
 
       by-test : (v : Bool) → validatedAs (treeOf b) Elements q ≡ v → (c : Bool) → isRanged (treeOf b) false q ≡ c
-          → (eqb (parent (treeOf b) q) (parent (treeOf b) r) && v && meets (treeOf b) r q) ≡ (c && (eqb (parent (treeOf b) q) (parent (treeOf b) r) && v && meets (treeOf b) r q))
+          → (eqb (parent (treeOf b) q) (parent (treeOf b) r) && v && meets (treeOf b) r q)
+          ≡ (c && (eqb (parent (treeOf b) q) (parent (treeOf b) r) && v && meets (treeOf b) r q))
       by-test true e true f = refl
       by-test true e false f = untrue (sym f ∙ earlier-ranged q l e)
       by-test false e c f = shut (eqb (parent (treeOf b) q) (parent (treeOf b) r)) ∙ sym (closed c)
@@ -216,12 +231,14 @@ module _ {b : List ℕ} {s : ℕ} (g : NodesTo b s) (e : isRanged (treeOf b) fal
 
       by-test : (c : Bool) → overlapAt (treeOf b) s ≡ c → eqb s o ≡ c
       by-test true f = eq-eqb s o (seek-stop left (g .inside) f)
-      by-test false f = ne-eqb s o (λ q. untrue (sym f ∙ rw (← h, ← q) at (seek-holds (overlapAt (treeOf b)) (nodeCount b) 0 (let i = g .inside in rw (← h) (omega arith)))))
+      by-test false f = ne-eqb s o (λ q. untrue
+          (sym f ∙ rw (← h, ← q) at (seek-holds (overlapAt (treeOf b)) (nodeCount b) 0 (let i = g .inside in rw (← h) (omega arith)))))
 
 -- 35: a face section of a zone
 face-section-is : (t : Tree) (z s : ℕ) → faceSection t z s ≡ (eqb (parent t s) z && isRanged t true s)
 unfolding faceSection sectionOf isRanged _⊃_
-face-section-is t z s = split (eqb (parent t s) z) (validatedAs t Elements s) (typeLawful t s) (valueLawful t s) (eqb (elementType t s) NGON) (found t (rangeOf t s))
+face-section-is t z s = split (eqb (parent t s) z) (validatedAs t Elements s) (typeLawful t s) (valueLawful t s) (eqb (elementType t s) NGON)
+    (found t (rangeOf t s))
   where
     split : (p v a c n f : Bool) → (p && v && a && c && n && f) ≡ (p && (v && (a && c && n) && f))
     split false v a c n f = refl
@@ -233,7 +250,8 @@ face-section-is t z s = split (eqb (parent t s) z) (validatedAs t Elements s) (t
 
 module _ {b : List ℕ} (g : Sound b) where
   -- it has the faces that its keys hold
-  face-key : (z f : ℕ) → f < 4294967296 → (s : ℕ) → meetsSection (isRanged (treeOf b) true) (firstKey (treeOf b)) (lastKey (treeOf b)) (key z f) (key z f) s ≡ hasFace (treeOf b) z f s
+  face-key : (z f : ℕ) → f < 4294967296 → (s : ℕ) → meetsSection (isRanged (treeOf b) true) (firstKey (treeOf b)) (lastKey (treeOf b)) (key z f) (key z f) s
+      ≡ hasFace (treeOf b) z f s
   unfolding meetsSection hasFace inRange firstKey lastKey
   face-key z f h s = rw (face-section-is (treeOf b) z s) (by-test (isRanged (treeOf b) true s) refl)
     where
@@ -246,15 +264,18 @@ module _ {b : List ℕ} (g : Sound b) where
       shut false = refl
 
       by-test : (c : Bool) → isRanged (treeOf b) true s ≡ c
-          → (c && (leb (key (parent (treeOf b) s) (firstElement (treeOf b) s)) (key z f) && leb (key z f) (key (parent (treeOf b) s) (lastElement (treeOf b) s))))
+          → (c && (leb (key (parent (treeOf b) s) (firstElement (treeOf b) s)) (key z f)
+          && leb (key z f) (key (parent (treeOf b) s) (lastElement (treeOf b) s))))
           ≡ (eqb (parent (treeOf b) s) z && c && (leb (firstElement (treeOf b) s) f && leb f (lastElement (treeOf b) s)))
       by-test true q =
           let t = treeOf b in
           let m = ranged g true s q .most in
-          rw (key-meets (parent t s) z (firstElement t s) (lastElement t s) f f (omega arith) h) (turn (eqb (parent t s) z) (leb (firstElement t s) f && leb f (lastElement t s)))
+          rw (key-meets (parent t s) z (firstElement t s) (lastElement t s) f f (omega arith) h)
+          (turn (eqb (parent t s) z) (leb (firstElement t s) f && leb f (lastElement t s)))
       by-test false q = shut (eqb (parent (treeOf b) s) z)
 
-  pub faces-by : {firsts reach : List ℕ} {n i : ℕ} → Gathered (isRanged (treeOf b) true) (firstKey (treeOf b)) (lastKey (treeOf b)) firsts reach n i → i ≡ nodeCount b
+  pub faces-by : {firsts reach : List ℕ} {n i : ℕ} → Gathered (isRanged (treeOf b) true) (firstKey (treeOf b)) (lastKey (treeOf b)) firsts reach n i
+      → i ≡ nodeCount b
       → Faces (treeOf b) firsts reach n
   unfolding faceOf treeOf
   faces-by {firsts} {reach} {n} {i} l e =
@@ -263,7 +284,9 @@ module _ {b : List ℕ} (g : Sound b) where
       record {
         few = omega arith;
         ordered = l .ordered;
-        in-ranges = λ z f h. l .meets (key z f) (key z f) ∙ rw e (some-same (meetsSection (isRanged (treeOf b) true) (firstKey (treeOf b)) (lastKey (treeOf b)) (key z f) (key z f)) (hasFace (treeOf b) z f) (nodeCount b) 0
+        in-ranges = λ z f h. l .meets (key z f) (key z f)
+            ∙ rw e (some-same (meetsSection (isRanged (treeOf b) true) (firstKey (treeOf b)) (lastKey (treeOf b)) (key z f) (key z f)) (hasFace (treeOf b) z f)
+            (nodeCount b) 0
             (λ s x y. face-key z f h s));
       }
 

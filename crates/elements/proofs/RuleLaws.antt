@@ -39,7 +39,8 @@ module _ {b : List ℕ} (g : Sound b) (s : ℕ) {r : Row} (o : RowOf b (connecti
   reference-is k h = row-number g o k h
 
   -- 34
-  pub all-nodes : (limit : ℕ) → limit ≡ number (treeOf b) (parent (treeOf b) s) 0 → everyFrom (isWithin b (r .at) (r .width) limit) (r .n) 0 ≡ allNodes (treeOf b) s
+  pub all-nodes : (limit : ℕ) → limit ≡ number (treeOf b) (parent (treeOf b) s) 0
+      → everyFrom (isWithin b (r .at) (r .width) limit) (r .n) 0 ≡ allNodes (treeOf b) s
   unfolding allNodes isNode isWithin vertexSize
   all-nodes limit m =
       rw long-is (every-same (isWithin b (r .at) (r .width) limit) (isNode (treeOf b) s) (r .n) 0 (λ k l h. rw (reference-is k (omega arith), ← m)))
@@ -48,7 +49,8 @@ module _ {b : List ℕ} (g : Sound b) (s : ℕ) {r : Row} (o : RowOf b (connecti
   pub all-faces : (z : ℕ) → z ≡ parent (treeOf b) s → everyFrom (refersFace (treeOf b) z b (r .at) (r .width)) (r .n) 0 ≡ allFaces (treeOf b) s
   unfolding allFaces isFace faceNumber refersFace
   all-faces z m =
-      rw long-is (every-same (refersFace (treeOf b) z b (r .at) (r .width)) (isFace (treeOf b) s) (r .n) 0 (λ k l h. rw (reference-is k (omega arith), ← m, ← o .wide)))
+      rw long-is (every-same (refersFace (treeOf b) z b (r .at) (r .width)) (isFace (treeOf b) s) (r .n) 0
+      (λ k l h. rw (reference-is k (omega arith), ← m, ← o .wide)))
 
 -- 34 and 35 by the type
 module _ (t : Tree) (s : ℕ) {r : Bool} where

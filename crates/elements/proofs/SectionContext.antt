@@ -59,7 +59,8 @@ zone-has b s z h r e =
     has-by b s z h (whole-wide t z (and-first (typed t z (I4 ∷ I8 ∷ [])) _ q)) (indexDimension t z ∷ 3 ∷ []) d 0
     (some-size (indexDimension t z) (subst (λ (l : List ℕ). among 0 l ≡ false) d n))
 
-pub section-ready : {b : List ℕ} {s : ℕ} → NodesTo b s → validated (treeOf b) s ≡ true → role (treeOf b) s ≡ Elements → check s (sidsRules (treeOf b) s) ≡ passed → SectionContext b s
+pub section-ready : {b : List ℕ} {s : ℕ} → NodesTo b s → validated (treeOf b) s ≡ true → role (treeOf b) s ≡ Elements
+    → check s (sidsRules (treeOf b) s) ≡ passed → SectionContext b s
 unfolding sidsRules
 section-ready {b} {s} g v e c =
     let t = treeOf b in

@@ -14,7 +14,8 @@ use Rattle.model.specs.Image.{Tree, nodeOf, nodesOf, treeOf, nodeCount, wordCou
 use Rattle.model.specs.Given.{Sound}
 use Rattle.model.specs.Containment.{found}
 use Rattle.model.specs.Values.{size, offsetsOf}
-use Rattle.model.specs.Elements.{nodesPer, hasOffsets, elementType, elementCount, connectivityLength, lengthsFit, startOffset, startsAtZero, rises, allRise, endsAtLength}
+use Rattle.model.specs.Elements.{nodesPer, hasOffsets, elementType, elementCount, connectivityLength, lengthsFit, startOffset, startsAtZero, rises, allRise}
+use Rattle.model.specs.Elements.{endsAtLength}
 use Rattle.model.specs.Corner.{numberAt}
 use Rattle.model.proofs.Bounds.{node-placed}
 use Rattle.types.proofs.StoredNumbers.{rank-is, flat-is}
@@ -62,7 +63,8 @@ unfolding elementCount
 count-small {b} {s} d e = let r = d .ranged in omega (arith, r .one, r .up, r .most)
 
 -- a section of a fixed type
-module _ (t : Tree) (s : ℕ) (h : hasOffsets (elementType t s) ≡ false) {n m k : ℕ} (e : n ≡ elementCount t s) (l : m ≡ connectivityLength t s) (p : k ≡ nodesPer (elementType t s)) where
+module _ (t : Tree) (s : ℕ) (h : hasOffsets (elementType t s) ≡ false) {n m k : ℕ} (e : n ≡ elementCount t s) (l : m ≡ connectivityLength t s)
+    (p : k ≡ nodesPer (elementType t s)) where
   pub fixed-kept : m ≡ n * k → passed ≡ check s (shapeRules t s)
   unfolding shapeRules check _⊃_ lengthsFit
   fixed-kept q = rw (h, ← e, ← l, ← p, eq-eqb m (n * k) q)
@@ -72,7 +74,8 @@ module _ (t : Tree) (s : ℕ) (h : hasOffsets (elementType t s) ≡ false) {n m 
   fixed-broken q = rw (h, ← e, ← l, ← p, ne-eqb m (n * k) q)
 
 -- a section with start offsets
-module _ (b : List ℕ) (s : ℕ) (h : hasOffsets (elementType (treeOf b) s) ≡ true) {n m j : ℕ} (e : n ≡ elementCount (treeOf b) s) (l : m ≡ connectivityLength (treeOf b) s) (o : j ≡ offsetsOf (treeOf b) s) where
+module _ (b : List ℕ) (s : ℕ) (h : hasOffsets (elementType (treeOf b) s) ≡ true) {n m j : ℕ} (e : n ≡ elementCount (treeOf b) s)
+    (l : m ≡ connectivityLength (treeOf b) s) (o : j ≡ offsetsOf (treeOf b) s) where
   pub offsets-short : {r : ℕ} → r ≡ size (treeOf b) j → (r ≡ n + 1 → ⊥) → rejected (rejection 29 s) ≡ check s (shapeRules (treeOf b) s)
   unfolding shapeRules check lengthsFit
   offsets-short {r} p q = rw (h, ← e, ← o, ← p, ne-eqb r (n + 1) q)

@@ -14,7 +14,8 @@ use Rattle.model.specs.Image.{Tree, treeOf, nodeCount, node, name, parent, widt
 use Rattle.model.specs.Given.{Sound}
 use Rattle.model.specs.Records.{product}
 use Rattle.model.specs.Containment.{role, found, Elements, IndexRange, DataArray}
-use Rattle.model.specs.Values.{typed, shaped, flat, size, typeLawful, valueLawful, arrayType, sectionArrayType, indexArray, rangeValue, conforming, rangeOf, offsetsOf, connectivityOf}
+use Rattle.model.specs.Values.{typed, shaped, flat, size, typeLawful, valueLawful, arrayType, sectionArrayType, indexArray, rangeValue, conforming, rangeOf}
+use Rattle.model.specs.Values.{offsetsOf, connectivityOf}
 use Rattle.model.specs.Elements.{firstElement, lastElement}
 use Rattle.model.specs.Corner.{numberAt}
 use Rattle.model.proofs.Logic.{and-first, and-second, or-left, or-right}
@@ -50,7 +51,8 @@ module _ {b : List ℕ} (s : Sound b) {j n : ℕ} (a : Stores b j n) where
   unfolding numberAt treeOf
   stores-number k h = number-at b j k (rw (a .bytes) (scaled (width (treeOf b) j) k n h))
 
-stores-by : {b : List ℕ} → Sound b → (j : ℕ) → j < nodeCount b → T (isWidth (width (treeOf b) j)) → (sizes : List ℕ) → dimensions (treeOf b) j ≡ sizes → Stores b j (product sizes)
+stores-by : {b : List ℕ} → Sound b → (j : ℕ) → j < nodeCount b → T (isWidth (width (treeOf b) j)) → (sizes : List ℕ) → dimensions (treeOf b) j ≡ sizes
+    → Stores b j (product sizes)
 stores-by {b} s j h w sizes e = record { inside = h; wide = w; bytes = bytes-are b s j h sizes e }
 
 stores-flat : {b : List ℕ} → Sound b → (j : ℕ) → j < nodeCount b → (typed (treeOf b) j (I4 ∷ I8 ∷ []) && flat (treeOf b) j) ≡ true → Indexed b j
@@ -59,7 +61,8 @@ stores-flat {b} s j h e =
     let t = treeOf b in
     let f = and-second (typed t j (I4 ∷ I8 ∷ [])) (flat t j) e in
     record {
-      numbers = subst (λ (n : ℕ). Stores b j n) (mul-one (size t j)) (stores-by s j h (whole-wide t j (and-first (typed t j (I4 ∷ I8 ∷ [])) _ e)) (size t j ∷ []) (flat-is t j f));
+      numbers = subst (λ (n : ℕ). Stores b j n) (mul-one (size t j))
+          (stores-by s j h (whole-wide t j (and-first (typed t j (I4 ∷ I8 ∷ [])) _ e)) (size t j ∷ []) (flat-is t j f));
       one-dimension = f;
     }
 
@@ -93,7 +96,8 @@ module _ {b : List ℕ} (s : Sound b) (i : ℕ) where
   index-stores r n f h =
       let t = treeOf b in
       let j = conforming t i DataArray n in
-      let e = type-array t j (conforming-role t i DataArray n h) (ap (role t) (conforming-parent t i DataArray n h) ∙ r) (f j (conforming-name t i DataArray n h)) in
+      let e = type-array t j (conforming-role t i DataArray n h) (ap (role t) (conforming-parent t i DataArray n h) ∙ r)
+      (f j (conforming-name t i DataArray n h)) in
       stores-flat s j (conforming-inside t i DataArray n h) (sym e ∙ conforming-type t i DataArray n h)
 
   pub connectivity-stores : role (treeOf b) i ≡ Elements → found (treeOf b) (connectivityOf (treeOf b) i) ≡ true → Indexed b (connectivityOf (treeOf b) i)
@@ -115,7 +119,8 @@ module _ {b : List ℕ} (s : Sound b) (i : ℕ) where
       let v = sym (value-range t j r) ∙ conforming-value t i IndexRange n h in
       let low = and-first (leb 1 (number t j 0) && leb (number t j 0) (number t j 1)) _ v in
       record {
-        range = stores-pair s j (conforming-inside t i IndexRange n h) (whole-wide t j (and-first (typed t j (I4 ∷ I8 ∷ [])) _ e)) (and-second (typed t j (I4 ∷ I8 ∷ [])) _ e);
+        range = stores-pair s j (conforming-inside t i IndexRange n h) (whole-wide t j (and-first (typed t j (I4 ∷ I8 ∷ [])) _ e))
+            (and-second (typed t j (I4 ∷ I8 ∷ [])) _ e);
         one = leb-true _ _ (and-first (leb 1 (number t j 0)) _ low);
         up = leb-true _ _ (and-second (leb 1 (number t j 0)) _ low);
         most = leb-true _ _ (and-second (leb 1 (number t j 0) && leb (number t j 0) (number t j 1)) _ v);

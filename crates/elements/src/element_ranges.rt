@@ -25,7 +25,8 @@ pub const ROOM: usize = 2048;
 // Does section i meet rules 24 and 25, and have the type NGON_n?
 fn is_ngon(image: &[u8], i: usize) -> bool
     requires { ⌜ (Sound (now image) × (i < nodeCount (now image))) × (role (treeOf (now image)) i ≡ Elements) ⌝ }
-    ensures { λ r. ⌜ r ≡ (typeLawful (treeOf (now (image .entry))) i && valueLawful (treeOf (now (image .entry))) i && eqb (elementType (treeOf (now (image .entry))) i) NGON) ⌝ }
+    ensures { λ r. ⌜ r ≡ (typeLawful (treeOf (now (image .entry))) i && valueLawful (treeOf (now (image .entry))) i
+        && eqb (elementType (treeOf (now (image .entry))) i) NGON) ⌝ }
 {
     if !types::typed(image, i, I4) {
         return false;
@@ -42,7 +43,8 @@ fn is_ngon(image: &[u8], i: usize) -> bool
 // Does section i count: where only sections of faces are wanted, is it one?
 fn is_wanted(image: &[u8], faces: bool, i: usize) -> bool
     requires { ⌜ (Sound (now image) × (i < nodeCount (now image))) × (role (treeOf (now image)) i ≡ Elements) ⌝ }
-    ensures { λ r. ⌜ r ≡ (faces ⊃ (typeLawful (treeOf (now (image .entry))) i && valueLawful (treeOf (now (image .entry))) i && eqb (elementType (treeOf (now (image .entry))) i) NGON)) ⌝ }
+    ensures { λ r. ⌜ r ≡ (faces ⊃ (typeLawful (treeOf (now (image .entry))) i && valueLawful (treeOf (now (image .entry))) i
+        && eqb (elementType (treeOf (now (image .entry))) i) NGON)) ⌝ }
 {
     if faces {
         return is_ngon(image, i);
@@ -96,7 +98,8 @@ fn gather_node(
     requires { ⌜ Index (now image) (now index) × (i < nodeCount (now image)) ⌝ }
     requires { ⌜ Gathered (isRanged (treeOf (now image)) faces) (firstKey (treeOf (now image))) (lastKey (treeOf (now image))) (now firsts) (now reach) n i ⌝ }
     requires { ⌜ (2048 ≤ length (now firsts)) × (2048 ≤ length (now reach)) ⌝ }
-    ensures { λ r. ⌜ Gathered (isRanged (treeOf (now (image .entry))) faces) (firstKey (treeOf (now (image .entry)))) (lastKey (treeOf (now (image .entry)))) (now (firsts .exit)) (now (reach .exit)) r (i + 1) ⌝ }
+    ensures { λ r. ⌜ Gathered (isRanged (treeOf (now (image .entry))) faces) (firstKey (treeOf (now (image .entry)))) (lastKey (treeOf (now (image .entry))))
+        (now (firsts .exit)) (now (reach .exit)) r (i + 1) ⌝ }
 {
     let range = range_if(image, index, faces, i);
     if labels::node_count(image) <= range {

@@ -36,7 +36,8 @@ fn is_within(image: &[u8], row: Row, limit: u64, k: usize) -> bool
 // Do numbers k and k + 1 of a row lie in 1 to limit?
 fn two_within(image: &[u8], row: Row, limit: u64, k: usize) -> bool
     requires { ⌜ Numbers (now image) (row .at) (row .width) (row .n) × (k + 1 < row .n) ⌝ }
-    ensures { λ r. ⌜ r ≡ (isWithin (now (image .entry)) (row .at) (row .width) limit k && isWithin (now (image .entry)) (row .at) (row .width) limit (k + 1)) ⌝ }
+    ensures { λ r. ⌜ r
+        ≡ (isWithin (now (image .entry)) (row .at) (row .width) limit k && isWithin (now (image .entry)) (row .at) (row .width) limit (k + 1)) ⌝ }
 {
     if !is_within(image, row, limit, k) {
         return false;

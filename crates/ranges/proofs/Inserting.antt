@@ -107,6 +107,10 @@ module _ {firsts reach firsts′ reach′ : List ℕ} {n first place : ℕ} (las
       record {
         inside = omega arith;
         placed = p;
-        ordered = record { firsts-rise = record { rise = firsts-rise; small = firsts-small }; reach-rises = record { room = omega arith; rises = λ i h. reach-rises i (omega arith) } };
+        ordered = record {
+          firsts-rise = record { rise = firsts-rise; small = firsts-small };
+          reach-rises =
+              record { room = omega arith; rises = λ i h. reach-rises i (omega arith) };
+        };
         meets = now-meets;
       }

@@ -36,7 +36,8 @@ pub tells : (firsts reach : List ℕ) (n z f : ℕ) {x : ℕ} {t : Bool} → x �
 tells firsts reach n z f e q = rw (← e) q
 
 -- entry j holds f of zone z: the interval of its numbers, cut to the zone's
-module _ (firsts reach : List ℕ) (z f j : ℕ) {x base low high : ℕ} (e : holds firsts reach x j ≡ true) (p : x ≡ key z f) (q : base ≡ key z 0) (h : f < 4294967296)
+module _ (firsts reach : List ℕ) (z f j : ℕ) {x base low high : ℕ} (e : holds firsts reach x j ≡ true) (p : x ≡ key z f) (q : base
+    ≡ key z 0) (h : f < 4294967296)
     (a : low ≡ min (getD firsts j 0 - base) 4294967295) (b : high ≡ min (getD reach j 0 - base) 4294967295) where
   pub low-high : (low ≤ f) × (f ≤ high)
   unfolding key

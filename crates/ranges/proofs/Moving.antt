@@ -72,7 +72,8 @@ module _ {least : ℕ} {old new : List ℕ} {place k : ℕ} (m : RaisedTo least 
       }
 
   -- entry k is not below, and so none after it
-  pub raised-all : {n : ℕ} → ((i : ℕ) → place ≤ i → suc i < n → getD old i 0 ≤ getD old (suc i) 0) → (k < n → least ≤ getD new k 0) → Raised least old new n place
+  pub raised-all : {n : ℕ} → ((i : ℕ) → place ≤ i → suc i < n → getD old i 0 ≤ getD old (suc i) 0) → (k < n → least ≤ getD new k 0)
+      → Raised least old new n place
   raised-all {n} r h =
       record {
         before = m .raised .before;

@@ -277,7 +277,8 @@ fn shift_for(firsts: &[u64], reach: &[u64], n: usize) -> u64
     s
 }
 
-// How the hints of n ranges are found, and each range's first hint: in order where few then share one, else mixed. Where few numbers are looked up it is not worth a trial.
+// How the hints of n ranges are found, with each range's first hint made: in order where few then share one, else mixed.
+// Where few numbers are looked up a trial is not worth its time.
 pub fn spread_for(firsts: &[u64], reach: &[u64], n: usize, hints: &mut [u16], uses: usize) -> Spread
     requires { ⌜ ((n ≤ length (now firsts)) × (n ≤ length (now reach))) × (4096 ≤ length (now hints)) ⌝ }
 {

@@ -15,6 +15,7 @@ abbrev μ-loop : tie.MeasureT-loop
 
 pub fill-hints-spec : {M : Type 1} → statement M
 fill-hints-spec = tie.close (tie.spec Inv-loop μ-loop (search needs) (λ c. (refl, search needs)) (search needs) (search needs) (search needs)
-    (λ c κs. let l = c .before .before .before .before in omega (arith, l .loop .inv .0, l .before .before .before .clear-hints .kept .0, c .hint-of .ensures)) (search needs) (search needs) (search needs)
+    (λ c κs. let l = c .before .before .before .before in omega (arith, l .loop .inv .0, l .before .before .before .clear-hints .kept .0, c .hint-of .ensures))
+    (search needs) (search needs) (search needs)
     (λ c. let l = c .before .before .before .before .before .before .before .loop in (c .before .before .set-hint .kept .0 ∙ l .inv .0, search needs))
     (λ c. c .before .loop .inv .0 ∙ c .before .before .before .before .clear-hints .kept .0) (search needs))

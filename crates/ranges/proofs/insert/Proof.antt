@@ -12,8 +12,11 @@ begun-requires c κs = let p = c .before .before .before .pre in (p .0 .firsts-r
 
 raise-requires : tie.Need-raise-requires
 raise-requires c κs =
-    let q = c .before .before .before .put2 in
-    (omega (arith, q .kept .0), placed-rises (q .ensures) (c .before .before .before .before .before .before .before .before .before .before .before .before .before .before .before .pre .0 .reach-rises))
+    let q = c .before .before .before .put2 in (
+      omega (arith, q .kept .0),
+      placed-rises (q .ensures)
+          (c .before .before .before .before .before .before .before .before .before .before .before .before .before .before .before .pre .0 .reach-rises),
+    )
 
 returns : tie.Need-returns
 returns c =
@@ -27,4 +30,6 @@ returns c =
     (omega (arith, p .put .kept .0)) (omega (arith, r .raise .kept .0, q .put2 .kept .0))
 
 pub insert-spec : {M : Type 1} → statement M
-insert-spec = tie.close (tie.spec begun-requires (search needs) (search needs) (search needs) (search needs) (search needs) raise-requires (λ c. c .before .before .before .before .before .before .before .before .before .before .before .before .put .kept .0) (λ c. c .before .before .raise .kept .0 ∙ c .before .before .before .before .before .before .put2 .kept .0) returns)
+insert-spec = tie.close (tie.spec begun-requires (search needs) (search needs) (search needs) (search needs) (search needs) raise-requires
+    (λ c. c .before .before .before .before .before .before .before .before .before .before .before .before .put .kept .0)
+    (λ c. c .before .before .raise .kept .0 ∙ c .before .before .before .before .before .before .put2 .kept .0) returns)

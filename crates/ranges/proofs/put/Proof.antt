@@ -25,4 +25,5 @@ returns c =
 
 pub put-spec : {M : Type 1} → statement M
 put-spec = tie.close (tie.spec Inv-loop μ-loop (λ c. (search needs, moved-start _ _)) (search needs) (search needs) (search needs) (search needs)
-    (search needs) (search needs) (search needs) loop-again (search needs) (search needs) (λ c. let l = c .before .loop in length-set (l .table) _ _ ∙ l .inv .1 .long) returns)
+    (search needs) (search needs) (search needs) loop-again (search needs) (search needs)
+    (λ c. let l = c .before .loop in length-set (l .table) _ _ ∙ l .inv .1 .long) returns)

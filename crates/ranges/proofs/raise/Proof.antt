@@ -22,5 +22,6 @@ returns-2 : tie.Need-returns-2 Inv-loop μ-loop
 returns-2 c = let l = c .before in raised-all (l .loop .inv .1) (l .loop .inv .0) (l .before .pre .1) (λ h. absurd (omega arith))
 
 pub raise-spec : {M : Type 1} → statement M
-raise-spec = tie.close (tie.spec Inv-loop μ-loop (λ c. (search needs, raised-start _ _ _)) (search needs) (λ c. omega (arith, c .before .before .loop .inv .1 .long)) (λ c. c .before .before .before .loop .inv .1 .long) returns (search needs)
+raise-spec = tie.close (tie.spec Inv-loop μ-loop (λ c. (search needs, raised-start _ _ _)) (search needs)
+    (λ c. omega (arith, c .before .before .loop .inv .1 .long)) (λ c. c .before .before .before .loop .inv .1 .long) returns (search needs)
     (search needs) (search needs) (search needs) loop-again (λ c. c .before .loop .inv .1 .long) returns-2)

@@ -11,4 +11,5 @@ abbrev μ-loop : tie.MeasureT-loop
 μ-loop reach n top₀ k₀ top k = n - k
 
 pub top-of-spec : {M : Type 1} → statement M
-top-of-spec = tie.close (tie.spec Inv-loop μ-loop (search needs) (search needs) (search needs) (search needs) (search needs) (search needs) (search needs) (search needs))
+top-of-spec = tie.close (tie.spec Inv-loop μ-loop (search needs) (search needs) (search needs) (search needs) (search needs) (search needs) (search needs)
+    (search needs))

@@ -14,7 +14,8 @@ use Rattle.elements.proofs.element_ranges.gather_faces.Statement.{state
 use Rattle.elements.proofs.element_ranges.gather_faces.Tie as tie
 
 abbrev Inv-loop : tie.InvT-loop
-Inv-loop image index firsts₀ reach₀ nodes n₀ i₀ firsts reach n i = ((length firsts ≡ length firsts₀) × (length reach ≡ length reach₀)) × ((i ≤ nodes) × Gathered (isRanged (treeOf image) true) (firstKey (treeOf image)) (lastKey (treeOf image)) firsts reach n i)
+Inv-loop image index firsts₀ reach₀ nodes n₀ i₀ firsts reach n i = ((length firsts ≡ length firsts₀) × (length reach ≡ length reach₀))
+    × ((i ≤ nodes) × Gathered (isRanged (treeOf image) true) (firstKey (treeOf image)) (lastKey (treeOf image)) firsts reach n i)
 
 abbrev μ-loop : tie.MeasureT-loop
 μ-loop image index firsts₀ reach₀ nodes n₀ i₀ firsts reach n i = nodes - i
@@ -38,7 +39,9 @@ loop-again c =
 returns : tie.Need-returns Inv-loop μ-loop
 returns c =
     let l = c .before in
-    faces-by (c .before .before .before .before .before .before .before .pre .0 .sound) (l .loop .inv .1 .1) (omega (arith, l .before .node-count .ensures .0, l .loop .inv))
+    faces-by (c .before .before .before .before .before .before .before .pre .0 .sound) (l .loop .inv .1 .1)
+    (omega (arith, l .before .node-count .ensures .0, l .loop .inv))
 
 pub gather-faces-spec : {M : Type 1} → statement M
-gather-faces-spec = tie.close (tie.spec Inv-loop μ-loop (search needs) loop-holds gather-node-requires (search needs) (search needs) loop-again (λ c. c .before .loop .inv .0 .0) (λ c. c .before .loop .inv .0 .1) returns)
+gather-faces-spec = tie.close (tie.spec Inv-loop μ-loop (search needs) loop-holds gather-node-requires (search needs) (search needs) loop-again
+    (λ c. c .before .loop .inv .0 .0) (λ c. c .before .loop .inv .0 .1) returns)

@@ -13,10 +13,12 @@ use Rattle.elements.proofs.element_ranges.gather_node.Tie as tie
 returns : tie.Need-returns
 returns c =
     let r = c .before .before .range-if .ensures in
-    gathered-skip (c .before .before .before .before .before .before .before .pre .1 .0) (no-range r (omega (arith, c .if1 .taken, c .before .node-count .ensures .0)))
+    gathered-skip (c .before .before .before .before .before .before .before .pre .1 .0)
+    (no-range r (omega (arith, c .if1 .taken, c .before .node-count .ensures .0)))
 
 module _ (c : tie.Else1) where
-  is-ranged : isRanged (treeOf (c .before .before .before .before .before .before .before .args .image .now)) (c .before .before .before .before .before .before .before .args .faces) (c .before .before .before .before .before .before .before .args .i) ≡ true
+  is-ranged : isRanged (treeOf (c .before .before .before .before .before .before .before .args .image .now))
+      (c .before .before .before .before .before .before .before .args .faces) (c .before .before .before .before .before .before .before .args .i) ≡ true
   is-ranged = has-range (c .before .before .range-if .ensures) (omega (arith, c .if1 .left, c .before .node-count .ensures .0))
 
 keys-of-requires : tie.Need-keys-of-requires
@@ -38,7 +40,11 @@ returns-2 : tie.Need-returns-2
 returns-2 c =
     let d = c .before .before .before .before .before .before .before .before in
     let k = c .before .before .before .before .before .before .before .keys-of .ensures in
-    gathered-more (d .before .before .before .before .before .before .before .pre .1 .0) (is-ranged d) (k .0 .0) (k .0 .1) (c .before .before .before .before .insert .ensures)
+    gathered-more (d .before .before .before .before .before .before .before .pre .1 .0) (is-ranged d) (k .0 .0) (k .0 .1)
+    (c .before .before .before .before .insert .ensures)
 
 pub gather-node-spec : {M : Type 1} → statement M
-gather-node-spec = tie.close (tie.spec (λ c κs. search needs) (search needs) returns keys-of-requires insert-requires (λ c. let d = c .before .before .before .before .before .before .before .before in let p = d .before .before .before .before .before .before .before .pre in omega (arith, room _ (p .0 .0 .sound) (p .1 .0) (p .0 .1) (is-ranged d))) (λ c. c .before .before .before .before .insert .kept .0) (λ c. c .before .before .before .before .insert .kept .1 .0) returns-2)
+gather-node-spec = tie.close (tie.spec (λ c κs. search needs) (search needs) returns keys-of-requires insert-requires
+    (λ c. let d = c .before .before .before .before .before .before .before .before in
+    let p = d .before .before .before .before .before .before .before .pre in omega (arith, room _ (p .0 .0 .sound) (p .1 .0) (p .0 .1) (is-ranged d)))
+    (λ c. c .before .before .before .before .insert .kept .0) (λ c. c .before .before .before .before .insert .kept .1 .0) returns-2)

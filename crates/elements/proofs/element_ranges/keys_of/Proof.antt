@@ -32,7 +32,10 @@ returns c =
     let z = c .before .before .before .before .parent-of .ensures .0 in
     let f = c .before .before .key .ensures in
     let l = c .key2 .ensures in (
-      (first-key _ _ z (first-by _ _ _ _ (p .1 .0) (c .before .before .before .whole .ensures)) (f .0), last-key _ _ z (last-by _ _ _ _ (p .1 .0) (c .before .whole2 .ensures)) (l .0)),
+      (
+        first-key _ _ z (first-by _ _ _ _ (p .1 .0) (c .before .before .before .whole .ensures)) (f .0),
+        last-key _ _ z (last-by _ _ _ _ (p .1 .0) (c .before .whole2 .ensures)) (l .0),
+      ),
       (f .1, l .1),
     )
 

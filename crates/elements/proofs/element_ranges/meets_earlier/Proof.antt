@@ -15,7 +15,8 @@ returns c =
     no-overlap _ _ (no-range r (omega (arith, c .if1 .taken, c .before .node-count .ensures .0)))
 
 module _ (c : tie.Else1) where
-  is-ranged : isRanged (treeOf (c .before .before .before .before .before .before .before .args .image .now)) false (c .before .before .before .before .before .before .before .args .i) ≡ true
+  is-ranged : isRanged (treeOf (c .before .before .before .before .before .before .before .args .image .now)) false
+      (c .before .before .before .before .before .before .before .args .i) ≡ true
   is-ranged = has-range (c .before .before .range-if .ensures) (omega (arith, c .if1 .left, c .before .node-count .ensures .0))
 
 keys-of-requires : tie.Need-keys-of-requires
@@ -34,4 +35,6 @@ returns-2 c =
     overlap-by (p .0 .0 .sound) _ (is-ranged d) (p .1) (k .0 .0) (k .0 .1) (c .meets .ensures)
 
 pub meets-earlier-spec : {M : Type 1} → statement M
-meets-earlier-spec = tie.close (tie.spec (λ c κs. search needs) (search needs) returns keys-of-requires (λ c κs. (c .before .before .before .before .before .before .before .before .pre .1 .ordered, omega (arith, c .keys-of .ensures .1))) returns-2)
+meets-earlier-spec = tie.close
+    (tie.spec (λ c κs. search needs) (search needs) returns keys-of-requires
+    (λ c κs. (c .before .before .before .before .before .before .before .before .pre .1 .ordered, omega (arith, c .keys-of .ensures .1))) returns-2)

@@ -12,7 +12,8 @@ use Rattle.elements.proofs.element_ranges.range_if.Statement.{statement
 use Rattle.elements.proofs.element_ranges.range_if.Tie as tie
 
 module _ (c : tie.After-kind-of) where
-  kind-is : c .kind-of .result ≡ Elements → validatedAs (treeOf (c .before .before .before .args .image .now)) Elements (c .before .before .before .args .i) ≡ true
+  kind-is : c .kind-of .result ≡ Elements → validatedAs (treeOf (c .before .before .before .args .image .now)) Elements (c .before .before .before .args .i)
+      ≡ true
   kind-is e = let p = c .before .before .before .pre in sym (kind-as _ (p .0 .sound) _ 7 (p .1) (omega arith)) ∙ eq-eqb _ 7 (sym (c .kind-of .ensures .0) ∙ e)
 
   role-is : c .kind-of .result ≡ Elements → role (treeOf (c .before .before .before .args .image .now)) (c .before .before .before .args .i) ≡ Elements
@@ -33,7 +34,11 @@ returns-2 c =
 returns-3 : tie.Need-returns-3
 returns-3 c =
     let d = c .before .before .before .before in
-    range-by _ _ _ (kind-is d (c .before .before .before .if1 .left)) (sym (c .before .before .is-wanted .ensures) ∙ not-false _ (c .before .if2 .left)) (c .range-of .ensures .0)
+    range-by _ _ _ (kind-is d (c .before .before .before .if1 .left)) (sym (c .before .before .is-wanted .ensures) ∙ not-false _ (c .before .if2 .left))
+    (c .range-of .ensures .0)
 
 pub range-if-spec : {M : Type 1} → statement M
-range-if-spec = tie.close (tie.spec (λ c κs. search needs) (search needs) returns (λ c κs. let p = c .before .before .before .before .pre in ((p .0 .sound, p .1), role-is (c .before) (c .if1 .left))) (search needs) returns-2 (λ c κs. let p = c .before .before .before .before .before .before .pre in (p, sym (c .before .before .before .kind-of .ensures .0) ∙ c .before .before .if1 .left)) returns-3)
+range-if-spec = tie.close (tie.spec (λ c κs. search needs) (search needs) returns
+    (λ c κs. let p = c .before .before .before .before .pre in ((p .0 .sound, p .1), role-is (c .before) (c .if1 .left))) (search needs) returns-2
+    (λ c κs. let p = c .before .before .before .before .before .before .pre in
+    (p, sym (c .before .before .before .kind-of .ensures .0) ∙ c .before .before .if1 .left)) returns-3)

@@ -20,14 +20,18 @@ loop-holds c = rising-start (c .before .before .pre .1)
 
 returns : tie.Need-returns Inv-loop μ-loop
 returns c =
-    rising-off (c .before .before .before .before .loop .inv) (c .before .before .number-at .ensures) (omega arith) (sym (c .before .rises .ensures) ∙ not-true _ (c .if1 .taken))
+    rising-off (c .before .before .before .before .loop .inv) (c .before .before .number-at .ensures) (omega arith)
+    (sym (c .before .rises .ensures) ∙ not-true _ (c .if1 .taken))
 
 loop-again : tie.Need-loop-again Inv-loop μ-loop
 loop-again c =
-    rising-on (c .before .before .before .before .loop .inv) (c .before .before .number-at .ensures) (omega arith) (sym (c .before .rises .ensures) ∙ not-false _ (c .if1 .left))
+    rising-on (c .before .before .before .before .loop .inv) (c .before .before .number-at .ensures) (omega arith)
+    (sym (c .before .rises .ensures) ∙ not-false _ (c .if1 .left))
 
 returns-2 : tie.Need-returns-2 Inv-loop μ-loop
 returns-2 c = every-done (c .before .loop .inv .left) (omega arith)
 
 pub all-rise-spec : {M : Type 1} → statement M
-all-rise-spec = tie.close (tie.spec Inv-loop μ-loop (search needs) loop-holds (search needs) (λ c κs. search needs) (λ c κs. (c .before .before .before .before .before .pre .0 .0 .wide, c .before .before .loop .inv .low)) returns (search needs) (search needs) loop-again returns-2)
+all-rise-spec = tie.close (tie.spec Inv-loop μ-loop (search needs) loop-holds (search needs) (λ c κs. search needs)
+    (λ c κs. (c .before .before .before .before .before .pre .0 .0 .wide, c .before .before .loop .inv .low)) returns (search needs) (search needs) loop-again
+    returns-2)

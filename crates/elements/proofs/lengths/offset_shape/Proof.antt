@@ -39,8 +39,10 @@ returns-2 c =
     let p = z .before .before .before .before .pre in
     let a = r .row-of .ensures in
     c .offsets-stage .ensures
-    ∙ offsets-fit _ _ (p .1 .1) (p .1 .0 .0) (p .1 .0 .1) (z .before .offsets-of .ensures .0) (p .0 .0 .sound) a (a .long ∙ sym (z .size-of .ensures) ∙ r .before .if1 .left)
+    ∙ offsets-fit _ _ (p .1 .1) (p .1 .0 .0) (p .1 .0 .1) (z .before .offsets-of .ensures .0) (p .0 .0 .sound) a
+    (a .long ∙ sym (z .size-of .ensures) ∙ r .before .if1 .left)
 
 pub offset-shape-spec : {M : Type 1} → statement M
 offset-shape-spec = tie.close (tie.spec (λ c κs. let p = c .before .before .pre in ((p .0 .0, p .0 .1 .inside), p .0 .1 .kind-is)) size-of-requires
-    (λ c. let p = c .before .before .before .before .pre in omega (arith, count-small (p .0 .1) (p .1 .0 .0))) (search needs) returns row-of-requires offsets-stage-requires returns-2)
+    (λ c. let p = c .before .before .before .before .pre in omega (arith, count-small (p .0 .1) (p .1 .0 .0))) (search needs) returns row-of-requires
+    offsets-stage-requires returns-2)

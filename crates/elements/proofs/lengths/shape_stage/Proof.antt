@@ -24,7 +24,8 @@ returns-2 c =
     let k = c .before in
     let h = k .before in
     let p = h .before .before .before .before .pre in
-    fixed-kept _ _ (ap hasOffsets (sym (p .1 .1)) ∙ (sym (h .before .has-offsets .ensures) ∙ h .if1 .left)) (p .1 .0 .0) (p .1 .0 .1) (k .nodes-per .ensures .0 ∙ ap nodesPer (p .1 .1)) (c .if2 .taken)
+    fixed-kept _ _ (ap hasOffsets (sym (p .1 .1)) ∙ (sym (h .before .has-offsets .ensures) ∙ h .if1 .left)) (p .1 .0 .0) (p .1 .0 .1)
+    (k .nodes-per .ensures .0 ∙ ap nodesPer (p .1 .1)) (c .if2 .taken)
 
 returns-3 : tie.Need-returns-3
 returns-3 c =
@@ -33,7 +34,9 @@ returns-3 c =
     let h = k .before in
     let p = h .before .before .before .before .pre in
     ap rejected (c .at .ensures)
-    ∙ fixed-broken _ _ (ap hasOffsets (sym (p .1 .1)) ∙ (sym (h .before .has-offsets .ensures) ∙ h .if1 .left)) (p .1 .0 .0) (p .1 .0 .1) (k .nodes-per .ensures .0 ∙ ap nodesPer (p .1 .1)) (i .if2 .left)
+    ∙ fixed-broken _ _ (ap hasOffsets (sym (p .1 .1)) ∙ (sym (h .before .has-offsets .ensures) ∙ h .if1 .left)) (p .1 .0 .0) (p .1 .0 .1)
+    (k .nodes-per .ensures .0 ∙ ap nodesPer (p .1 .1)) (i .if2 .left)
 
 pub shape-stage-spec : {M : Type 1} → statement M
-shape-stage-spec = tie.close (tie.spec (search needs) offset-shape-requires (λ c. c .offset-shape .ensures) (search needs) mul-if2 returns-2 (search needs) returns-3)
+shape-stage-spec = tie.close (tie.spec (search needs) offset-shape-requires (λ c. c .offset-shape .ensures) (search needs) mul-if2 returns-2 (search needs)
+    returns-3)

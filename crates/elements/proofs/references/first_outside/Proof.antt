@@ -22,4 +22,6 @@ loop-again c =
     skipped-more (l .inv) (omega arith) (rw (← m .magnitude-at .ensures) (sym (c .before .is-known .ensures) ∙ not-false _ (c .if1 .left)))
 
 pub first-outside-spec : {M : Type 1} → statement M
-first-outside-spec = tie.close (tie.spec Inv-loop μ-loop (λ c. skipped-none _ _ _ _ _ (c .before .pre .0 .1)) (λ c κs. search needs) (search needs) (λ c. c .before .before .before .before .loop .inv) (search needs) (search needs) loop-again (λ c. c .before .loop .inv))
+first-outside-spec = tie.close
+    (tie.spec Inv-loop μ-loop (λ c. skipped-none _ _ _ _ _ (c .before .pre .0 .1)) (λ c κs. search needs) (search needs)
+    (λ c. c .before .before .before .before .loop .inv) (search needs) (search needs) loop-again (λ c. c .before .loop .inv))

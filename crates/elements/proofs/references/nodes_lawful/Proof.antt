@@ -13,7 +13,10 @@ returns c =
     let v = c .before in
     let d = v .before .before .before in
     c .all-within .ensures
-    ∙ all-nodes (d .pre .0 .0) _ (d .pre .1) _ (v .whole .ensures ∙ ap (λ (z : ℕ). number (treeOf (d .args .image .now)) z 0) (v .before .parent-of .ensures .0))
+    ∙ all-nodes (d .pre .0 .0) _ (d .pre .1) _ (v .whole .ensures
+    ∙ ap (λ (z : ℕ). number (treeOf (d .args .image .now)) z 0) (v .before .parent-of .ensures .0))
 
 pub nodes-lawful-spec : {M : Type 1} → statement M
-nodes-lawful-spec = tie.close (tie.spec (λ c κs. search needs) (λ c κs. let p = c .before .before .pre in (p .0 .0, rw (c .parent-of .ensures .0) (p .0 .1 .zone))) (λ c κs. let p = c .before .before .before .pre in row-numbers (p .0 .0) (p .1)) returns)
+nodes-lawful-spec = tie.close (tie.spec (λ c κs. search needs)
+    (λ c κs. let p = c .before .before .pre in (p .0 .0, rw (c .parent-of .ensures .0) (p .0 .1 .zone)))
+    (λ c κs. let p = c .before .before .before .pre in row-numbers (p .0 .0) (p .1)) returns)

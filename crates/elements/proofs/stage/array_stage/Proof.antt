@@ -7,7 +7,8 @@ use Rattle.elements.proofs.stage.array_stage.Statement.{statement}
 use Rattle.elements.proofs.stage.array_stage.Tie as tie
 
 row-of-requires : tie.Need-row-of-requires
-row-of-requires c κs = let p = c .before .before .before .before .before .before .pre .0 in (p .0 .sound, rw (c .connectivity-of .ensures .0) (p .1 .connectivity))
+row-of-requires c κs = let p = c .before .before .before .before .before .before .pre .0 in
+    (p .0 .sound, rw (c .connectivity-of .ensures .0) (p .1 .connectivity))
 
 shape-stage-requires : tie.Need-shape-stage-requires
 shape-stage-requires c κs =
@@ -24,8 +25,10 @@ reference-stage-requires c κs =
     ((p .0 .0 .sound, p .0 .1), ((row-is (r .before .connectivity-of .ensures .0) (r .row-of .ensures), p .1 .0 .0), p .1 .1))
 
 returns-2 : tie.Need-returns-2
-returns-2 c = go (c .before .before .before .before .before .before .shape-stage .ensures) (c .before .before .before .before .enum-told .given .1) (c .before .before .reference-stage .ensures)
+returns-2 c = go (c .before .before .before .before .before .before .shape-stage .ensures) (c .before .before .before .before .enum-told .given .1)
+    (c .before .before .reference-stage .ensures)
 
 pub array-stage-spec : {M : Type 1} → statement M
-array-stage-spec = tie.close (tie.spec (λ c κs. let p = c .before .before .before .before .before .pre .0 in ((p .0, p .1 .inside), p .1 .kind-is)) row-of-requires
+array-stage-spec = tie.close (tie.spec (λ c κs. let p = c .before .before .before .before .before .pre .0 in ((p .0, p .1 .inside), p .1 .kind-is))
+    row-of-requires
     shape-stage-requires (search needs) (search needs) returns reference-stage-requires (search needs) returns-2)
