@@ -28,13 +28,15 @@ struct Subject {
     /// Whether it is one zone, whose cells are walked, and whether they are made of faces.
     walked: bool,
     faces: bool,
+    /// The rule that it breaks; 0 where it is lawful.
+    rule: u64,
 }
 
 /// The meshes, each near the largest that there may be.
 fn meshes() -> Vec<Subject> {
     let subject = |name, kind, n, width| {
         let image = mesh(kind, n, width).expect("a lawful mesh");
-        Subject { name, image, walked: kind != "zones", faces: kind == "poly" }
+        Subject { name, image, walked: kind != "zones", faces: kind == "poly", rule: 0 }
     };
     vec![
         subject("polyhedra I4, 52 x 52 x 52", "poly", 52, 4),
@@ -46,7 +48,7 @@ fn meshes() -> Vec<Subject> {
 
 /// The odd images.
 fn odd_images() -> Vec<Subject> {
-    let subject = |Odd { name, image, usage, .. }| Subject { name, image, walked: false, faces: usage };
+    let subject = |Odd { name, image, usage, rule, .. }| Subject { name, image, walked: false, faces: usage, rule };
     odd::images().into_iter().map(subject).collect()
 }
 
@@ -65,8 +67,8 @@ fn main() {
 /// Writes the odd images into a folder.
 fn write_images(folder: &Path) {
     fs::create_dir_all(folder).expect("a folder");
-    for Odd { name, file, image, .. } in odd::images() {
-        assert_accepted(name, &image);
+    for Odd { name, file, image, rule, .. } in odd::images() {
+        assert_verdict(name, &image, rule);
         fs::write(folder.join(file).with_extension("img"), image).expect("a file in the folder");
     }
 }
@@ -86,18 +88,23 @@ fn megabytes(image: &[u8]) -> f64 {
     image.len() as f64 / 1e6
 }
 
-/// Library and reference accept the image, with the same counts.
-fn assert_accepted(name: &str, image: &[u8]) {
-    let Counts { validated, skipped, zones, sections } = reference::validate(image).expect(name);
+/// Library and reference accept the image with the same counts, or reject it by this rule at the same node.
+fn assert_verdict(name: &str, image: &[u8], rule: u64) {
     let verdict = validate(image);
-    assert_eq!((verdict.rule, verdict.counts), (0, [validated, skipped, zones, sections]), "{name}");
+    assert_eq!(verdict.rule, rule, "{name}");
+    match reference::validate(image) {
+        Ok(Counts { validated, skipped, zones, sections }) => {
+            assert_eq!((rule, verdict.counts), (0, [validated, skipped, zones, sections]), "{name}")
+        }
+        Err(rejection) => assert_eq!((rule, verdict.node), (rejection.rule.into(), rejection.node), "{name}"),
+    }
 }
 
 fn validation_table(subjects: &[&Subject], repetitions: usize) {
     println!("| validation | MB | library | reference | sum of words | library / reference | library / sum |");
     println!("|---|---|---|---|---|---|---|");
-    for Subject { name, image, .. } in subjects {
-        assert_accepted(name, image);
+    for Subject { name, image, rule, .. } in subjects {
+        assert_verdict(name, image, *rule);
         let [library, reference, words] = medians(
             repetitions,
             [&mut || validate(image).rule, &mut || u64::from(reference::validate(image).is_ok()), &mut || {

@@ -1,5 +1,5 @@
-//! Lawful images unlike meshes, each near a limit of the format: many sections, ranges that do not touch, children far from
-//! their parents, many siblings. The times of meshes tell nothing of them.
+//! Images unlike meshes, each near a limit of the format: many sections, ranges that do not touch, children far from
+//! their parents, many siblings. The times of meshes tell nothing of them. All are lawful but those that say which rule they break.
 
 use reference::build::{Image, Node};
 use reference::random::Random;
@@ -20,10 +20,12 @@ pub struct Odd {
     pub image: Vec<u8>,
     /// Whether it is one zone that uses no face twice with one sign.
     pub usage: bool,
+    /// The rule that it breaks; 0 where it is lawful.
+    pub rule: u64,
 }
 
 fn odd(name: &'static str, file: &'static str, image: Image) -> Odd {
-    Odd { name, file, image: image.to_bytes(), usage: false }
+    Odd { name, file, image: image.to_bytes(), usage: false, rule: 0 }
 }
 
 /// All odd images: many references to faces in many sections, then many nodes with few data.
@@ -38,6 +40,8 @@ fn of_faces() -> Vec<Odd> {
     let touching = rising(1_000, 1);
     let tenth: Vec<i64> = apart.iter().copied().step_by(10).collect();
     let few = &apart[..100];
+    let mut close = rising(1_000, 3);
+    close.push(1_000 * APART);
     let random = &mut Random::new(0, 0);
     vec![
         odd(
@@ -59,6 +63,16 @@ fn of_faces() -> Vec<Odd> {
             "100 face sections apart, references at random among all",
             "few_apart_random",
             one_cell(few, &at_random(random, REFERENCES, few)),
+        ),
+        odd(
+            "1,000 face sections close together beside one far away, references at random among all",
+            "close_far",
+            one_cell(&close, &at_random(random, REFERENCES, &close)),
+        ),
+        odd(
+            "1,000 face sections of 30 close together beside a great one, references at random among the 1,000",
+            "close_great",
+            beside_great(random),
         ),
         odd(
             "1,000 face sections that touch, references jump between the last two",
@@ -89,7 +103,7 @@ fn of_faces() -> Vec<Odd> {
 
 fn of_nodes() -> Vec<Odd> {
     let up = rising(1_020, APART);
-    let down = falling(1_020);
+    let down = falling(1_020, APART);
     vec![
         odd(
             "1,020 face sections, all children at the end of the table",
@@ -99,6 +113,10 @@ fn of_nodes() -> Vec<Odd> {
         odd("4,070 arrays of a flow solution", "flow_arrays", flow_arrays(4_070)),
         odd("1,020 sections of a triangle, rising ranges", "triangles_rising", triangles(TRI_3, &up)),
         odd("1,020 sections of a triangle, falling ranges", "triangles_falling", triangles(TRI_3, &down)),
+        Odd {
+            rule: 23,
+            ..odd("2,040 sections with a range alone, falling: rule 23", "ranges_falling", ranges_alone(&falling(2_040, APART / 2)))
+        },
         odd("4,088 arrays of a section, named ElementX..", "named_7", named(|k| format!("ElementX{k:04}"))),
         odd(
             "4,088 arrays of a section, names that share 28 bytes with ElementConnectivity",
@@ -133,6 +151,22 @@ fn both_sides(random: &mut Random, firsts: &[i64]) -> Image {
     image
 }
 
+/// Sections of 30 faces close together, behind them one of as many faces as there is room for, and a cell with references to the first faces.
+fn beside_great(random: &mut Random) -> Image {
+    const FACES: usize = 30;
+    const GREAT: usize = 300_000;
+    let (mut image, zone) = with_zone();
+    let firsts = rising(1_000, FACES as i64 + 2);
+    for &first in &firsts {
+        Section { element_type: NGON_N, first, size: 1, references: &[1; FACES] }.add(&mut image, zone);
+    }
+    let great = firsts[firsts.len() - 1] + 2 * FACES as i64;
+    Section { element_type: NGON_N, first: great, size: 1, references: &vec![1; GREAT] }.add(&mut image, zone);
+    let faces: Vec<i64> = firsts.iter().flat_map(|&first| first..first + FACES as i64).collect();
+    Section::of_one(NFACE_N, great + GREAT as i64, &at_random(random, REFERENCES, &faces)).add(&mut image, zone);
+    image
+}
+
 /// So many face sections, and behind them as many cell sections.
 fn many_cells(random: &mut Random, count: i64) -> Image {
     let (mut image, zone) = with_zone();
@@ -150,7 +184,7 @@ fn many_cells(random: &mut Random, count: i64) -> Image {
 fn two_zones(random: &mut Random) -> Image {
     let (mut image, base) = with_base();
     let zones = [add_zone(&mut image, base), add_zone(&mut image, base)];
-    let numbers = falling(511);
+    let numbers = falling(511, APART);
     let (cells, faces) = numbers.split_at(255);
     for (k, &face) in faces.iter().enumerate() {
         for zone in zones {
@@ -168,6 +202,16 @@ fn two_zones(random: &mut Random) -> Image {
 fn triangles(element_type: i64, numbers: &[i64]) -> Image {
     let (mut image, zone) = with_zone();
     add_triangles(&mut image, zone, element_type, numbers);
+    image
+}
+
+/// A section for each number, with its range alone: the first breaks rule 23.
+fn ranges_alone(numbers: &[i64]) -> Image {
+    let (mut image, zone) = with_zone();
+    for &number in numbers {
+        let section = Section::triangle(TRI_3, number).add_bare(&mut image, zone);
+        image.add(section, Node::integers("ElementRange", "IndexRange_t", 4, &[2], &[number, number]));
+    }
     image
 }
 

@@ -22,9 +22,9 @@ pub fn rising(count: i64, step: i64) -> Vec<i64> {
     (0..count).map(|k| 1 + k * step).collect()
 }
 
-/// Numbers apart, the greatest first.
-pub fn falling(count: i64) -> Vec<i64> {
-    rising(count, APART).into_iter().rev().collect()
+/// The same numbers, the greatest first.
+pub fn falling(count: i64, step: i64) -> Vec<i64> {
+    rising(count, step).into_iter().rev().collect()
 }
 
 /// References to two faces in turn, each with either sign.

@@ -113,8 +113,8 @@ fn all_refer(
     requires { ⌜ 4096 ≤ length (now hints) ⌝ }
     ensures { λ r. ⌜ r ≡ everyFrom (refersFace (treeOf (now (image .entry))) z (now (image .entry)) (row .at) (row .width)) (row .n) 0 ⌝ }
 {
-    let shift = ranges::shift_for(firsts, reach, count);
     let n = row.n;
+    let spread = ranges::spread_for(firsts, reach, count, hints, n);
     let mut last = Interval { low: 0, size: 0 };
     let mut k: usize = 0;
     while k < n {
@@ -122,7 +122,7 @@ fn all_refer(
         if types::MAX_NUMBER < f {
             return false;
         }
-        let next = ranges::interval_around(firsts, reach, count, hints, shift, z, f);
+        let next = ranges::interval_around(firsts, reach, count, hints, spread, z, f);
         if next.size == 0 {
             return false;
         }

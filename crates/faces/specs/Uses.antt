@@ -25,7 +25,6 @@ use Rattle.face_places.specs.Ranges.{Ranges}
 pub record Tables (b : List ℕ) (f : Faces) (firsts reach places : List ℕ) (hints out : ℕ) : Type 0 where
   pub accepted : Accepted b
   pub ranges : Ranges (treeOf b) (f .zone) (nodeCount b) firsts reach places (f .count)
-  pub shifted : f .shift ≤ 52
   pub hinted : 4096 ≤ hints
   pub room : faceCount (treeOf b) (f .zone) ≤ out
 

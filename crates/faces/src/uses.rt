@@ -17,15 +17,16 @@ use super::cells::references_of;
 use ledger::use_face;
 use model::Rejection;
 use model::Stage;
+use ranges::Spread;
 use rows::Row;
 use rows::is_negative;
 use rows::magnitude_at;
 
-// The faces of a zone in the tables: how many entries there are, and by how many bits a face's number is shifted to its hint.
+// The faces of a zone in the tables: how many entries there are, and how a face's hint is found.
 pub struct Faces {
     pub zone: usize,
     pub count: usize,
-    pub shift: u64,
+    pub spread: Spread,
 }
 
 // The place of face f, which entry j holds.
@@ -58,7 +59,7 @@ fn use_entry(
 {
     let count = faces.count;
     let f = magnitude_at(image, row, k);
-    let j = ranges::find_near(firsts, reach, count, hints, faces.shift, last, f);
+    let j = ranges::find_near(firsts, reach, count, hints, faces.spread, last, f);
     let p = place_of(firsts, places, j, f);
     if !use_face(out, p, is_negative(image, row, k)) {
         return count;

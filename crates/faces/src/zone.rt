@@ -69,11 +69,11 @@ pub fn zone_usage(
     if (out.len() as u64) < places[count] {
         return FaceUsage::Rejected(Rejection::at(44, 0));
     }
-    let shift = ranges::shift_for(firsts, reach, count);
+    let spread = ranges::spread_for(firsts, reach, count, hints, image.len());
     let faces = Faces {
         zone: z,
         count,
-        shift,
+        spread,
     };
     fill(image, index, faces, firsts, reach, &places, hints, out)
 }

@@ -19,6 +19,18 @@ pub fn key(zone: usize, number: u64) -> u64
     4294967296 * zone as u64 + number
 }
 
+// The greater of two numbers.
+fn greater(x: u64, y: u64) -> u64
+    ensures { λ r. ⌜ r ≡ max x y ⌝ }
+{
+    if x < y { y } else { x }
+}
+
+// The lesser of two numbers.
+fn lesser(x: u64, y: u64) -> u64 {
+    if x < y { x } else { y }
+}
+
 // The greater of a number and the entry before k; the number where there is no entry before.
 fn raised(table: &[u64], k: usize, least: u64) -> u64
     requires { ⌜ k ≤ length (now table) ⌝ }
@@ -27,8 +39,7 @@ fn raised(table: &[u64], k: usize, least: u64) -> u64
     if k == 0 {
         return least;
     }
-    let before = table[k - 1];
-    if before < least { least } else { before }
+    greater(table[k - 1], least)
 }
 
 // Raises the entries from a place to n that are below `least` to it. They rise, so that the first that is not below ends it.
@@ -148,28 +159,76 @@ pub fn find(firsts: &[u64], reach: &[u64], n: usize, hint: usize, f: u64) -> usi
 // How many hints a table of hints has.
 pub const HINTS: usize = 4096;
 
-// How many numbers n ranges have, where they do not overlap.
-fn numbers_of(firsts: &[u64], reach: &[u64], n: usize) -> u64
-    requires { ⌜ (n ≤ length (now firsts)) × (n ≤ length (now reach)) ⌝ }
-{
-    let mut sum = n as u64;
-    let mut k: usize = 0;
-    while k < n {
-        sum = wrapping_add_u64(sum, wrapping_sub_u64(reach[k], firsts[k]));
-        k += 1;
-    }
-    sum
+// How the hint of a number is found: by the upper bits of the number times a factor. No answer depends on it.
+pub struct Spread {
+    pub shift: u64,
+    pub factor: u64,
 }
 
-// By how many bits numbers are shifted, so that those of n ranges share as many hints as there are. No answer depends on it.
-pub fn shift_for(firsts: &[u64], reach: &[u64], n: usize) -> u64
-    requires { ⌜ (n ≤ length (now firsts)) × (n ≤ length (now reach)) ⌝ }
-    ensures { λ r. ⌜ r ≤ 52 ⌝ }
+// Numbers in their order; numbers mixed, by the golden ratio and by another factor.
+const IN_ORDER: u64 = 524288;
+
+const GOLDEN: u64 = 1327217885;
+
+const OTHER: u64 = 1540483477;
+
+// The product of a number of 32 bits and one of 31.
+fn product(x: u64, y: u64) -> u64
+    requires { ⌜ (x < 4294967296) × (y < 2147483648) ⌝ }
+    ensures { λ r. ⌜ r < 9223372036854775808 ⌝ }
 {
-    let numbers = numbers_of(firsts, reach, n);
+    x * y
+}
+
+// Which hint is that of a key.
+fn hint_of(f: u64, spread: Spread) -> usize
+    ensures { λ r. ⌜ r < 4096 ⌝ }
+{
+    let number = (f >> (spread.shift % 64)) % 4294967296;
+    let zone = (f >> 32) % 4096;
+    ((product(number, spread.factor % 2147483648) + zone * 2246822519) >> 19) as usize % 4096
+}
+
+// Makes every hint one of no entry.
+fn clear_hints(hints: &mut [u16])
+    requires { ⌜ 4096 ≤ length (now hints) ⌝ }
+{
+    let mut k: usize = 0;
+    while k < 4096 {
+        hints[k] = 65535;
+        k += 1;
+    }
+}
+
+// Makes entry j hint k. It answers 1 where the hint was taken, else 0.
+fn set_hint(hints: &mut [u16], k: usize, j: usize) -> usize
+    requires { ⌜ k < length (now hints) ⌝ }
+    ensures { λ r. ⌜ r ≤ 1 ⌝ }
+{
+    let before = hints[k];
+    hints[k] = (j % 65536) as u16;
+    if before < 65535 { 1 } else { 0 }
+}
+
+// Makes each of n entries the hint of its first number. It answers how many found that taken.
+fn fill_hints(firsts: &[u64], n: usize, hints: &mut [u16], spread: Spread) -> usize
+    requires { ⌜ (n ≤ length (now firsts)) × (4096 ≤ length (now hints)) ⌝ }
+{
+    clear_hints(hints);
+    let mut taken: usize = 0;
+    let mut j: usize = 0;
+    while j < n {
+        taken += set_hint(hints, hint_of(firsts[j], spread), j);
+        j += 1;
+    }
+    taken
+}
+
+// By how many bits a number is shifted to be less than 4,096.
+fn shift_below(number: u64) -> u64 {
     let mut s: u64 = 0;
     while s < 52 {
-        if numbers >> s < 4096 {
+        if number >> s < 4096 {
             return s;
         }
         s += 1;
@@ -177,14 +236,78 @@ pub fn shift_for(firsts: &[u64], reach: &[u64], n: usize) -> u64
     s
 }
 
-// Which hint is that of a key: a product spreads the upper bits of its number, and its zone, over all hints.
-fn hint_of(f: u64, shift: u64) -> usize
-    requires { ⌜ shift ≤ 52 ⌝ }
-    ensures { λ r. ⌜ r < 4096 ⌝ }
+// The greatest number of n ranges.
+fn top_of(reach: &[u64], n: usize) -> u64
+    requires { ⌜ n ≤ length (now reach) ⌝ }
 {
-    let number = (f >> shift) % 4294967296;
-    let zone = (f >> 32) % 4096;
-    ((number * 2654435769 + zone * 2246822519) >> 20) as usize % 4096
+    let mut top: u64 = 0;
+    let mut k: usize = 0;
+    while k < n {
+        top = greater(top, reach[k] % 4294967296);
+        k += 1;
+    }
+    top
+}
+
+// How many hints the numbers of n ranges want, shifted by so many bits. A few great ranges count for little, for the last ones are known.
+fn hints_wanted(firsts: &[u64], reach: &[u64], n: usize, shift: u64) -> u64
+    requires { ⌜ (n ≤ length (now firsts)) × (n ≤ length (now reach)) ⌝ }
+{
+    let mut sum = n as u64;
+    let mut k: usize = 0;
+    while k < n {
+        let size = wrapping_sub_u64(reach[k], firsts[k]) >> (shift % 64);
+        sum = wrapping_add_u64(sum, lesser(size, 768));
+        k += 1;
+    }
+    sum
+}
+
+// By how many bits the numbers of n ranges are shifted, so that there are hints for all.
+fn shift_for(firsts: &[u64], reach: &[u64], n: usize) -> u64
+    requires { ⌜ (n ≤ length (now firsts)) × (n ≤ length (now reach)) ⌝ }
+{
+    let mut s: u64 = 0;
+    while s < 31 {
+        if hints_wanted(firsts, reach, n, s) < 3072 {
+            return s;
+        }
+        s += 2;
+    }
+    s
+}
+
+// How the hints of n ranges are found, and each range's first hint: in order where few then share one, else mixed. Where few numbers are looked up it is not worth a trial.
+pub fn spread_for(firsts: &[u64], reach: &[u64], n: usize, hints: &mut [u16], uses: usize) -> Spread
+    requires { ⌜ ((n ≤ length (now firsts)) × (n ≤ length (now reach))) × (4096 ≤ length (now hints)) ⌝ }
+{
+    if uses / 8 < n {
+        return Spread {
+            shift: 0,
+            factor: GOLDEN,
+        };
+    }
+    let in_order = Spread {
+        shift: shift_below(top_of(reach, n)),
+        factor: IN_ORDER,
+    };
+    if fill_hints(firsts, n, hints, in_order) <= n / 16 {
+        return in_order;
+    }
+    let shift = shift_for(firsts, reach, n);
+    let other = Spread {
+        shift,
+        factor: OTHER,
+    };
+    let taken = fill_hints(firsts, n, hints, other);
+    let golden = Spread {
+        shift,
+        factor: GOLDEN,
+    };
+    if fill_hints(firsts, n, hints, golden) <= taken {
+        return golden;
+    }
+    other
 }
 
 // The same as `find`, where numbers jump: the entry is asked that held the last number near this one.
@@ -194,15 +317,15 @@ pub fn find_by_hint(
     reach: &[u64],
     n: usize,
     hints: &mut [u16],
-    shift: u64,
+    spread: Spread,
     f: u64,
 ) -> usize
     requires { ⌜ Ordered (now firsts) (now reach) n × (n ≤ 65536) × (f < 9223372036854775808) ⌝ }
-    requires { ⌜ (4096 ≤ length (now hints)) × (shift ≤ 52) ⌝ }
+    requires { ⌜ 4096 ≤ length (now hints) ⌝ }
     ensures { λ r. ⌜ ltb r n ≡ inRanges (now (firsts .entry)) (now (reach .entry)) n f ⌝ }
     ensures { λ r. ⌜ (r < n → holds (now (firsts .entry)) (now (reach .entry)) f r ≡ true) ⌝ }
 {
-    let k = hint_of(f, shift);
+    let k = hint_of(f, spread);
     let j = find(firsts, reach, n, hints[k] as usize, f);
     if j < n {
         hints[k] = j as u16;
@@ -216,12 +339,12 @@ pub fn find_near(
     reach: &[u64],
     n: usize,
     hints: &mut [u16],
-    shift: u64,
+    spread: Spread,
     last: usize,
     f: u64,
 ) -> usize
     requires { ⌜ Ordered (now firsts) (now reach) n × (n ≤ 65536) × (f < 9223372036854775808) ⌝ }
-    requires { ⌜ (4096 ≤ length (now hints)) × (shift ≤ 52) ⌝ }
+    requires { ⌜ 4096 ≤ length (now hints) ⌝ }
     ensures { λ r. ⌜ ltb r n ≡ inRanges (now (firsts .entry)) (now (reach .entry)) n f ⌝ }
     ensures { λ r. ⌜ (r < n → holds (now (firsts .entry)) (now (reach .entry)) f r ≡ true) ⌝ }
 {
@@ -230,7 +353,7 @@ pub fn find_near(
             return last;
         }
     }
-    find_by_hint(firsts, reach, n, hints, shift, f)
+    find_by_hint(firsts, reach, n, hints, spread, f)
 }
 
 // `size` numbers from `low` on.
@@ -266,17 +389,17 @@ pub fn interval_around(
     reach: &[u64],
     n: usize,
     hints: &mut [u16],
-    shift: u64,
+    spread: Spread,
     zone: usize,
     f: u64,
 ) -> Interval
     requires { ⌜ Ordered (now firsts) (now reach) n × (n ≤ 65536) ⌝ }
     requires { ⌜ (zone < 4096) × (f < 4294967296) ⌝ }
-    requires { ⌜ (4096 ≤ length (now hints)) × (shift ≤ 52) ⌝ }
+    requires { ⌜ 4096 ≤ length (now hints) ⌝ }
     ensures { λ r. ⌜ Covered (now (firsts .entry)) (now (reach .entry)) n zone r ⌝ }
     ensures { λ r. ⌜ ltb 0 (r .size) ≡ inRanges (now (firsts .entry)) (now (reach .entry)) n (key zone f) ⌝ }
 {
-    let j = find_by_hint(firsts, reach, n, hints, shift, key(zone, f));
+    let j = find_by_hint(firsts, reach, n, hints, spread, key(zone, f));
     if n <= j {
         return Interval { low: 0, size: 0 };
     }

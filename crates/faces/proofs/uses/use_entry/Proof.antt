@@ -15,7 +15,7 @@ find-near-requires c κs =
     let t = p .1 in
     let s = face-small (t .accepted .sound) _ _ (p .0) in
     let few = few-ranges (t .accepted) (t .ranges) in
-    ((t .ranges .gathered .ordered, omega arith, omega (arith, c .before .magnitude-at .ensures)), (t .hinted, t .shifted))
+    ((t .ranges .gathered .ordered, omega arith, omega (arith, c .before .magnitude-at .ensures)), t .hinted)
 
 -- the entry that was found
 found : (j : tie.After-find-near) → let a = j .before .before .before .before .before .before .before .before .before .args in
