@@ -14,7 +14,8 @@ find-near-requires c κs =
     let p = c .before .before .before .before .before .before .before .before .pre .1 in
     let t = p .1 in
     let s = face-small (t .accepted .sound) _ _ (p .0) in
-    ((t .ranges .gathered .ordered, omega (arith, few-ranges (t .accepted) (t .ranges)), omega (arith, c .before .magnitude-at .ensures)), t .hinted)
+    let few = few-ranges (t .accepted) (t .ranges) in
+    ((t .ranges .gathered .ordered, omega arith, omega (arith, c .before .magnitude-at .ensures)), t .hinted)
 
 -- the entry that was found
 found : (j : tie.After-find-near) → let a = j .before .before .before .before .before .before .before .before .before .args in

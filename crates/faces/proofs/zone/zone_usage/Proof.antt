@@ -23,25 +23,28 @@ returns c =
     (ap rejected (c .at .ensures) ∙ w .0, w .1)
 
 spread-for-requires : tie.Need-spread-for-requires
-spread-for-requires c κs = ?spread
+spread-for-requires c κs =
+    let m = c .before .before .before .before .before .before .before .before .before in
+    let o = m .gather .ensures .gathered .ordered in ((o .firsts-rise .rise .room, o .reach-rises .room), m .before .before .before .before .before .before .before .before .before .before .pre .1 .2)
 
 fill-requires : tie.Need-fill-requires
 fill-requires c κs =
-    let m = c .before .before .before .before .before .before .before .before .before .before .before .before .before .before in
+    let i = c .before .before .before .before .before .before .before .before .before .before .before in
+    let m = i .before .before .before .before .before .before in
     let p = m .before .before .before .before .before .before .before .before .before .before .pre in
     let g = m .gather .ensures in (
       p .0 .0 .1,
       record {
         accepted = p .0 .0 .0;
         ranges = g;
-        hinted = ?hinted;
-        room = omega (arith, all-faces (p .0 .0 .0) g, c .before .before .before .before .before .before .before .before .if1 .left);
+        hinted = omega (arith, c .before .before .before .before .before .before .before .spread-for .kept .1 .1 .1 .0, p .1 .2);
+        room = omega (arith, all-faces (p .0 .0 .0) g, i .if1 .left);
       },
     )
 
 returns-2 : tie.Need-returns-2
 returns-2 c =
-    let i = c .before .before .before .before .before .before .before .before .before .before .before .before .before in
+    let i = c .before .before .before .before .before .before .before .before .before .before .before .before .before .before .before .before in
     let m = i .before .before .before .before .before .before in
     let d = m .before .before .before .before .before .before .before .before .before .before in
     let p = d .pre .0 in
