@@ -25,7 +25,8 @@ returns c =
 spread-for-requires : tie.Need-spread-for-requires
 spread-for-requires c κs =
     let m = c .before .before .before .before .before .before .before .before .before in
-    let o = m .gather .ensures .gathered .ordered in ((o .firsts-rise .rise .room, o .reach-rises .room), m .before .before .before .before .before .before .before .before .before .before .pre .1 .2)
+    let o = m .gather .ensures .gathered .ordered in
+    ((o .firsts-rise .rise .room, o .reach-rises .room), m .before .before .before .before .before .before .before .before .before .before .pre .1 .2)
 
 fill-requires : tie.Need-fill-requires
 fill-requires c κs =
