@@ -1,7 +1,7 @@
 -- The keys: a node is for one slot at most.
 use Prim.Native.Nat.{ℕ, _+_, _≤_, _<_}
 use mathlib.Core.Path.{_≡_, refl, sym, _∙_}
-use mathlib.Core.Bool.{Bool, true, false, not, _&&_, _||_}
+use mathlib.Core.Bool.{Bool, true, false, not, _&&_, _||_, and-false}
 use mathlib.Core.List.{List, [], _∷_}
 use native.Mathlib.Omega.{arith}
 use native.Mathlib.Decide.{ℕ-discrete}
@@ -71,19 +71,17 @@ module _ (t : Tree) (above j : ℕ) {below : ℕ} (h : above < 15) (b : below �
         | yes p ↦
             let n : keyRole above i ≡ keyRole above k = sym q ∙ p in
             let o : keyRole above i ≡ 15 → ⊥ = λ y. absurd (omega arith) in
-            rw (one-text (name t j) (keyName above i) (keyName above k) (rw (ne-eqb i k z, eq-eqb _ _ n, ne-eqb (keyRole above i) 15 o) at (all-differ above i k h l m)) s) (shut (eqb (role t j) (keyRole above k)))
+            rw (one-text (name t j) (keyName above i) (keyName above k) (rw (ne-eqb i k z, eq-eqb _ _ n, ne-eqb (keyRole above i) 15 o) at
+            (all-differ above i k h l m)) s) (and-false (eqb (role t j) (keyRole above k)))
         | no n ↦ rw (ne-eqb (role t j) (keyRole above k) n)
       ]
-    where
-      shut : (c : Bool) → (c && false) ≡ false
-      shut true = refl
-      shut false = refl
 
   -- the search for the slot has come to slot k
   pub not-before : {k : ℕ} → k ≡ firstSlot above below → (i : ℕ) → i < 4 → i < k → isKey t above i j ≡ false
   unfolding isKey firstSlot hasRole
   not-before {k} e i l m =
-      rw (ne-eqb (role t j) (keyRole above i) (λ q. let f = seek-before (hasRole above below) 4 0 i (eq-eqb _ _ (sym q ∙ sym b)) (omega arith) (omega arith) in absurd (omega arith)))
+      rw (ne-eqb (role t j) (keyRole above i) (λ q. let f = seek-before (hasRole above below) 4 0 i (eq-eqb _ _ (sym q ∙ sym b)) (omega arith)
+      (omega arith) in absurd (omega arith)))
 
   pub slot-found : (k : ℕ) → k < 4 → isKey t above k j ≡ true → SlotOf t above j k
   slot-found k l e =
@@ -98,7 +96,8 @@ module _ (t : Tree) (above j : ℕ) {below : ℕ} (h : above < 15) (b : below �
   no-slot {k} f l = record { is = λ i m. f i m (omega arith) ∙ sym (ne-eqb i k (λ q. absurd (omega arith))) }
 
   -- one slot more
-  pub not-up-to : {k : ℕ} → ((i : ℕ) → i < 4 → i < k → isKey t above i j ≡ false) → isKey t above k j ≡ false → (i : ℕ) → i < 4 → i < k + 1 → isKey t above i j ≡ false
+  pub not-up-to : {k : ℕ} → ((i : ℕ) → i < 4 → i < k → isKey t above i j ≡ false) → isKey t above k j ≡ false → (i : ℕ) → i < 4 → i < k + 1
+      → isKey t above i j ≡ false
   not-up-to {k} f e i l m =
       elim (ℕ-discrete i k) [
         | yes q ↦ rw q e

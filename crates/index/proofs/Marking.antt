@@ -2,7 +2,7 @@
 use Prim.Native.Nat.{ℕ, zero, suc, _+_, _*_, _/_, _%_, _≤_, _<_}
 use mathlib.Core.Path.{_≡_, refl, sym, _∙_}
 use mathlib.Core.Logic.{_⊎_, inl, inr}
-use mathlib.Core.Bool.{Bool, true, false, cond, not, _&&_, _||_}
+use mathlib.Core.Bool.{Bool, true, false, cond, not, _&&_, _||_, and-true, and-false}
 use mathlib.Core.List.{List}
 use native.Mathlib.Omega.{arith}
 use native.Mathlib.Decide.{ℕ-discrete}
@@ -62,17 +62,9 @@ module _ (b : List ℕ) (s : Sound b) where
   unfolding kind validatedAs
   kind-as j r h k = by-test (validated (treeOf b) j)
     where
-      and-true : (x : Bool) → x ≡ (x && true)
-      and-true true = refl
-      and-true false = refl
-
-      and-none : (x : Bool) → false ≡ (x && false)
-      and-none true = refl
-      and-none false = refl
-
       by-test : (c : Bool) → eqb (cond c (role (treeOf b) j) 0) r ≡ (eqb (role (treeOf b) j) r && c)
-      by-test true = and-true (eqb (role (treeOf b) j) r)
-      by-test false = ne-eqb 0 r (λ z. absurd (omega arith)) ∙ and-none (eqb (role (treeOf b) j) r)
+      by-test true = sym (and-true (eqb (role (treeOf b) j) r))
+      by-test false = ne-eqb 0 r (λ z. absurd (omega arith)) ∙ sym (and-false (eqb (role (treeOf b) j) r))
 
   pub lower : (j : ℕ) → j < nodeCount b → 0 < j → parent (treeOf b) j < j
   lower j h z = parent-lower (treeOf b) j (lawful-at b s j h) (λ q. absurd (omega arith))
@@ -87,20 +79,18 @@ module _ (b : List ℕ) (s : Sound b) where
       rw (validated-step b s j h (λ q. absurd (omega arith)))
       (by-parent (validated t p) (role t p) (role t j) (λ v. known p (omega arith) v))
     where
-      shut : (c : Bool) → (c && false) ≡ false
-      shut true = refl
-      shut false = refl
-
       by-role : (r : ℕ) (c : Bool) → cond (false || c) 0 r ≡ cond (ltb 0 r && not c && true) r 0
-      by-role r true = rw (shut (ltb 0 r))
+      by-role r true = rw (and-false (ltb 0 r))
       by-role zero false = refl
       by-role (suc r) false = rw (lt-ltb 0 (suc r) (omega arith))
 
-      by-parent : (v : Bool) (a r : ℕ) → (v ≡ true → 0 < a) → cond (eqb (cond v a 0) 0 || eqb (cond v a 0) UserDefinedData) 0 r ≡ cond (ltb 0 r && not (eqb a UserDefinedData) && v) r 0
+      by-parent : (v : Bool) (a r : ℕ) → (v ≡ true → 0 < a)
+          → cond (eqb (cond v a 0) 0 || eqb (cond v a 0) UserDefinedData) 0 r ≡ cond (ltb 0 r && not (eqb a UserDefinedData) && v) r 0
       by-parent true a r k = let y = k refl in rw (ne-eqb a 0 (λ q. absurd (omega arith))) (by-role r (eqb a UserDefinedData))
-      by-parent false a r k = rw (shut (ltb 0 r && not (eqb a UserDefinedData)))
+      by-parent false a r k = rw (and-false (ltb 0 r && not (eqb a UserDefinedData)))
 
-  pub kind-by : (j : ℕ) {up above r k : ℕ} → j < nodeCount b → 0 < j → up ≡ parent (treeOf b) j → above ≡ kind (treeOf b) up → r ≡ role (treeOf b) j → k ≡ kindBelow above r
+  pub kind-by : (j : ℕ) {up above r k : ℕ} → j < nodeCount b → 0 < j → up ≡ parent (treeOf b) j → above ≡ kind (treeOf b) up → r ≡ role (treeOf b) j
+      → k ≡ kindBelow above r
       → k ≡ kind (treeOf b) j
   kind-by j h z e f g i = i ∙ rw (f, e, g) (kind-step j h z)
 
@@ -179,7 +169,8 @@ unfolding slotChild
 slot-child t p k e = rw e
 
 -- four writes
-pub row-begun : (s : List ℕ) (j v : ℕ) → 4 * j + 4 ≤ length s → RowBegun s j v (set (set (set (set s (4 * j) (4096 * v)) (4 * j + 1) 0) (4 * j + 2) 0) (4 * j + 3) 0)
+pub row-begun : (s : List ℕ) (j v : ℕ) → 4 * j + 4 ≤ length s
+    → RowBegun s j v (set (set (set (set s (4 * j) (4096 * v)) (4 * j + 1) 0) (4 * j + 2) 0) (4 * j + 3) 0)
 row-begun s j v h =
     let a = 4 * j in
     let s1 = set s a (4096 * v) in
@@ -189,7 +180,8 @@ row-begun s j v h =
     let l2 = length-set s1 (a + 1) 0 in
     let l3 = length-set s2 (a + 2) 0 in
     let past : (i : ℕ) → (i ≡ a → ⊥) → (i ≡ a + 1 → ⊥) → (i ≡ a + 2 → ⊥) → (i ≡ a + 3 → ⊥) → getD (set s3 (a + 3) 0) i 0 ≡ getD s i 0 =
-    λ i n0 n1 n2 n3. getD-set-other s3 (a + 3) i 0 0 n3 ∙ getD-set-other s2 (a + 2) i 0 0 n2 ∙ getD-set-other s1 (a + 1) i 0 0 n1 ∙ getD-set-other s a i (4096 * v) 0 n0 in
+    λ i n0 n1 n2 n3. getD-set-other s3 (a + 3) i 0 0 n3 ∙ getD-set-other s2 (a + 2) i 0 0 n2 ∙ getD-set-other s1 (a + 1) i 0 0 n1 ∙ getD-set-other s a i
+    (4096 * v) 0 n0 in
     let z : 4 * j + 0 ≡ a = omega arith in
     record {
       long = length-set s3 (a + 3) 0 ∙ l3 ∙ l2 ∙ l1;
@@ -199,10 +191,13 @@ row-begun s j v h =
         | yes q ↦ rw q (getD-set-same s3 (a + 3) 0 0 (omega arith))
         | no n ↦ getD-set-other s3 (a + 3) (4 * j + k) 0 0 (λ w. n (omega arith)) ∙ elim (ℕ-discrete k 2) [
           | yes q ↦ rw q (getD-set-same s2 (a + 2) 0 0 (omega arith))
-          | no o ↦ let q : k ≡ 1 = omega (arith, n, o) in getD-set-other s2 (a + 2) (4 * j + k) 0 0 (λ w. o (omega arith)) ∙ rw q (getD-set-same s1 (a + 1) 0 0 (omega arith))
+          | no o ↦ let q : k ≡ 1 = omega (arith, n, o) in getD-set-other s2 (a + 2) (4 * j + k) 0 0 (λ w. o (omega arith)) ∙ rw q
+              (getD-set-same s1 (a + 1) 0 0 (omega arith))
         ]
       ];
-      others = λ i w. past i (λ q. apart i w 0 (omega arith) (omega arith)) (λ q. apart i w 1 (omega arith) q) (λ q. apart i w 2 (omega arith) q) (λ q. apart i w 3 (omega arith) q);
+      others =
+          λ i w. past i (λ q. apart i w 0 (omega arith) (omega arith)) (λ q. apart i w 1 (omega arith) q) (λ q. apart i w 2 (omega arith) q)
+          (λ q. apart i w 3 (omega arith) q);
     }
   where
     apart : (i : ℕ) → (i < 4 * j) ⊎ (4 * j + 4 ≤ i) → (k : ℕ) → k < 4 → i ≡ 4 * j + k → ⊥
@@ -216,10 +211,12 @@ no-rows b index h = record { long = h; kinds = λ j l. absurd (omega arith); few
 -- no node before j is a child of node j
 no-children : {b : List ℕ} (j k v : ℕ) → Sound b → j < nodeCount b → v ≡ 0 → First (isSlotChild (treeOf b) j k) j v
 unfolding isSlotChild isChild
-no-children {b} j k v s h q = record { inside = λ y. absurd (omega arith); at = λ y. absurd (omega arith); before = λ i l m. rw (no-child b s j h i (omega arith)) }
+no-children {b} j k v s h q =
+    record { inside = λ y. absurd (omega arith); at = λ y. absurd (omega arith); before = λ i l m. rw (no-child b s j h i (omega arith)) }
 
 -- row j begun, after those before it: no node up to j is its child
-pub begin-row : {b index index′ : List ℕ} {j v : ℕ} → Sound b → Rows b index j j → RowBegun index j v index′ → j < nodeCount b → v ≡ kind (treeOf b) j → v < 15 → Rows b index′ (j + 1) j
+pub begin-row : {b index index′ : List ℕ} {j v : ℕ} → Sound b → Rows b index j j → RowBegun index j v index′ → j < nodeCount b → v ≡ kind (treeOf b) j → v < 15
+    → Rows b index′ (j + 1) j
 begin-row {b} {index} {index′} {j} {v} s t r h e f =
     let z : 4096 * v / 4096 ≡ v = omega arith in
     let same : (i k : ℕ) → i < j → k < 4 → getD index′ (4 * i + k) 0 ≡ getD index (4 * i + k) 0 = λ i k l m. r .others (4 * i + k) (inl (omega arith)) in
@@ -246,7 +243,14 @@ begin-row {b} {index} {index′} {j} {v} s t r h e f =
 -- the root is nobody's child
 pub root-row : {b index : List ℕ} → Sound b → 1 ≤ nodeCount b → Rows b index 1 0 → Rows b index 1 1
 unfolding isSlotChild isChild
-root-row {b} s h t = record { long = t .long; kinds = t .kinds; few = t .few; slots = λ p k l m. first-skip (t .slots p k l m) (rw (no-child b s p (omega arith) 0 (omega arith))) }
+root-row {b} s h t =
+    record {
+      long = t .long;
+      kinds = t .kinds;
+      few = t .few;
+      slots = λ p k l m. first-skip (t .slots p k l m)
+          (rw (no-child b s p (omega arith) 0 (omega arith)));
+    }
 
 -- node j, whose row is begun, and its parent up, of the kind above: it is for slot r
 module _ {b index : List ℕ} {j up above r : ℕ} (s : Sound b) (t : Rows b index (j + 1) j) (z : 0 < j) (h : j < nodeCount b) (e : up ≡ parent (treeOf b) j)

@@ -10,7 +10,9 @@ use lib.ListN.{getD}
 use borrow.Author.Tests.{eq-eqb, leb-true, lt-ltb}
 use Rattle.model.specs.Lists.{everyFrom, among, row}
 use Rattle.model.specs.Bytes.{same, spells, blank, text, placeFrom}
-use Rattle.model.specs.Containment.{mayHold, containment, Named, _holds_called_, fixedName, fixedNames}
+use Rattle.model.specs.Containment.{role, mayHold, containment, Named, _holds_called_, fixedName, fixedNames}
+use Rattle.model.specs.Image.{treeOf, parent, name}
+use Rattle.model.specs.Values.{named}
 use Rattle.model.proofs.Logic.{same-is, untrue}
 use Rattle.labels.specs.Padded.{knownNames}
 use Rattle.labels.specs.Cells.{cellOf}
@@ -50,7 +52,8 @@ someNames [] = true
 someNames ((a holds b called []) ∷ rest) = false
 someNames ((a holds b called (y ∷ n)) ∷ rest) = someNames rest
 
-pub fixed-or : (above below : ℕ) (d : List ℕ) (rows : List Named) → someNames rows ≡ true → fixedName above below d rows ≡ orElse d (fixedName above below [] rows)
+pub fixed-or : (above below : ℕ) (d : List ℕ) (rows : List Named) → someNames rows ≡ true
+    → fixedName above below d rows ≡ orElse d (fixedName above below [] rows)
 unfolding fixedName
 fixed-or above below d [] t = refl
 fixed-or above below d ((a holds b called []) ∷ rest) t = untrue t
@@ -71,7 +74,8 @@ unfolding fixedName
 fixed-none above below d [] t = refl
 fixed-none above below d ((a holds b called n) ∷ rest) t = by-test (eqb above a) (eqb below b) t (λ u. fixed-none above below d rest u)
   where
-    by-test : (p q : Bool) → (not q && unheld below rest) ≡ true → (unheld below rest ≡ true → fixedName above below d rest ≡ d) → cond (p && q) n (fixedName above below d rest) ≡ d
+    by-test : (p q : Bool) → (not q && unheld below rest) ≡ true → (unheld below rest ≡ true → fixedName above below d rest ≡ d)
+        → cond (p && q) n (fixedName above below d rest) ≡ d
     by-test true true u f = untrue u
     by-test true false u f = f u
     by-test false true u f = untrue u
@@ -108,3 +112,16 @@ module _ (above below : ℕ) {k : ℕ} (e : k ≡ cellOf above below) (h : above
       let z : k - 1 ≡ suc (k - 1 - 1) = omega arith in
       let f : fixedName above below d fixedNames ≡ orElse d (getD ([] ∷ knownNames) (suc (k - 1 - 1)) []) = rw z at by-cell in
       ap (spells d) (sym (f ∙ some-text (k - 1 - 1) d (name-place m)))
+
+-- rule 21
+module _ (b : List ℕ) (i : ℕ) where
+  pub named-root : i ≡ 0 → true ≡ named (treeOf b) i
+  unfolding named role fixedNames
+  named-root z =
+      let t = treeOf b in rw z (spells-self (name t 0) ∙ ap (spells (name t 0)) (sym (fixed-none (role t (parent t 0)) 14 (name t 0) fixedNames refl)))
+
+  -- q is the role of the parent, and r that of node i
+  pub named-is : {q r : ℕ} → q ≡ role (treeOf b) (parent (treeOf b) i) → r ≡ role (treeOf b) i
+      → spells (name (treeOf b) i) (fixedName q r (name (treeOf b) i) fixedNames) ≡ named (treeOf b) i
+  unfolding named
+  named-is f g = rw (f, g)

@@ -1,21 +1,21 @@
 -- The known texts word by word, and the role that a label's words tell.
 use Prim.Native.Nat.{ℕ, zero, suc, _+_, _*_, _≤_, _<_}
 use mathlib.Core.Path.{_≡_, refl, ap, sym, _∙_}
-use mathlib.Core.Bool.{Bool, true, false, not, _||_}
+use mathlib.Core.Bool.{Bool, true, false, not, _&&_, _||_}
 use mathlib.Core.List.{List, [], _++_}
 use native.Mathlib.Omega.{arith}
 use native.Mathlib.Nat.{add-zero}
 use native.Mathlib.Decide.{ℕ-discrete}
 use lib.Dec.{eqb, leb}
 use lib.ListN.{length, getD, take, drop}
-use borrow.Author.Tests.{eq-eqb, ne-eqb, eqb-true, leb-true}
+use borrow.Author.Tests.{eq-eqb, ne-eqb, eqb-true, eqb-false, leb-true}
 use Rattle.model.specs.Bytes.{le, same, spells, text, placeFrom}
 use Rattle.model.specs.Image.{treeOf, nodeCount, recordAt}
 use Rattle.model.specs.Containment.{role, knownLabels}
 use Rattle.model.specs.Lists.{everyFrom}
 use Rattle.model.proofs.Logic.{same-is}
 use Rattle.model.proofs.Reading.{label-at}
-use Rattle.labels.specs.Padded.{pad, fieldWord, knownNames, knownTexts, Begins}
+use Rattle.labels.specs.Padded.{pad, fieldWord, knownNames, knownTexts, restIs, Begins}
 use Rattle.words.proofs.Same.{Bytes, Same, same-start}
 use Rattle.labels.proofs.Arms.{each}
 use Rattle.labels.proofs.Tables.{allBytes, spelling-more, spelling-stop, spelling-last, placing-past, placing-stop, placing-done}
@@ -45,7 +45,8 @@ pub role-root : (b : List ℕ) (i : ℕ) → i ≡ 0 → 14 ≡ role (treeOf b) 
 unfolding role
 role-root b i e = rw e
 
-pub role-by-label : (b : List ℕ) (i : ℕ) {p : ℕ} → p ≡ recordAt i → i < nodeCount b → (i ≡ 0 → ⊥) → placeFrom 1 (take 32 (drop (p + 32) b)) knownLabels ≡ role (treeOf b) i
+pub role-by-label : (b : List ℕ) (i : ℕ) {p : ℕ} → p ≡ recordAt i → i < nodeCount b → (i ≡ 0 → ⊥)
+    → placeFrom 1 (take 32 (drop (p + 32) b)) knownLabels ≡ role (treeOf b) i
 unfolding role
 role-by-label b i {p} e h z = rw (e, ne-eqb i 0 z, label-at b i h)
 
@@ -57,7 +58,7 @@ abbrev blanks : ℕ
 blanks = 0x2020202020202020
 
 -- all fourth words are blanks
-fourth-blank : (k : ℕ) → k < 20 → blanks ≡ textWord 3 k
+pub fourth-blank : (k : ℕ) → k < 20 → blanks ≡ textWord 3 k
 unfolding everyFrom fieldWord le knownTexts knownNames knownLabels text
 fourth-blank k h = eqb-true _ _ (each (λ (n : ℕ). eqb blanks (textWord 3 n)) 20 refl k h)
 
@@ -96,20 +97,23 @@ module _ (b : List ℕ) (p k : ℕ) (h : p + 32 ≤ length b) (f : Bytes b) (l :
   one : Same 32 b p (pad 32 (getD knownTexts k [])) 0 (8 * 1)
   one = spelling-more _ 0 (same-start _ _ _ _ _) h f (known-bytes k l) (omega arith) (ap (λ (n : ℕ). le 8 (drop n b)) (add-zero p) ∙ e)
 
-  pub second-off : (le 8 (drop (p + 8) b) ≡ textWord 1 k → ⊥) → false ≡ spells (take 32 (drop p b)) (getD knownTexts k [])
-  second-off z = spelling-stop _ 1 one h f (known-bytes k l) (omega arith) (known-short k l) z
-
-  module _ (d : le 8 (drop (p + 8) b) ≡ textWord 1 k) where
-    two : Same 32 b p (pad 32 (getD knownTexts k [])) 0 (8 * 2)
-    two = spelling-more _ 1 one h f (known-bytes k l) (omega arith) d
-
-    pub third-off : (le 8 (drop (p + 16) b) ≡ textWord 2 k → ⊥) → false ≡ spells (take 32 (drop p b)) (getD knownTexts k [])
-    third-off z = spelling-stop _ 2 two h f (known-bytes k l) (omega arith) (known-short k l) z
-
-    pub fourth-tells : le 8 (drop (p + 16) b) ≡ textWord 2 k → eqb (le 8 (drop (p + 24) b)) blanks ≡ spells (take 32 (drop p b)) (getD knownTexts k [])
-    fourth-tells g =
-        rw (fourth-blank k l)
-        (spelling-last _ 3 (spelling-more _ 2 two h f (known-bytes k l) (omega arith) g) h f (known-bytes k l) (omega arith) (omega arith) (known-short k l))
+  -- its other words decide
+  pub rest-spells : restIs k (le 8 (drop (p + 8) b)) (le 8 (drop (p + 16) b)) (le 8 (drop (p + 24) b)) ≡ spells (take 32 (drop p b)) (getD knownTexts k [])
+  rest-spells = by-second (eqb (le 8 (drop (p + 8) b)) (textWord 1 k)) refl (eqb (le 8 (drop (p + 16) b)) (textWord 2 k)) refl
+    where
+      by-second : (x : Bool) → eqb (le 8 (drop (p + 8) b)) (textWord 1 k) ≡ x → (y : Bool) → eqb (le 8 (drop (p + 16) b)) (textWord 2 k) ≡ y
+          → (x && (y && eqb (le 8 (drop (p + 24) b)) (textWord 3 k))) ≡ spells (take 32 (drop p b)) (getD knownTexts k [])
+      by-second false d y g = spelling-stop _ 1 one h f (known-bytes k l) (omega arith) (known-short k l) (eqb-false _ _ d)
+      by-second true d y g =
+          let two = spelling-more _ 1 one h f (known-bytes k l) (omega arith) (eqb-true _ _ d) in
+          by-third two y g
+        where
+          by-third : Same 32 b p (pad 32 (getD knownTexts k [])) 0 (8 * 2) → (y : Bool) → eqb (le 8 (drop (p + 16) b)) (textWord 2 k) ≡ y
+              → (y && eqb (le 8 (drop (p + 24) b)) (textWord 3 k)) ≡ spells (take 32 (drop p b)) (getD knownTexts k [])
+          by-third two false g = spelling-stop _ 2 two h f (known-bytes k l) (omega arith) (known-short k l) (eqb-false _ _ g)
+          by-third two true g =
+              spelling-last _ 3 (spelling-more _ 2 two h f (known-bytes k l) (omega arith) (eqb-true _ _ g)) h f (known-bytes k l) (omega arith) (omega arith)
+              (known-short k l)
 
 -- another first word
 pub first-off : (b : List ℕ) (p k : ℕ) → p + 32 ≤ length b → Bytes b → k < 20 → (le 8 (drop p b) ≡ textWord 0 k → ⊥)
@@ -126,7 +130,8 @@ module _ (b : List ℕ) (p r : ℕ) (h : p + 32 ≤ length b) (f : Bytes b) (o :
   pub is-candidate : r < 13 → spells (take 32 (drop p b)) (getD knownTexts r []) ≡ true → r + 1 ≡ placeFrom 1 (take 32 (drop p b)) knownLabels
   is-candidate l e =
       let n = known-length in
-      placing-stop (placing-past r (omega arith) (λ j k. rw (← label-text j (omega arith)) (not-begun j (omega arith) (λ z. absurd (omega arith))))) (omega arith) (rw (← label-text r l) e)
+      placing-stop (placing-past r (omega arith) (λ j k. rw (← label-text j (omega arith)) (not-begun j (omega arith) (λ z. absurd (omega arith)))))
+      (omega arith) (rw (← label-text r l) e)
 
   pub no-candidate : (r < 13 → spells (take 32 (drop p b)) (getD knownTexts r []) ≡ false) → 0 ≡ placeFrom 1 (take 32 (drop p b)) knownLabels
   no-candidate e =

@@ -1,20 +1,18 @@
--- A node against what is asked of a child: its parent first, then its role, then its name.
+-- Nodes as code asks for them: the node count, a name field, a parent, a zone by its number; two numbers compared.
 use Prim.Native.Nat.{ℕ, _+_, _≤_, _<_}
-use mathlib.Core.Path.{_≡_, refl, ap, sym, _∙_}
-use mathlib.Core.Bool.{Bool, true, false, _&&_}
+use mathlib.Core.Path.{_≡_, refl, sym}
+use mathlib.Core.Bool.{Bool, false, _&&_}
 use mathlib.Core.List.{List}
 use native.Mathlib.Omega.{arith}
 use native.Mathlib.Nat.{add-zero}
 use lib.Dec.{eqb}
 use lib.ListN.{take, drop}
 use borrow.Author.Tests.{ne-eqb, eq-eqb, lt-ltb, le-ltb}
-use Rattle.model.specs.Bytes.{le, spells}
+use Rattle.model.specs.Bytes.{le}
 use Rattle.model.specs.Image.{treeOf, nodeCount, headerWord, recordAt, parent, name}
-use Rattle.model.specs.Containment.{role, isZone, validatedAs, Zone, fixedName, fixedNames}
-use Rattle.model.specs.Values.{named}
+use Rattle.model.specs.Containment.{isZone, validatedAs, Zone}
 use Rattle.model.specs.Given.{Sound}
 use Rattle.model.proofs.Parents.{parent-lower, lawful-at}
-use Rattle.labels.proofs.Grid.{spells-self, fixed-none}
 use Rattle.model.proofs.Reading.{name-at}
 
 -- the name field of a node
@@ -42,18 +40,6 @@ module _ (b : List ℕ) (z : ℕ) {n : ℕ} (e : n ≡ nodeCount b) where
   pub some-node : {r : Bool} → z < n → r ≡ validatedAs (treeOf b) Zone z → r ≡ isZone (treeOf b) z
   unfolding isZone treeOf
   some-node h f = let l : z < nodeCount b = omega arith in rw (lt-ltb z (nodeCount b) l) f
-
--- rule 21
-module _ (b : List ℕ) (i : ℕ) where
-  pub named-root : i ≡ 0 → true ≡ named (treeOf b) i
-  unfolding named role fixedNames
-  named-root z = let t = treeOf b in rw z (spells-self (name t 0) ∙ ap (spells (name t 0)) (sym (fixed-none (role t (parent t 0)) 14 (name t 0) fixedNames refl)))
-
-  -- q is the role of the parent, and r that of node i
-  pub named-is : {q r : ℕ} → q ≡ role (treeOf b) (parent (treeOf b) i) → r ≡ role (treeOf b) i
-      → spells (name (treeOf b) i) (fixedName q r (name (treeOf b) i) fixedNames) ≡ named (treeOf b) i
-  unfolding named
-  named-is f g = rw (f, g)
 
 pub parent-inside : (b : List ℕ) (i : ℕ) {up : ℕ} → Sound b → i < nodeCount b → (i ≡ 0 → ⊥) → up ≡ parent (treeOf b) i → up < nodeCount b
 parent-inside b i s h z e = let l = parent-lower (treeOf b) i (lawful-at b s i h) z in omega arith

@@ -53,11 +53,13 @@ pad-full : (x : List ℕ) → 0 + 32 ≤ length (pad 32 x)
 pad-full x = rw (length-pad 32 x) (omega arith)
 
 -- the field at p against the words of a text: after the last one
-spelling-done : {b : List ℕ} {p : ℕ} (x : List ℕ) (j : ℕ) → Same 32 b p (pad 32 x) 0 (8 * j) → p + 32 ≤ length b → length x ≤ 32 → 4 ≤ j → true ≡ spells (take 32 (drop p b)) x
+spelling-done : {b : List ℕ} {p : ℕ} (x : List ℕ) (j : ℕ) → Same 32 b p (pad 32 x) 0 (8 * j) → p + 32 ≤ length b → length x ≤ 32 → 4 ≤ j
+    → true ≡ spells (take 32 (drop p b)) x
 spelling-done {b} {p} x j l h m k = same-done l h (pad-full x) (omega arith) ∙ field-spells b p x h m
 
 -- at word j
-module _ {b : List ℕ} {p : ℕ} (x : List ℕ) (j : ℕ) (l : Same 32 b p (pad 32 x) 0 (8 * j)) (h : p + 32 ≤ length b) (f : Bytes b) (a : allBytes x ≡ true) (k : j < 4) where
+module _ {b : List ℕ} {p : ℕ} (x : List ℕ) (j : ℕ) (l : Same 32 b p (pad 32 x) 0 (8 * j)) (h : p + 32 ≤ length b) (f : Bytes b) (a : allBytes x ≡ true)
+    (k : j < 4) where
   pub spelling-more : le 8 (drop (p + 8 * j) b) ≡ fieldWord x j → Same 32 b p (pad 32 x) 0 (8 * (j + 1))
   unfolding fieldWord
   spelling-more e =

@@ -1,7 +1,9 @@
 -- Texts as fields of 32 bytes: the known ones.
 use Prim.Native.Nat.{ℕ, zero, suc, _*_, _≤_, _<_}
 use mathlib.Core.Path.{_≡_}
+use mathlib.Core.Bool.{Bool, _&&_}
 use mathlib.Core.List.{List, [], _∷_, _++_}
+use lib.Dec.{eqb}
 use lib.ListN.{drop, getD}
 use Rattle.model.specs.Bytes.{le, text}
 use Rattle.model.specs.Containment.{knownLabels}
@@ -31,6 +33,11 @@ knownNames =
 -- the known labels, and after them the known names
 unfoldable pub knownTexts : List (List ℕ)
 knownTexts = knownLabels ++ knownNames
+
+-- the words after the first one of text k
+abbrev pub restIs : ℕ → ℕ → ℕ → ℕ → Bool
+restIs k second third fourth =
+    eqb second (fieldWord (getD knownTexts k []) 1) && (eqb third (fieldWord (getD knownTexts k []) 2) && eqb fourth (fieldWord (getD knownTexts k []) 3))
 
 -- known label r, counted from 0, begins with this word, and no other does; 13 where none does
 pub record Begins (word r : ℕ) : Type 0 where

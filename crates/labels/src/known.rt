@@ -1,10 +1,9 @@
 // The known texts as words, each padded to 32 bytes: the known labels by their place, then the known names.
 ghost use mathlib.Core.Path.{_≡_};
-ghost use Prim.Native.Nat.{_+_, _≤_, _<_};
+ghost use Prim.Native.Nat.{_<_};
 ghost use mathlib.Core.List.{[]};
-ghost use lib.ListN.{length, take, drop, getD};
-ghost use Rattle.model.specs.Bytes.{le, spells};
-ghost use Rattle.labels.specs.Padded.{fieldWord, knownTexts};
+ghost use lib.ListN.{getD};
+ghost use Rattle.labels.specs.Padded.{fieldWord, knownTexts, restIs};
 
 // Eight blanks.
 const BLANKS: u64 = 0x2020_2020_2020_2020;
@@ -54,17 +53,16 @@ fn third_word(k: usize) -> u64
     }
 }
 
-// Does a field that begins as the known text k hold it? It leaves off at the first word that differs.
-pub fn rest_is(image: &[u8], at: usize, k: usize) -> bool
-    requires { ⌜ (at + 32 ≤ length (now image)) × (k < 20) ⌝ }
-    requires { ⌜ le 8 (drop at (now image)) ≡ fieldWord (getD knownTexts k []) 0 ⌝ }
-    ensures { λ r. ⌜ r ≡ spells (take 32 (drop at (now (image .entry)))) (getD knownTexts k []) ⌝ }
+// Are these the words after the first one of text k?
+pub fn rest_is(k: usize, second: u64, third: u64, fourth: u64) -> bool
+    requires { ⌜ k < 20 ⌝ }
+    ensures { λ r. ⌜ r ≡ restIs k second third fourth ⌝ }
 {
-    if words::u64_at(image, at + 8) != second_word(k) {
+    if second != second_word(k) {
         return false;
     }
-    if words::u64_at(image, at + 16) != third_word(k) {
+    if third != third_word(k) {
         return false;
     }
-    words::u64_at(image, at + 24) == BLANKS
+    fourth == BLANKS
 }

@@ -50,5 +50,10 @@ pub fn name_is(image: &[u8], i: usize, k: usize) -> bool
     if words::u64_at(image, at) != first_word(k) {
         return false;
     }
-    rest_is(image, at, LABELS + k)
+    rest_is(
+        LABELS + k,
+        words::u64_at(image, at + 8),
+        words::u64_at(image, at + 16),
+        words::u64_at(image, at + 24),
+    )
 }

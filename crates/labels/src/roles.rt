@@ -69,7 +69,10 @@ pub fn role_of(image: &[u8], i: usize) -> u64
     let at = Record::at(i) + Record::LABEL;
     let k = candidate(words::u64_at(image, at));
     if k < 13 {
-        if rest_is(image, at, k) {
+        let second = words::u64_at(image, at + 8);
+        let third = words::u64_at(image, at + 16);
+        let fourth = words::u64_at(image, at + 24);
+        if rest_is(k, second, third, fourth) {
             return k as u64 + 1;
         }
     }

@@ -2,7 +2,7 @@
 use Prim.Native.Nat.{ℕ, _≤_, _<_}
 use mathlib.Core.Path.{_≡_, refl, sym, ap, _∙_}
 use mathlib.Core.Logic.{_⊎_, inl, inr}
-use mathlib.Core.Bool.{Bool, true, false, _||_}
+use mathlib.Core.Bool.{Bool, true, false, _||_, or-false}
 use mathlib.Core.List.{List, [], _∷_, _++_}
 use native.Mathlib.Omega.{arith}
 use lib.Dec.{eqb}
@@ -25,14 +25,13 @@ use Rattle.model.proofs.Above.{validated-above, earlier-rule, held-by}
 use Rattle.index.specs.Index.{kind}
 use Rattle.index.proofs.Marking.{kind-role}
 use Rattle.types.specs.Given.{ZoneInBase, NodeContext}
-use Rattle.types.proofs.StoredNumbers.{or-none}
 use Rattle.sids.specs.Given.{TypedZone, UnderZone, Sized}
 use Rattle.sids.specs.Groups.{placeRules, contentRules, sizeRules}
 
 -- a list of one; what may hold a zone; what holds the three kinds of nodes under a zone
 among-one : (x y : ℕ) → among x (y ∷ []) ≡ true → x ≡ y
 unfolding among
-among-one x y e = eqb-true x y (sym (or-none (eqb x y)) ∙ e)
+among-one x y e = eqb-true x y (sym (or-false (eqb x y)) ∙ e)
 
 base-holds : (above : ℕ) → mayHold above Zone ≡ true → above ≡ Base
 unfolding containment among
@@ -148,7 +147,8 @@ module _ (b : List ℕ) (i : ℕ) (g : NodesTo b i) where
         let t = treeOf b in
         let d = eqb-true (role t i) DataArray (and-first (eqb (role t i) DataArray) _ e) in
         let n = not-root t i DataArray d (λ (z : _≡_ {A = ℕ} 11 14). absurd (omega arith)) in
-        held (parent t i) (above i here n .upper) (three (eqb (role t (parent t i)) 5) (eqb (role t (parent t i)) 6) _ (and-second (eqb (role t i) DataArray) _ e))
+        held (parent t i) (above i here n .upper) (three (eqb (role t (parent t i)) 5) (eqb (role t (parent t i)) 6) _
+        (and-second (eqb (role t i) DataArray) _ e))
       where
         three : (x y z : Bool) → (x || (y || false)) ≡ true → (x || (y || z)) ≡ true
         three true y z h = refl
@@ -162,9 +162,14 @@ module _ (b : List ℕ) (i : ℕ) (g : NodesTo b i) where
         let d = eqb-true (role t i) DataArray (and-first (eqb (role t i) DataArray) _ e) in
         let n = not-root t i DataArray d (λ (z : _≡_ {A = ℕ} 11 14). absurd (omega arith)) in
         let u = above i here n .upper .is-validated in
-        record { held = sized-held e; kind-is = by-test u (eqb (role t (parent t i)) 5) refl (eqb (role t (parent t i)) 6) refl (and-second (eqb (role t i) DataArray) _ e) }
+        record {
+          held = sized-held e;
+          kind-is = by-test u (eqb (role t (parent t i)) 5) refl (eqb (role t (parent t i)) 6) refl
+              (and-second (eqb (role t i) DataArray) _ e);
+        }
       where
-        by-test : validated (treeOf b) (parent (treeOf b) i) ≡ true → (x : Bool) → eqb (role (treeOf b) (parent (treeOf b) i)) 5 ≡ x → (y : Bool) → eqb (role (treeOf b) (parent (treeOf b) i)) 6 ≡ y
+        by-test : validated (treeOf b) (parent (treeOf b) i) ≡ true → (x : Bool) → eqb (role (treeOf b) (parent (treeOf b) i)) 5 ≡ x → (y : Bool)
+            → eqb (role (treeOf b) (parent (treeOf b) i)) 6 ≡ y
             → (x || (y || false)) ≡ true → (kind (treeOf b) (parent (treeOf b) i) ≡ GridCoordinates) ⊎ (kind (treeOf b) (parent (treeOf b) i) ≡ FlowSolution)
         by-test u true p y q h = inl (kind-role _ _ u (eqb-true _ 5 p))
         by-test u false p true q h = inr (kind-role _ _ u (eqb-true _ 6 q))

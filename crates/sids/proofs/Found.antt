@@ -39,7 +39,8 @@ module _ (b : List ℕ) (i r : ℕ) (n : List ℕ) (h : child (treeOf b) i r n <
       eqb-true _ _ (and-second (eqb (parent (treeOf b) j) i) _ (and-first (eqb (parent (treeOf b) j) i && eqb (role (treeOf b) j) r) _ found-child))
 
   -- it has a known label, and stands under a validated node that is no UserDefinedData_t: it can be judged
-  child-ready : Sound b → {k : ℕ} → kind (treeOf b) i ≡ k → asked k r ≡ true → (r ≡ Rind → ZoneInBase b (parent (treeOf b) i)) → NodeContext b (child (treeOf b) i r n)
+  child-ready : Sound b → {k : ℕ} → kind (treeOf b) i ≡ k → asked k r ≡ true → (r ≡ Rind → ZoneInBase b (parent (treeOf b) i))
+      → NodeContext b (child (treeOf b) i r n)
   unfolding zoneAbove
   child-ready s {k} e q f =
       let j = child (treeOf b) i r n in
@@ -56,11 +57,13 @@ module _ (b : List ℕ) (i r : ℕ) (n : List ℕ) (h : child (treeOf b) i r n <
         rind = λ z. subst (λ (p : ℕ). ZoneInBase b (parent (treeOf b) p)) (sym child-parent) (f (sym child-role ∙ z));
       }
 
-pub found-ready : (b : List ℕ) → Sound b → (i r : ℕ) (n : List ℕ) {j k : ℕ} → kind (treeOf b) i ≡ k → asked k r ≡ true → (r ≡ Rind → ZoneInBase b (parent (treeOf b) i)) → j ≡ child (treeOf b) i r n
+pub found-ready : (b : List ℕ) → Sound b → (i r : ℕ) (n : List ℕ) {j k : ℕ} → kind (treeOf b) i ≡ k → asked k r ≡ true
+    → (r ≡ Rind → ZoneInBase b (parent (treeOf b) i)) → j ≡ child (treeOf b) i r n
     → j < nodeCount b → NodeContext b j
 found-ready b s i r n {j} e q f g h = rw g (child-ready b i r n (rw (← g) h) s e q f)
 
 -- a looked-up child, or nothing, as rules 24 and 25 have it
-pub conforming-by : (t : Tree) (i r : ℕ) (n : List ℕ) {j x : ℕ} → j ≡ child t i r n → x ≡ orMissing t (typeLawful t j && valueLawful t j) j → x ≡ conforming t i r n
+pub conforming-by : (t : Tree) (i r : ℕ) (n : List ℕ) {j x : ℕ} → j ≡ child t i r n → x ≡ orMissing t (typeLawful t j && valueLawful t j) j
+    → x ≡ conforming t i r n
 unfolding conforming
 conforming-by t i r n e f = f ∙ rw e

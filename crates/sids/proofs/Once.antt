@@ -1,4 +1,5 @@
--- Rule 22 is never broken where 20 and 21 hold: a label allowed once has a fixed name under each parent that may hold it, and siblings differ in their names (rule 11).
+-- Rule 22 is never broken where 20 and 21 hold: a label allowed once has a fixed name under each parent that may hold it, and siblings differ in their names
+-- (rule 11).
 use Prim.Native.Nat.{ℕ, zero, suc, _<_}
 use mathlib.Core.Path.{_≡_, refl, sym, _∙_}
 use mathlib.Core.Bool.{Bool, true, false, _&&_}
@@ -25,9 +26,9 @@ use Rattle.model.proofs.Sections.{not-root}
 use Rattle.model.proofs.Above.{validated-above, earlier-rule}
 use Rattle.model.specs.Rules.{check, passed}
 use Rattle.model.proofs.Staging.{kept}
-use Rattle.labels.proofs.Nodes.{parent-inside, named-root}
+use Rattle.labels.proofs.Nodes.{parent-inside}
 use Rattle.sids.specs.Groups.{placeRules}
-use Rattle.labels.proofs.Grid.{orElse, fixed-or}
+use Rattle.labels.proofs.Grid.{orElse, fixed-or, named-root}
 use Rattle.sids.proofs.Context.{placed-held, no-rule}
 use Rattle.index.specs.Index.{Index}
 use Rattle.index.proofs.Marking.{role-few}
@@ -37,19 +38,22 @@ some [] = false
 some (y ∷ x) = true
 
 -- such a label has a fixed name
-has-name : (above below : ℕ) → above < 15 → below < 15 → mayHold above below ≡ true → among below onceOnly ≡ true → some (fixedName above below [] fixedNames) ≡ true
+has-name : (above below : ℕ) → above < 15 → below < 15 → mayHold above below ≡ true → among below onceOnly ≡ true
+    → some (fixedName above below [] fixedNames) ≡ true
 unfolding _⊃_ everyFrom mayHold among row containment fixedName fixedNames onceOnly text
 has-name a c h l m o =
     drop-test (mayHold a c && among c onceOnly) (some (fixedName a c [] fixedNames)) (rw (m, o))
     (every-at (λ (k : ℕ). (mayHold a k && among k onceOnly) ⊃ some (fixedName a k [] fixedNames)) 15 0 c
-    (every-at (λ (j : ℕ). everyFrom (λ (k : ℕ). (mayHold j k && among k onceOnly) ⊃ some (fixedName j k [] fixedNames)) 15 0) 15 0 a refl (omega arith) (omega arith)) (omega arith) (omega arith))
+    (every-at (λ (j : ℕ). everyFrom (λ (k : ℕ). (mayHold j k && among k onceOnly) ⊃ some (fixedName j k [] fixedNames)) 15 0) 15 0 a refl (omega arith)
+    (omega arith)) (omega arith) (omega arith))
   where
     drop-test : (x y : Bool) → x ≡ true → (x ⊃ y) ≡ true → y ≡ true
     drop-test true y e f = f
     drop-test false y e f = untrue e
 
 -- whatever name the node has
-any-name : (above below : ℕ) → above < 15 → below < 15 → mayHold above below ≡ true → among below onceOnly ≡ true → (d e : List ℕ) → fixedName above below d fixedNames ≡ fixedName above below e fixedNames
+any-name : (above below : ℕ) → above < 15 → below < 15 → mayHold above below ≡ true → among below onceOnly ≡ true → (d e : List ℕ)
+    → fixedName above below d fixedNames ≡ fixedName above below e fixedNames
 unfolding fixedNames text
 any-name a c h l m o d e = fixed-or a c d fixedNames refl ∙ either (fixedName a c [] fixedNames) (has-name a c h l m o) ∙ sym (fixed-or a c e fixedNames refl)
   where
@@ -105,7 +109,8 @@ is-named : (t : Tree) (i : ℕ) → named t i ≡ true → spells (name t i) (fi
 unfolding named
 is-named t i n = n
 
-module _ (b : List ℕ) (i : ℕ) (g : NodesTo b i) {index : List ℕ} (x : Index b index) (v : validated (treeOf b) i ≡ true) (p : placed (treeOf b) i ≡ true) (n : named (treeOf b) i ≡ true) where
+module _ (b : List ℕ) (i : ℕ) (g : NodesTo b i) {index : List ℕ} (x : Index b index) (v : validated (treeOf b) i ≡ true) (p : placed (treeOf b) i ≡ true)
+    (n : named (treeOf b) i ≡ true) where
   -- an earlier sibling of the same role, allowed once, has the same name
   name-again : among (role (treeOf b) i) onceOnly ≡ true → (j : ℕ) → j < i → sameRole (treeOf b) i j ≡ true → namesake (treeOf b) i j ≡ true
   unfolding sameRole sibling namesake sidsRules
@@ -125,7 +130,8 @@ module _ (b : List ℕ) (i : ℕ) (g : NodesTo b i) {index : List ℕ} (x : Inde
       let a : spells (name t j) (fixedName (role t up) (role t i) (name t j) fixedNames) ≡ true = rw (e, f) at (is-named t j (earlier-rule b i g 21 j l w)) in
       let c = any-name (role t up) (role t i) (role-few x up k u) (role-few x i h v) m o (name t j) (name t i) in
       rw (eq-eqb (parent t j) up e)
-      (same-text (fixedName (role t up) (role t i) (name t i) fixedNames) (name t j) (name t i) (name-length b s j (omega arith) ∙ sym (name-length b s i h)) (rw (← c) a) (is-named t i n))
+      (same-text (fixedName (role t up) (role t i) (name t i) fixedNames) (name t j) (name t i) (name-length b s j (omega arith) ∙ sym (name-length b s i h))
+      (rw (← c) a) (is-named t i n))
 
   pub never-second : second (treeOf b) i ≡ false
   unfolding second recordRules nameTaken

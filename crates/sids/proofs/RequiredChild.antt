@@ -43,12 +43,14 @@ module _ (b : List ℕ) (i : ℕ) (g : NodesTo b i) where
       all-kept (rw q) (rw q (rw e at (or-missing t _ _ f .1)))
 
   -- a section's range or connectivity
-  of-section : (r : ℕ) (n : List ℕ) → (role (treeOf b) i ≡ r → complete (treeOf b) i ≡ true) → found (treeOf b) (conforming (treeOf b) (parent (treeOf b) i) r n) ≡ true
+  of-section : (r : ℕ) (n : List ℕ) → (role (treeOf b) i ≡ r → complete (treeOf b) i ≡ true)
+      → found (treeOf b) (conforming (treeOf b) (parent (treeOf b) i) r n) ≡ true
       → child (treeOf b) (parent (treeOf b) i) r n ≡ i → passed ≡ check i (contentRules (treeOf b) i)
   unfolding conforming
   of-section r n c f e = all-kept (c (is-role r n e)) (rw e at (or-missing (treeOf b) _ _ f .1))
 
-  by-kind : (k : ℕ) → kind (treeOf b) (parent (treeOf b) i) ≡ k → (i ≡ 0 → ⊥) → requiredUnder (treeOf b) k i ≡ true → passed ≡ check i (contentRules (treeOf b) i)
+  by-kind : (k : ℕ) → kind (treeOf b) (parent (treeOf b) i) ≡ k → (i ≡ 0 → ⊥) → requiredUnder (treeOf b) k i ≡ true
+      → passed ≡ check i (contentRules (treeOf b) i)
   unfolding sidsRules complete rangeOf connectivityOf row
   by-kind k q n e =
       let t = treeOf b in

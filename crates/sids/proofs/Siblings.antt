@@ -20,10 +20,15 @@ use Rattle.types.proofs.StoredNumbers.{shaped-is}
 pub array-after : (t : Tree) (i : ℕ) → sizedArray t i ≡ true → 0 < i
 unfolding sizedArray
 array-after t i e =
-    omega (arith, not-root t i DataArray (eqb-true (role t i) DataArray (and-first (eqb (role t i) DataArray) _ e)) (λ (z : _≡_ {A = ℕ} 11 14). absurd (omega arith)))
+    omega (
+      arith,
+      not-root t i DataArray (eqb-true (role t i) DataArray (and-first (eqb (role t i) DataArray) _ e))
+          (λ (z : _≡_ {A = ℕ} 11 14). absurd (omega arith)),
+    )
 
 pub sibling-sizes : (b : List ℕ) (i up : ℕ) → NodesTo b i → sizedArray (treeOf b) i ≡ true → up ≡ parent (treeOf b) i
-    → (eqb (parent (treeOf b) (i - 1)) up && validatedAs (treeOf b) DataArray (i - 1)) ≡ true → dimensions (treeOf b) (i - 1) ≡ dataSizes (treeOf b) (parent (treeOf b) i)
+    → (eqb (parent (treeOf b) (i - 1)) up && validatedAs (treeOf b) DataArray (i - 1)) ≡ true
+    → dimensions (treeOf b) (i - 1) ≡ dataSizes (treeOf b) (parent (treeOf b) i)
 unfolding sidsRules sizesLawful sizedArray validatedAs _⊃_
 sibling-sizes b i up g e f h =
     let t = treeOf b in

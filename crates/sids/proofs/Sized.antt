@@ -17,4 +17,5 @@ use Rattle.sids.specs.Given.{Sized}
 pub not-centred : {b : List ℕ} {p k : ℕ} → Sized b p → k ≡ kind (treeOf b) p → (k ≡ FlowSolution → ⊥) → false ≡ cellCentred (treeOf b) p
 unfolding cellCentred
 not-centred {b} {p} {k} z e n =
-    ⊎-elim (λ q. let r = kind-parts (treeOf b) p q (omega arith) .1 in rw (ne-eqb (role (treeOf b) p) FlowSolution (λ w. absurd (omega arith)))) (λ q. absurd (n (e ∙ q))) (z .kind-is)
+    ⊎-elim (λ q. let r = kind-parts (treeOf b) p q (omega arith) .1 in rw (ne-eqb (role (treeOf b) p) FlowSolution (λ w. absurd (omega arith))))
+    (λ q. absurd (n (e ∙ q))) (z .kind-is)

@@ -12,7 +12,8 @@ use Rattle.model.specs.Image.{Tree, treeOf, parent, number, I4, I8}
 use Rattle.model.specs.Given.{Sound}
 use Rattle.model.specs.Records.{product}
 use Rattle.model.specs.Containment.{role, Zone}
-use Rattle.model.specs.Values.{typed, shaped, typeLawful, valueLawful, indexDimension, structured, vertexSize, cellSize, boundarySize, cellCentred, dataSize, dataSizesFrom, dataSizes, structuredSizes, unstructuredSizes, zoneValue}
+use Rattle.model.specs.Values.{typed, shaped, typeLawful, valueLawful, indexDimension, structured, vertexSize, cellSize, boundarySize, cellCentred}
+use Rattle.model.specs.Values.{dataSize, dataSizesFrom, dataSizes, structuredSizes, unstructuredSizes, zoneValue}
 use Rattle.model.proofs.Walks.{every-at}
 use Rattle.model.proofs.Logic.{and-first, and-second}
 use Rattle.types.specs.Given.{HasNumber}
@@ -75,8 +76,11 @@ module _ (t : Tree) (z : ℕ) (e : role t z ≡ Zone) (v : valueLawful t z ≡ t
       let f = eqb-true (c + 1) n (and-second (leb 2 n && leb n 2147483647) _ q) in
       (l, omega arith)
   in-range false n c w p =
-      let q = and-first (leb 1 n && leb n 2147483647 && leb c 2147483647) _ p in
-      (leb-true n 2147483647 (and-second (leb 1 n) _ (and-first (leb 1 n && leb n 2147483647) _ q)), leb-true c 2147483647 (and-second (leb 1 n && leb n 2147483647) _ q))
+      let q = and-first (leb 1 n && leb n 2147483647 && leb c 2147483647) _ p in (
+        leb-true n 2147483647 (and-second (leb 1 n) _ (and-first (leb 1 n && leb n 2147483647) _ q)),
+        leb-true c 2147483647
+            (and-second (leb 1 n && leb n 2147483647) _ q),
+      )
 
   pub size-bounds : (vertexSize t z d ≤ 2147483647) × (cellSize t z d ≤ 2147483647)
   unfolding structuredSizes unstructuredSizes
@@ -92,10 +96,12 @@ module _ (t : Tree) (p : ℕ) {z n : ℕ} {r : List ℕ} (f : z ≡ parent t p) 
   unfolding cellSize
   inner-cell e h = h ∙ rw (f, g, e)
 
-pub inner-small : (t : Tree) (p : ℕ) → role t (parent t p) ≡ Zone → valueLawful t (parent t p) ≡ true → (d : ℕ) → d < indexDimension t (parent t p) → innerSize t p d ≤ 2147483647
+pub inner-small : (t : Tree) (p : ℕ) → role t (parent t p) ≡ Zone → valueLawful t (parent t p) ≡ true → (d : ℕ) → d < indexDimension t (parent t p)
+    → innerSize t p d ≤ 2147483647
 inner-small t p e v d h = by-test (cellCentred t p) (size-bounds t (parent t p) e v d h)
   where
-    by-test : (a : Bool) → (vertexSize t (parent t p) d ≤ 2147483647) × (cellSize t (parent t p) d ≤ 2147483647) → cond a (cellSize t (parent t p) d) (vertexSize t (parent t p) d) ≤ 2147483647
+    by-test : (a : Bool) → (vertexSize t (parent t p) d ≤ 2147483647) × (cellSize t (parent t p) d ≤ 2147483647)
+        → cond a (cellSize t (parent t p) d) (vertexSize t (parent t p) d) ≤ 2147483647
     by-test true l = l .1
     by-test false l = l .0
 

@@ -13,7 +13,8 @@ use super::permitted::value_lawful;
 pub fn conforming(image: &[u8], index: &[u16], j: usize) -> usize
     requires { ⌜ Index (now image) (now index) × (j ≤ nodeCount (now image)) ⌝ }
     requires { ⌜ (j < nodeCount (now image) → NodeContext (now image) j) ⌝ }
-    ensures { λ r. ⌜ (r ≡ orMissing (treeOf (now (image .entry))) (typeLawful (treeOf (now (image .entry))) j && valueLawful (treeOf (now (image .entry))) j) j) × (r ≤ nodeCount (now (image .entry))) ⌝ }
+    ensures { λ r. ⌜ (r ≡ orMissing (treeOf (now (image .entry))) (typeLawful (treeOf (now (image .entry))) j && valueLawful (treeOf (now (image .entry))) j) j)
+        × (r ≤ nodeCount (now (image .entry))) ⌝ }
 {
     let n = labels::node_count(image);
     if j == n {

@@ -35,7 +35,8 @@ fn cell_centred(image: &[u8], index: &[u16], p: usize) -> bool
 fn inner_sizes(image: &[u8], index: &[u16], p: usize, n: usize) -> [u64; 3]
     requires { ⌜ Index (now image) (now index) × Sized (now image) p ⌝ }
     requires { ⌜ (n ≡ indexDimension (treeOf (now image)) (parent (treeOf (now image)) p)) × (n ≤ 3) ⌝ }
-    ensures { λ r. ⌜ r ≡ directions (innerSize (treeOf (now (image .entry))) p) (indexDimension (treeOf (now (image .entry))) (parent (treeOf (now (image .entry))) p)) ⌝ }
+    ensures { λ r. ⌜ r ≡ directions (innerSize (treeOf (now (image .entry))) p)
+        (indexDimension (treeOf (now (image .entry))) (parent (treeOf (now (image .entry))) p)) ⌝ }
 {
     let zone = records::parent_of(image, p);
     if cell_centred(image, index, p) {

@@ -58,7 +58,8 @@ fn has_base(image: &[u8]) -> bool
 fn section_complete(image: &[u8], index: &[u16], s: usize) -> bool
     requires { ⌜ Index (now image) (now index) × (s < nodeCount (now image)) ⌝ }
     requires { ⌜ kind (treeOf (now image)) s ≡ Elements ⌝ }
-    ensures { λ r. ⌜ r ≡ (found (treeOf (now (image .entry))) (rangeOf (treeOf (now (image .entry))) s) && found (treeOf (now (image .entry))) (connectivityOf (treeOf (now (image .entry))) s)) ⌝ }
+    ensures { λ r. ⌜ r ≡ (found (treeOf (now (image .entry))) (rangeOf (treeOf (now (image .entry))) s)
+        && found (treeOf (now (image .entry))) (connectivityOf (treeOf (now (image .entry))) s)) ⌝ }
 {
     let n = labels::node_count(image);
     range_of(image, index, s) < n && connectivity_of(image, index, s) < n

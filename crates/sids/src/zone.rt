@@ -82,7 +82,8 @@ fn unstructured_sizes(vertices: u64, cells: u64, boundary: u64) -> bool
 // The sizes in direction d are permitted.
 fn sizes_permitted(structured: bool, sizes: [[u64; 3]; 3], d: usize) -> bool
     requires { ⌜ d < 3 ⌝ }
-    ensures { λ r. ⌜ r ≡ cond structured (structuredIn (sizeIn sizes 0 d) (sizeIn sizes 1 d) (sizeIn sizes 2 d)) (unstructuredIn (sizeIn sizes 0 d) (sizeIn sizes 1 d) (sizeIn sizes 2 d)) ⌝ }
+    ensures { λ r. ⌜ r ≡ cond structured (structuredIn (sizeIn sizes 0 d) (sizeIn sizes 1 d) (sizeIn sizes 2 d))
+        (unstructuredIn (sizeIn sizes 0 d) (sizeIn sizes 1 d) (sizeIn sizes 2 d)) ⌝ }
 {
     let vertices = sizes[0][d];
     let cells = sizes[1][d];

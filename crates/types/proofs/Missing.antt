@@ -11,12 +11,8 @@ use Rattle.model.specs.Lists.{among}
 use Rattle.model.specs.Bytes.{le, same, spells, text, placeFrom}
 use Rattle.model.specs.Image.{Tree, nodeOf, nodesOf, node, treeOf, nodeCount, stored, dataType, dataTypes, width, widths, number}
 use Rattle.model.specs.Containment.{orMissing}
+use Rattle.model.proofs.InZone.{nodes-length}
 use Rattle.model.specs.Values.{reads, typed, zoneTypeShape}
-
-nodes-length : (n : ℕ) (s : List ℕ) → length (nodesOf n s) ≡ n
-unfolding nodesOf
-nodes-length zero s = refl
-nodes-length (suc n) s = ap suc (nodes-length n (drop 84 s))
 
 empty : (u : List ℕ) → same [] u ≡ eqb (length u) 0
 unfolding same

@@ -1,7 +1,7 @@
 -- What a data type and a shape say of the numbers that a node stores.
 use Prim.Native.Nat.{ℕ, zero, suc, _+_, _*_, _-_, _≤_, _<_}
 use mathlib.Core.Path.{_≡_, refl, sym, ap, _∙_}
-use mathlib.Core.Bool.{Bool, true, false, not, _||_}
+use mathlib.Core.Bool.{Bool, true, false, not, _||_, or-false}
 use mathlib.Core.List.{List, [], _∷_}
 use native.Mathlib.Omega.{arith}
 use native.Mathlib.Nat.{mul-suc, mul-comm, mul-le-mul-left}
@@ -35,11 +35,7 @@ module _ (t : Tree) (i : ℕ) where
   -- one type, one of two types
   pub one-type : (d : ℕ) → typed t i (d ∷ []) ≡ true → dataType t i ≡ d
   unfolding typed among
-  one-type d e = eqb-true (dataType t i) d (by-test (eqb (dataType t i) d) e)
-    where
-      by-test : (a : Bool) → (a || false) ≡ true → a ≡ true
-      by-test true e = refl
-      by-test false e = e
+  one-type d e = eqb-true (dataType t i) d (sym (or-false (eqb (dataType t i) d)) ∙ e)
 
   -- one of four types is one of the first two or one of the others
   pub four-types : (a b c d : ℕ) → typed t i (a ∷ b ∷ c ∷ d ∷ []) ≡ (typed t i (a ∷ b ∷ []) || typed t i (c ∷ d ∷ []))
@@ -60,7 +56,8 @@ module _ (t : Tree) (i : ℕ) where
   unfolding typed among width widths
   whole-wide e = by-test (eqb (dataType t i) 4) refl (eqb (dataType t i) 7) refl e
     where
-      by-test : (a : Bool) → eqb (dataType t i) 4 ≡ a → (d : Bool) → eqb (dataType t i) 7 ≡ d → (a || (d || false)) ≡ true → T (isWidth (getD widths (dataType t i) 0))
+      by-test : (a : Bool) → eqb (dataType t i) 4 ≡ a → (d : Bool) → eqb (dataType t i) 7 ≡ d → (a || (d || false)) ≡ true
+          → T (isWidth (getD widths (dataType t i) 0))
       by-test true p d q h = rw (eqb-true (dataType t i) 4 p) tt
       by-test false p true q h = rw (eqb-true (dataType t i) 7 q) tt
       by-test false p false q h = absurd (let z : _≡_ {A = ℕ} 0 1 = cc in omega arith)
@@ -80,10 +77,6 @@ module _ (t : Tree) (i : ℕ) where
       single [] h = absurd (omega arith)
       single (x ∷ []) h = refl
       single (x ∷ y ∷ l) h = absurd (omega arith)
-
-pub or-none : (a : Bool) → (a || false) ≡ a
-or-none true = refl
-or-none false = refl
 
 -- rule 16: as many bytes as the numbers take
 pub bytes-are : (b : List ℕ) → Sound b → (i : ℕ) → i < nodeCount b → (sizes : List ℕ) → dimensions (treeOf b) i ≡ sizes

@@ -38,4 +38,6 @@ module _ (b : List ℕ) (z : ℕ) where
 
   pub is-unstructured : zoneTypeReads (treeOf b) z (text "Unstructured") ≡ unstructured (treeOf b) z
   unfolding unstructured zoneTypeValue text
-  is-unstructured = by-text (text "Unstructured") (reads-past b (nodeCount b) (omega arith) (text "Unstructured")) (λ e. or-right (reads (treeOf b) j (text "Structured")) _ e)
+  is-unstructured =
+      by-text (text "Unstructured") (reads-past b (nodeCount b) (omega arith) (text "Unstructured"))
+      (λ e. or-right (reads (treeOf b) j (text "Structured")) _ e)

@@ -37,15 +37,18 @@ fn whole_shaped(image: &[u8], i: usize, n: usize, sizes: [u64; 3]) -> bool
 // Zone_t: I4 or I8 [IndexDimension, 3].
 fn zone_shape(image: &[u8], index: &[u16], z: usize) -> bool
     requires { ⌜ Index (now image) (now index) × ZoneInBase (now image) z ⌝ }
-    ensures { λ r. ⌜ r ≡ (typed (treeOf (now (image .entry))) z (I4 ∷ I8 ∷ []) && shaped (treeOf (now (image .entry))) z (indexDimension (treeOf (now (image .entry))) z ∷ 3 ∷ [])) ⌝ }
+    ensures { λ r. ⌜ r ≡ (typed (treeOf (now (image .entry))) z (I4 ∷ I8 ∷ [])
+        && shaped (treeOf (now (image .entry))) z (indexDimension (treeOf (now (image .entry))) z ∷ 3 ∷ [])) ⌝ }
 {
     whole_shaped(image, z, 2, [index_dimension(image, index, z), 3, 0])
 }
 
 // Rind_t: I4 [2 × IndexDimension] of the zone two above.
 fn rind_shape(image: &[u8], index: &[u16], i: usize) -> bool
-    requires { ⌜ (Index (now image) (now index) × (parent (treeOf (now image)) i < nodeCount (now image))) × ((i < nodeCount (now image)) × ZoneInBase (now image) (zoneAbove (treeOf (now image)) i)) ⌝ }
-    ensures { λ r. ⌜ r ≡ (typed (treeOf (now (image .entry))) i (I4 ∷ []) && shaped (treeOf (now (image .entry))) i (2 * indexDimension (treeOf (now (image .entry))) (zoneAbove (treeOf (now (image .entry))) i) ∷ [])) ⌝ }
+    requires { ⌜ (Index (now image) (now index) × (parent (treeOf (now image)) i < nodeCount (now image)))
+        × ((i < nodeCount (now image)) × ZoneInBase (now image) (zoneAbove (treeOf (now image)) i)) ⌝ }
+    ensures { λ r. ⌜ r ≡ (typed (treeOf (now (image .entry))) i (I4 ∷ [])
+        && shaped (treeOf (now (image .entry))) i (2 * indexDimension (treeOf (now (image .entry))) (zoneAbove (treeOf (now (image .entry))) i) ∷ [])) ⌝ }
 {
     let zone = records::parent_of(image, records::parent_of(image, i));
     typed_shaped(

@@ -23,7 +23,9 @@ pub fn whole(image: &[u8], i: usize, k: usize) -> u64
 // Of two stored numbers the first is at least 1, the second no lower, and at most `most`.
 pub fn pair_within(image: &[u8], i: usize, most: u64) -> bool
     requires { ⌜ Sound (now image) × HasNumber (now image) i 1 ⌝ }
-    ensures { λ r. ⌜ r ≡ (leb 1 (number (treeOf (now (image .entry))) i 0) && leb (number (treeOf (now (image .entry))) i 0) (number (treeOf (now (image .entry))) i 1) && leb (number (treeOf (now (image .entry))) i 1) most) ⌝ }
+    ensures { λ r. ⌜ r ≡ (leb 1 (number (treeOf (now (image .entry))) i 0)
+        && leb (number (treeOf (now (image .entry))) i 0) (number (treeOf (now (image .entry))) i 1)
+        && leb (number (treeOf (now (image .entry))) i 1) most) ⌝ }
 {
     let first = whole(image, i, 0);
     let last = whole(image, i, 1);

@@ -112,7 +112,8 @@ module _ (b : List ℕ) (i : ℕ) where
   unfolding dataSizeAnswer _gives_ _then_ check
   no-array e f = rw (e, f)
 
-  pub array-answered : imageCheck b ≡ passed → isSizedArray (treeOf b) i ≡ true → answer (sizesOf (dataSizes (treeOf b) (parent (treeOf b) i))) ≡ dataSizeAnswer b i
+  pub array-answered : imageCheck b ≡ passed → isSizedArray (treeOf b) i ≡ true
+      → answer (sizesOf (dataSizes (treeOf b) (parent (treeOf b) i))) ≡ dataSizeAnswer b i
   unfolding dataSizeAnswer _gives_ _then_ check
   array-answered e f = rw (e, f)
 

@@ -48,7 +48,8 @@ loop-again c =
     let i = l .loop .i in
     let h : i < nodeCount b = omega arith in
     let e = k .kind-of .ensures .0 in
-    let counts : (r : ℕ) → 0 < r → eqb (k .kind-of .result) r ≡ validatedAs (treeOf b) r i = λ r z. ap (λ (x : ℕ). eqb x r) e ∙ kind-as b (d .pre .sound) i r h z in (
+    let counts : (r : ℕ) → 0 < r → eqb (k .kind-of .result) r ≡ validatedAs (treeOf b) r i = λ r z. ap (λ (x : ℕ). eqb x r) e ∙ kind-as b
+    (d .pre .sound) i r h z in (
       more-counted (l .loop .inv .0) _ (omega arith) (ap (ltb 0) e ∙ kind-validated b (d .pre .sound) i h) (c .before .before .unit .ensures .0),
       (
         more-counted (l .loop .inv .1 .0) _ (omega arith) (counts Zone (omega arith)) (c .before .unit2 .ensures .0),
@@ -62,7 +63,8 @@ returns c =
     let l = c .before in
     let n = l .before .node-count .ensures .0 in
     let v = all-counted (l .loop .inv .0) (omega arith) .0 in
-    counts-are _ (l .before .node-count .result) _ _ _ _ n v refl (all-counted (l .loop .inv .1 .0) (omega arith) .0) (all-counted (l .loop .inv .1 .1) (omega arith) .0)
+    counts-are _ (l .before .node-count .result) _ _ _ _ n v refl (all-counted (l .loop .inv .1 .0) (omega arith) .0)
+    (all-counted (l .loop .inv .1 .1) (omega arith) .0)
 
 pub counted-spec : {M : Type 1} → statement M
 counted-spec =

@@ -21,11 +21,18 @@ build-requires c κs =
     (sound _ (passes (t .table-stage-with .ensures) (c .before .enum-told .given .1)), search needs)
 
 nodes-stage-requires : tie.Need-nodes-stage-requires
-nodes-stage-requires c κs = let p = c .before .before .before .before .before .before .before .before .before .before .before .before .before .before .before .before .before .before .before .pre in ((c .before .before .before .before .before .before .build .ensures, p .0 .1), p .1)
+nodes-stage-requires c κs =
+    let k = c .before .before .before .before .before .before in
+    let p = k .before .before .before .before .before .before .before .before .before .before .before .before .before .pre in
+    ((k .build .ensures, p .0 .1), p .1)
 
 returns-2 : tie.Need-returns-2
 unfolding imageCheck
-returns-2 c = (go (c .before .before .before .before .before .before .before .before .before .before .before .before .before .before .before .before .before .before .before .table-stage-with .ensures) (c .before .before .before .before .before .before .before .before .before .before .before .before .before .before .before .enum-told .given .1) (c .before .before .before .before .before .before .nodes-stage .ensures), λ e. c .before .before .before .before .before .before .before .before .before .before .before .before .before .build .ensures)
+returns-2 c =
+    let n = c .before .before .before .before .before .before in
+    let k = n .before .before .before .before .before .before .before in
+    let t = k .before .before .before .before .before .before in
+    (go (t .table-stage-with .ensures) (k .before .before .enum-told .given .1) (n .nodes-stage .ensures), λ e. k .build .ensures)
 
 pub image-stage-with-spec : {M : Type 1} → statement M
 image-stage-with-spec =

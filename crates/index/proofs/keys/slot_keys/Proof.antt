@@ -12,4 +12,5 @@ pub slot-keys-spec : {M : Type 1} → statement M
 unfolding everyFrom among row slotKeys keyAt
 slot-keys-spec =
     tie.close (tie.spec (λ c. row-of keyAt 4 3 _ refl (c .match .keys1)) (λ c. row-of keyAt 4 5 _ refl (c .match .keys2))
-    (λ c. row-of keyAt 4 6 _ refl (c .match .keys3)) (λ c. row-of keyAt 4 7 _ refl (c .match .keys4)) (λ c. row-rest keyAt 4 _ (7 ∷ 6 ∷ 5 ∷ 3 ∷ []) refl (omega arith) (c .match .rest)))
+    (λ c. row-of keyAt 4 6 _ refl (c .match .keys3)) (λ c. row-of keyAt 4 7 _ refl (c .match .keys4))
+    (λ c. row-rest keyAt 4 _ (7 ∷ 6 ∷ 5 ∷ 3 ∷ []) refl (omega arith) (c .match .rest)))

@@ -22,12 +22,14 @@ loop-holds c =
     let p = a .pre in
     let s = p .0 .laid .some in
     let f = p .0 .laid .few in
-    (refl, ((omega arith, omega (arith, c .before .before .before .before .node-count .ensures)), root-row (p .0) s (begin-row (p .0) (no-rows _ (a .args .index .now) (omega (arith, p .1))) (c .before .before .begin-row .ensures) s (kind-root _) (omega arith))))
+    let r = begin-row (p .0) (no-rows _ (a .args .index .now) (omega (arith, p .1))) (c .before .before .begin-row .ensures) s (kind-root _) (omega arith) in
+    (refl, ((omega arith, omega (arith, c .before .before .before .before .node-count .ensures)), root-row (p .0) s r))
 
 mark-node-requires : tie.Need-mark-node-requires Inv-loop μ-loop
 mark-node-requires c κs =
     let i = c .before .before .loop .inv .1 in
-    ((c .before .before .before .before .before .before .before .before .before .before .pre .0, (i .0 .0, omega (arith, c .before .before .before .before .before .before .before .node-count .ensures))), i .1)
+    let n = c .before .before .before .before .before .before .before in
+    ((n .before .before .before .pre .0, (i .0 .0, omega (arith, n .node-count .ensures))), i .1)
 
 loop-again : tie.Need-loop-again Inv-loop μ-loop
 loop-again c =
@@ -44,4 +46,6 @@ returns c =
     record { sound = a .pre .0; rows = rw e at (i .1) }
 
 pub build-spec : {M : Type 1} → statement M
-build-spec = tie.close (tie.spec Inv-loop μ-loop (λ c κs. search needs) (λ c κs. search needs) loop-holds mark-node-requires (search needs) (search needs) loop-again (λ c. c .before .loop .inv .0 ∙ c .before .before .before .before .begin-row .kept .0) returns)
+build-spec =
+    tie.close (tie.spec Inv-loop μ-loop (λ c κs. search needs) (λ c κs. search needs) loop-holds mark-node-requires (search needs) (search needs) loop-again
+    (λ c. c .before .loop .inv .0 ∙ c .before .before .before .before .begin-row .kept .0) returns)

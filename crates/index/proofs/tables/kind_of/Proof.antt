@@ -11,4 +11,6 @@ returns c =
     (e ∙ p .0 .rows .kinds _ (p .1), rw e (p .0 .rows .few _ (p .1)))
 
 pub kind-of-spec : {M : Type 1} → statement M
-kind-of-spec = tie.close (tie.spec (λ c κs. let p = c .before .before .pre in let l = p .0 .rows .long in let f = p .0 .sound .laid .few in (omega arith, omega arith)) returns)
+kind-of-spec =
+    tie.close (tie.spec (λ c κs. let p = c .before .before .pre in let l = p .0 .rows .long in let f = p .0 .sound .laid .few in
+    (omega arith, omega arith)) returns)

@@ -12,4 +12,6 @@ returns-2 : tie.Need-returns-2
 returns-2 c = rw (ne-eqb _ 0 (c .if1 .left))
 
 pub put-spec : {M : Type 1} → statement M
-put-spec = tie.close (tie.spec (search needs) (search needs) (search needs) (λ c. omega (arith, c .if1 .taken, c .before .slice-known .given (c .before .before .args .at))) (search needs) (search needs) (search needs) returns returns-2)
+put-spec =
+    tie.close (tie.spec (search needs) (search needs) (search needs) (λ c. omega
+    (arith, c .if1 .taken, c .before .slice-known .given (c .before .before .args .at))) (search needs) (search needs) (search needs) returns returns-2)

@@ -2,8 +2,7 @@
 use mathlib.Core.Path.{_∙_}
 use mathlib.Core.List.{[]}
 use Rattle.model.specs.Image.{treeOf, name}
-use Rattle.labels.proofs.Nodes.{named-is}
-use Rattle.labels.proofs.Grid.{name-free, name-place, name-fixed}
+use Rattle.labels.proofs.Grid.{named-is, name-free, name-place, name-fixed}
 use native.Mathlib.Omega.{arith}
 use borrow.Author.Needs.{needs}
 use Rattle.labels.proofs.containment.named.Statement.{statement}

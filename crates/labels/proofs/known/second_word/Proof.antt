@@ -17,7 +17,8 @@ arm e = ap (textWord 1) (sym e)
 pub second-word-spec : {M : Type 1} → statement M
 unfolding fieldWord le knownTexts knownNames knownLabels text
 second-word-spec =
-    tie.close (tie.spec (λ c. arm (c .match .keys1)) (λ c. arm (c .match .keys2)) (λ c. arm (c .match .keys3)) (λ c. arm (c .match .keys4)) (λ c. arm (c .match .keys5))
+    tie.close (tie.spec (λ c. arm (c .match .keys1)) (λ c. arm (c .match .keys2)) (λ c. arm (c .match .keys3)) (λ c. arm (c .match .keys4))
+    (λ c. arm (c .match .keys5))
     (λ c. arm (c .match .keys6)) (λ c. arm (c .match .keys7)) (λ c. arm (c .match .keys8)) (λ c. arm (c .match .keys9)) (λ c. arm (c .match .keys10))
     (λ c. arm (c .match .keys11)) (λ c. arm (c .match .keys12)) (λ c. arm (c .match .keys13)) (λ c. arm (c .match .keys14)) (λ c. arm (c .match .keys15))
     (λ c. arm (c .match .keys16)) (λ c. arm (c .match .keys17)) (λ c. arm (c .match .keys18)) (λ c. arm (c .match .keys19))

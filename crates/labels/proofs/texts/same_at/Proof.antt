@@ -31,7 +31,8 @@ returns-2 c =
     let l = c .before .before .before .before in
     let s = l .before .before in
     same-stop-word (l .loop .inv) (omega arith) (omega arith) 8 (omega arith) (λ i. omega (arith, s .before .shared-slice-known .given i))
-    (λ i. omega (arith, s .shared-slice-known2 .given i)) (rw zero-add (λ e. c .if2 .taken (c .before .before .u64-at .ensures ∙ e ∙ sym (c .before .u64-at2 .ensures))))
+    (λ i. omega (arith, s .shared-slice-known2 .given i)) (rw zero-add (λ e. c .if2 .taken
+    (c .before .before .u64-at .ensures ∙ e ∙ sym (c .before .u64-at2 .ensures))))
     ∙ same-text _ _ (l .before .if1 .left)
 
 loop-again : tie.Need-loop-again Inv-loop μ-loop Inv-loop2 μ-loop2

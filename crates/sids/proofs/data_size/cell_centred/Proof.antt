@@ -31,7 +31,10 @@ unfolding cellCentred text
 returns-2 c =
     let d = c .before .before .before .before in
     let k = kind-parts _ _ (sym (d .before .kind-of .ensures .0) ∙ d .if1 .left) (omega arith) .1 in
-    rw k (rw (conforming-by _ _ 10 (text "GridLocation") (c .before .before .before .location .ensures .0) (c .before .before .conforming .ensures .0)) at (c .reads-if-found .ensures))
+    rw k (rw (conforming-by _ _ 10 (text "GridLocation") (c .before .before .before .location .ensures .0) (c .before .before .conforming .ensures .0)) at
+    (c .reads-if-found .ensures))
 
 pub cell-centred-spec : {M : Type 1} → statement M
-cell-centred-spec = tie.close (tie.spec (λ c κs. let p = c .before .before .pre in (p .0, p .1 .held .inside)) returns location-requires conforming-requires (search needs) (λ c κs. search needs) returns-2)
+cell-centred-spec =
+    tie.close (tie.spec (λ c κs. let p = c .before .before .pre in (p .0, p .1 .held .inside)) returns location-requires conforming-requires (search needs)
+    (λ c κs. search needs) returns-2)

@@ -1,3 +1,4 @@
+-- The inner size and the rind sum, of which neither is too large to be added.
 use native.Mathlib.Omega.{arith}
 use Prim.Native.Nat.{_≤_, _<_}
 use mathlib.Core.Path.{_≡_, sym, ap, _∙_}

@@ -1,3 +1,4 @@
+-- The parent, then the role.
 use borrow.Author.Needs.{needs}
 use borrow.Author.Tests.{eq-eqb, ne-eqb}
 use Rattle.model.specs.Values.{baseChild}

@@ -1,3 +1,4 @@
+-- The role decides which children are required.
 use mathlib.Core.Path.{sym, _∙_}
 use borrow.Author.Needs.{needs}
 use borrow.Author.Tests.{ne-eqb}
@@ -32,5 +33,10 @@ returns-4 c =
 pub complete-spec : {M : Type 1} → statement M
 complete-spec =
     tie.close (tie.spec (λ c κs. search needs) (λ c κs. search needs)
-    (λ c κs. let p = c .before .before .before .before .pre in (p .0, kind-role _ _ (p .1) (sym (c .before .role-of .ensures .0) ∙ c .match .keys2))) (search needs)
-    (λ c κs. let p = c .before .before .before .before .pre in (p .0, kind-role _ _ (p .1) (sym (c .before .role-of .ensures .0) ∙ c .match .keys3))) returns returns-2 returns-3 returns-4)
+    (λ c κs. let p = c .before .before .before .before .pre in (p .0, kind-role _ _ (p .1) (sym (c .before .role-of .ensures .0) ∙ c .match .keys2)))
+    (search needs)
+    (λ c κs. let p = c .before .before .before .before .pre in (
+      p .0,
+      kind-role _ _ (p .1)
+          (sym (c .before .role-of .ensures .0) ∙ c .match .keys3),
+    )) returns returns-2 returns-3 returns-4)

@@ -22,7 +22,8 @@ loop-holds c = some-start _ _ 0 (search needs) (λ j h. absurd (omega arith))
 returns : tie.Need-returns Inv-loop μ-loop
 returns c =
     let l = c .before .before .before in
-    rw (← l .before .node-count .ensures .0) (some-stop (l .loop .inv) (c .before .before .loop-test .taken) (sym (c .before .base-child .ensures) ∙ c .if1 .taken))
+    rw (← l .before .node-count .ensures .0) (some-stop (l .loop .inv) (c .before .before .loop-test .taken)
+    (sym (c .before .base-child .ensures) ∙ c .if1 .taken))
 
 loop-again : tie.Need-loop-again Inv-loop μ-loop
 loop-again c = some-more (c .before .before .before .loop .inv) (c .before .before .loop-test .taken) (sym (c .before .base-child .ensures) ∙ c .if1 .left)

@@ -1,14 +1,14 @@
 -- The slot of the parent tells it.
-use mathlib.Core.Path.{sym, _∙_}
-use Prim.Native.Nat.{_<_}
+use mathlib.Core.Path.{_≡_, refl, sym, _∙_}
+use Prim.Native.Nat.{ℕ, _<_}
 use borrow.Author.Needs.{needs}
 use borrow.Author.Tests.{eq-eqb, ne-eqb}
 use Rattle.model.specs.Lists.{row}
 use Rattle.model.specs.Bytes.{text}
-use Rattle.model.specs.Image.{nodeCount}
-use Rattle.index.specs.Index.{Index}
+use Rattle.model.specs.Image.{treeOf, nodeCount}
+use Rattle.index.specs.Index.{kind, Index}
 use Rattle.labels.proofs.Nodes.{parent-inside}
-use Rattle.sids.specs.Groups.{isRequired}
+use Rattle.sids.specs.Groups.{requiredUnder, isRequired}
 use Rattle.sids.proofs.required.is_required.Statement.{statement}
 use Rattle.sids.proofs.required.is_required.Tie as tie
 
@@ -23,39 +23,46 @@ kind-of-requires c κs =
 
 -- the parent, and its kind
 module _ (c : tie.After-kind-of) where
-  up-known : Index (c .before .before .before .before .before .args .image .now) (c .before .before .before .before .before .args .index .now) × (c .before .parent-of .result < nodeCount (c .before .before .before .before .before .args .image .now))
-  up-known = kind-of-requires (c .before) (c .before .before .before .before .before .κs)
+  abbrev start : tie.Start
+  start = c .before .before .before .before .before
+
+  up-known : {k : ℕ} → c .kind-of .result ≡ k
+      → (Index (start .args .image .now) (start .args .index .now) × (c .before .parent-of .result < nodeCount (start .args .image .now)))
+      × (kind (treeOf (start .args .image .now)) (c .before .parent-of .result) ≡ k)
+  up-known e = (kind-of-requires (c .before) (start .κs), sym (c .kind-of .ensures .0) ∙ e)
+
+  under : {k : ℕ} → c .kind-of .result ≡ k
+      → isRequired (treeOf (start .args .image .now)) (start .args .i) ≡ requiredUnder (treeOf (start .args .image .now)) k (start .args .i)
+  unfolding isRequired
+  under e = rw (ne-eqb _ 0 (c .before .before .if1 .left), ← c .before .parent-of .ensures .0, sym (c .kind-of .ensures .0) ∙ e)
 
 returns-2 : tie.Need-returns-2
-unfolding isRequired row text
+unfolding row text
 returns-2 c =
     let k = c .before .before in
-    rw (ne-eqb _ 0 (k .before .before .if1 .left), ← k .before .parent-of .ensures .0, sym (k .kind-of .ensures .0) ∙ c .before .match .keys1, ← c .zone-type .ensures .0)
+    rw (under k (c .before .match .keys1), ← k .before .parent-of .ensures .0, ← c .zone-type .ensures .0)
 
 returns-3 : tie.Need-returns-3
-unfolding isRequired row text
+unfolding row text
 returns-3 c =
     let r = c .before in
     let k = r .before .before in
-    rw (ne-eqb _ 0 (k .before .before .if1 .left), ← k .before .parent-of .ensures .0, sym (k .kind-of .ensures .0) ∙ r .before .match .keys2, ← r .range .ensures .0, eq-eqb _ _ (c .if2 .taken))
+    rw (under k (r .before .match .keys2), ← k .before .parent-of .ensures .0, ← r .range .ensures .0, eq-eqb _ _ (c .if2 .taken))
 
 returns-4 : tie.Need-returns-4
-unfolding isRequired row text
+unfolding row text
 returns-4 c =
-    let d = c .before in
-    let r = d .before in
+    let r = c .before .before in
     let k = r .before .before in
-    rw (ne-eqb _ 0 (k .before .before .if1 .left), ← k .before .parent-of .ensures .0, sym (k .kind-of .ensures .0) ∙ r .before .match .keys2, ← r .range .ensures .0, ne-eqb _ _ (d .if2 .left), ← c .connectivity .ensures .0)
+    let u = k .before .parent-of .ensures .0 in
+    rw (under k (r .before .match .keys2), ← u, ← r .range .ensures .0, ne-eqb _ _ (c .before .if2 .left), ← c .connectivity .ensures .0)
 
 returns-5 : tie.Need-returns-5
-unfolding isRequired row
-returns-5 c =
-    let k = c .before in
-    let m = c .match .rest in
-    rw (ne-eqb _ 0 (k .before .before .if1 .left), ← k .before .parent-of .ensures .0, ← k .kind-of .ensures .0, ne-eqb _ 3 (m .0 .1), ne-eqb _ 7 (m .1))
+unfolding row
+returns-5 c = let m = c .match .rest in rw (under (c .before) refl, ne-eqb _ 3 (m .0 .1), ne-eqb _ 7 (m .1))
 
 pub is-required-spec : {M : Type 1} → statement M
 is-required-spec =
-    tie.close (tie.spec returns (search needs) kind-of-requires (λ c κs. (up-known (c .before), sym (c .before .kind-of .ensures .0) ∙ c .match .keys1))
-    (λ c κs. (up-known (c .before), sym (c .before .kind-of .ensures .0) ∙ c .match .keys2))
-    (λ c κs. let m = c .before .before in (up-known (m .before), sym (m .before .kind-of .ensures .0) ∙ m .match .keys2)) returns-2 returns-3 returns-4 returns-5)
+    tie.close (tie.spec returns (search needs) kind-of-requires (λ c κs. up-known (c .before) (c .match .keys1))
+    (λ c κs. up-known (c .before) (c .match .keys2))
+    (λ c κs. let m = c .before .before in up-known (m .before) (m .match .keys2)) returns-2 returns-3 returns-4 returns-5)

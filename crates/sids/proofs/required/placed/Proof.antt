@@ -23,7 +23,9 @@ unstructured-requires c κs =
 
 returns-3 : tie.Need-returns-3
 unfolding _⊃_
-returns-3 c = rw (sym (c .before .before .before .may-hold .ensures) ∙ not-false _ (c .before .before .if1 .left), eq-eqb _ 7 (c .before .if2 .left)) (c .unstructured .ensures)
+returns-3 c =
+    rw (sym (c .before .before .before .may-hold .ensures) ∙ not-false _ (c .before .before .if1 .left), eq-eqb _ 7 (c .before .if2 .left))
+    (c .unstructured .ensures)
 
 pub placed-spec : {M : Type 1} → statement M
 placed-spec = tie.close (tie.spec (search needs) returns returns-2 unstructured-requires returns-3)

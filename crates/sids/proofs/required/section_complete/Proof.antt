@@ -1,3 +1,4 @@
+-- Both are found.
 use borrow.Author.Needs.{needs}
 use borrow.Author.Tests.{lt-ltb, le-ltb}
 use Rattle.model.specs.Image.{treeOf}
@@ -7,7 +8,9 @@ use Rattle.sids.proofs.required.section_complete.Tie as tie
 
 returns : tie.Need-returns
 unfolding found treeOf
-returns c = rw (← c .before .before .range-of .ensures .0, ← c .connectivity-of .ensures .0, ← c .before .before .before .node-count .ensures .0, lt-ltb _ _ (c .before .if1 .taken))
+returns c =
+    let r = c .before .before in
+    rw (← r .range-of .ensures .0, ← c .connectivity-of .ensures .0, ← r .before .node-count .ensures .0, lt-ltb _ _ (c .before .if1 .taken))
 
 returns-2 : tie.Need-returns-2
 unfolding found treeOf

@@ -1,6 +1,6 @@
 -- The root passes; below it the roles decide 20 and 21, and 22 is then not broken.
 use mathlib.Core.Path.{_≡_, sym, ap, _∙_}
-use mathlib.Core.Bool.{Bool, not}
+use mathlib.Core.Bool.{not}
 use borrow.Author.Needs.{needs}
 use borrow.Author.Tests.{not-true, not-false}
 use Rattle.model.specs.Image.{treeOf}
@@ -13,34 +13,36 @@ use Rattle.sids.proofs.Once.{never-second, root-place, placed-is}
 use Rattle.sids.proofs.stages.place_stage.Statement.{statement}
 use Rattle.sids.proofs.stages.place_stage.Tie as tie
 
+-- what the test of rule 20 tells
 module _ (c : tie.After-placed) where
-  abbrev in-place : Bool
-  in-place = c .placed .result
+  abbrev start : tie.Start
+  start = c .before .before .before .before .before .before .before
 
-  place-is : placed (treeOf (c .before .before .before .before .before .before .before .args .image .now)) (c .before .before .before .before .before .before .before .args .i) ≡ in-place
-  place-is = placed-is _ _ (c .before .before .before .before .if1 .left) (c .before .before .before .parent-of .ensures .0) (c .before .before .role-of .ensures .0) (c .before .role-of2 .ensures .0) (c .placed .ensures)
+  place-is : placed (treeOf (start .args .image .now)) (start .args .i) ≡ c .placed .result
+  place-is =
+      let u = c .before .before .before in
+      placed-is _ _ (u .before .if1 .left) (u .parent-of .ensures .0) (c .before .before .role-of .ensures .0) (c .before .role-of2 .ensures .0)
+      (c .placed .ensures)
 
 returns : tie.Need-returns
 returns c = root-place _ _ (c .if1 .taken)
 
+-- the parent is a validated node
 role-of-requires : tie.Need-role-of-requires
 role-of-requires c κs =
     let a = c .before .before .before .before in
     let p = a .pre in
     let b = a .args .image .now in
+    let i = a .args .i in
     let e = c .parent-of .ensures .0 in
     let n = c .before .if1 .left in
-    ((p .1, parent-inside b (a .args .i) (p .1 .sound) (p .0 .0 .inside) n e), rw e (validated-above b (p .1 .sound) (a .args .i) (p .0 .0 .inside) n (p .0 .1)))
+    ((p .1, parent-inside b i (p .1 .sound) (p .0 .0 .inside) n e), rw e (validated-above b (p .1 .sound) i (p .0 .0 .inside) n (p .0 .1)))
 
 placed-requires : tie.Need-placed-requires
 placed-requires c κs =
-    let a = c .before .before .before .before .before .before in
-    let p = a .pre in
-    let b = a .args .image .now in
-    let e = c .before .before .parent-of .ensures .0 in
-    let n = c .before .before .before .if1 .left in
+    let u = role-of-requires (c .before .before) κs in
     let r = c .before .role-of .ensures in
-    ((p .1, parent-inside b (a .args .i) (p .1 .sound) (p .0 .0 .inside) n e), ((rw e (validated-above b (p .1 .sound) (a .args .i) (p .0 .0 .inside) n (p .0 .1)), r .0), (r .1, c .role-of2 .ensures .1)))
+    (u .0, ((u .1, r .0), (r .1, c .role-of2 .ensures .1)))
 
 returns-2 : tie.Need-returns-2
 returns-2 c = c .reject .ensures ∙ sym (broken _ 20 _ (place-is (c .before .before) ∙ not-true _ (c .before .if2 .taken)))
@@ -56,7 +58,8 @@ named-requires c κs =
 returns-3 : tie.Need-returns-3
 returns-3 c =
     let d = c .before .before .before .before in
-    c .reject2 .ensures ∙ sym (kept _ 20 _ (place-is d ∙ not-false _ (c .before .before .before .if2 .left)) ∙ broken _ 21 _ (sym (c .before .before .named .ensures) ∙ not-true _ (c .before .if3 .taken)))
+    c .reject2 .ensures ∙ sym (kept _ 20 _ (place-is d ∙ not-false _ (c .before .before .before .if2 .left)) ∙ broken _ 21 _
+    (sym (c .before .before .named .ensures) ∙ not-true _ (c .before .if3 .taken)))
 
 returns-4 : tie.Need-returns-4
 returns-4 c =
@@ -64,8 +67,10 @@ returns-4 c =
     let a = d .before .before .before .before .before .before .before in
     let p = place-is d ∙ not-false _ (c .before .before .if2 .left) in
     let q = sym (c .before .named .ensures) ∙ not-false _ (c .if3 .left) in
-    sym (kept _ 20 _ p ∙ kept _ 21 _ q ∙ kept _ 22 _ (ap not (never-second (a .args .image .now) (a .args .i) (a .pre .0 .0) (a .pre .1) (a .pre .0 .1) p q)) ∙ no-rule _)
+    sym (kept _ 20 _ p ∙ kept _ 21 _ q ∙ kept _ 22 _ (ap not (never-second (a .args .image .now) (a .args .i) (a .pre .0 .0) (a .pre .1) (a .pre .0 .1) p q))
+    ∙ no-rule _)
 
 pub place-stage-spec : {M : Type 1} → statement M
 place-stage-spec =
-    tie.close (tie.spec returns (search needs) role-of-requires (λ c κs. search needs) placed-requires (search needs) returns-2 named-requires (search needs) returns-3 returns-4)
+    tie.close (tie.spec returns (search needs) role-of-requires (λ c κs. search needs) placed-requires (search needs) returns-2 named-requires
+    (search needs) returns-3 returns-4)

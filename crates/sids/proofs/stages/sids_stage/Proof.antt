@@ -20,7 +20,8 @@ content-stage-requires c κs =
 returns-2 : tie.Need-returns-2
 returns-2 c =
     let d = c .before .before .before in
-    go (d .before .before .place-stage .ensures) (d .enum-told .given .1) (stop (c .before .before .content-stage .ensures) _ (c .enum-told4 .given .1)) ∙ sym (sids-groups _ _)
+    go (d .before .before .place-stage .ensures) (d .enum-told .given .1) (stop (c .before .before .content-stage .ensures) _ (c .enum-told4 .given .1)) ∙ sym
+    (sids-groups _ _)
 
 sizes-lawful-requires : tie.Need-sizes-lawful-requires
 sizes-lawful-requires c κs =
@@ -47,5 +48,6 @@ returns-4 c =
 
 pub sids-stage-spec : {M : Type 1} → statement M
 sids-stage-spec =
-    tie.close (tie.spec (λ c κs. search needs) (search needs) (search needs) returns content-stage-requires (search needs) (search needs) returns-2 sizes-lawful-requires
+    tie.close (tie.spec (λ c κs. search needs) (search needs) (search needs) returns content-stage-requires (search needs)
+    (search needs) returns-2 sizes-lawful-requires
     (search needs) returns-3 returns-4)

@@ -42,7 +42,9 @@ unfolding sizesLawful _⊃_
 returns-2 c =
     let d = c .before .before .before in
     let a = start d .args in
-    rw (is-array d) (c .same-shape .ensures ∙ ap (shaped (treeOf (a .image .now)) (a .i)) (sibling-sizes (a .image .now) (a .i) (d .parent-of .result) (start d .pre .0 .0) (is-array d) (d .parent-of .ensures .0) (sym (c .before .before .follows-array .ensures) ∙ c .before .if2 .taken)))
+    rw (is-array d) (c .same-shape .ensures ∙ ap (shaped (treeOf (a .image .now)) (a .i))
+    (sibling-sizes (a .image .now) (a .i) (d .parent-of .result) (start d .pre .0 .0) (is-array d) (d .parent-of .ensures .0)
+    (sym (c .before .before .follows-array .ensures) ∙ c .before .if2 .taken)))
 
 parent-of-requires-2 : tie.Need-parent-of-requires-2
 parent-of-requires-2 c κs =

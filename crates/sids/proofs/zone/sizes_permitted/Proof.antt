@@ -1,3 +1,4 @@
+-- The zone's type decides.
 use borrow.Author.Needs.{needs}
 use Rattle.sids.proofs.zone.sizes_permitted.Statement.{statement}
 use Rattle.sids.proofs.zone.sizes_permitted.Tie as tie

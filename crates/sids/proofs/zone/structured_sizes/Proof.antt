@@ -1,3 +1,4 @@
+-- Four tests, one after the other.
 use native.Mathlib.Omega.{arith}
 use Prim.Native.Nat.{_+_}
 use mathlib.Core.Path.{_≡_}

@@ -1,3 +1,4 @@
+-- Four tests, one after the other.
 use borrow.Author.Tests.{lt-leb, le-leb}
 use Rattle.sids.proofs.zone.unstructured_sizes.Statement.{statement}
 use Rattle.sids.proofs.zone.unstructured_sizes.Tie as tie

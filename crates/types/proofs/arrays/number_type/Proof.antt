@@ -1,3 +1,4 @@
+-- Four data types, two by two.
 use mathlib.Core.Path.{_∙_}
 use borrow.Author.Needs.{needs}
 use Rattle.model.proofs.Joins.{or-done, or-on}

@@ -1,3 +1,4 @@
+-- The name decides which types are lawful.
 use mathlib.Core.Path.{_∙_, sym}
 use borrow.Author.Needs.{needs}
 use borrow.Author.Tests.{not-true, not-false}
@@ -21,7 +22,8 @@ returns-3 : tie.Need-returns-3
 unfolding sectionArrayType
 returns-3 c =
     let e = c .before in
-    rw (sym (e .before .before .index-array .ensures) ∙ not-false _ (e .before .if1 .left)) (c .if2 .left ∙ and-done _ (e .typed-either .ensures) (c .if2 .left))
+    rw (sym (e .before .before .index-array .ensures) ∙ not-false _ (e .before .if1 .left))
+    (c .if2 .left ∙ and-done _ (e .typed-either .ensures) (c .if2 .left))
 
 pub section-array-type-spec : {M : Type 1} → statement M
 section-array-type-spec = tie.close (tie.spec (λ c κs. search needs) (search needs) returns (search needs) (search needs) returns-2 returns-3)

@@ -1,3 +1,4 @@
+-- IndexDimension of the zone two above tells the one dimension.
 use borrow.Author.Needs.{needs}
 use Rattle.model.specs.Values.{zoneAbove}
 use Rattle.types.proofs.lawful.rind_shape.Statement.{statement}

@@ -1,3 +1,4 @@
+-- IndexDimension tells the first dimension.
 use borrow.Author.Needs.{needs}
 use Rattle.types.proofs.lawful.zone_shape.Statement.{statement}
 use Rattle.types.proofs.lawful.zone_shape.Tie as tie

@@ -1,3 +1,4 @@
+-- The record says how many dimensions there are.
 use mathlib.Core.Path.{ap}
 use borrow.Author.Needs.{needs}
 use Rattle.model.specs.Values.{flat}

@@ -53,7 +53,8 @@ dimension-requires-2 c κs =
 returns-2 : tie.Need-returns-2 Inv-loop μ-loop
 returns-2 c =
     let l = c .before .before .before .before .loop in
-    same-off _ _ (l .k) (omega arith) (omega arith) (λ e. c .if2 .taken (c .before .before .dimension .ensures ∙ e ∙ sym (c .before .dimension2 .ensures))) ∙ l .inv .1
+    same-off _ _ (l .k) (omega arith) (omega arith) (λ e. c .if2 .taken (c .before .before .dimension .ensures ∙ e ∙ sym (c .before .dimension2 .ensures)))
+    ∙ l .inv .1
 
 loop-again : tie.Need-loop-again Inv-loop μ-loop
 loop-again c =

@@ -45,14 +45,16 @@ unfolding shaped
 returns-2 c =
     let l = c .before .before .before in
     let a = l .before .before .before .before .before .args in
-    first-off _ (a .t4) (a .n) (l .loop .k) (rank-is _ _ ∙ l .loop .inv .0 .1) (l .loop .inv .0 .2) (search needs) (λ e. c .if2 .taken (c .before .dimension .ensures ∙ e)) ∙ l .loop .inv .1
+    first-off _ (a .t4) (a .n) (l .loop .k) (rank-is _ _ ∙ l .loop .inv .0 .1) (l .loop .inv .0 .2) (search needs)
+    (λ e. c .if2 .taken (c .before .dimension .ensures ∙ e)) ∙ l .loop .inv .1
 
 loop-again : tie.Need-loop-again Inv-loop μ-loop
 loop-again c =
     let l = c .before .before .before in
     let a = l .before .before .before .before .before .args in (
       (search needs, l .loop .inv .0 .1, l .loop .inv .0 .2),
-      first-on _ (a .t4) (a .n) (l .loop .k) (rank-is _ _ ∙ l .loop .inv .0 .1) (l .loop .inv .0 .2) (search needs) (sym (c .before .dimension .ensures) ∙ c .if2 .left) ∙ l .loop .inv .1,
+      first-on _ (a .t4) (a .n) (l .loop .k) (rank-is _ _ ∙ l .loop .inv .0 .1) (l .loop .inv .0 .2) (search needs)
+          (sym (c .before .dimension .ensures) ∙ c .if2 .left) ∙ l .loop .inv .1,
     )
 
 returns-3 : tie.Need-returns-3 Inv-loop μ-loop

@@ -1,3 +1,4 @@
+-- Numbers from half of the patterns on are negative.
 use borrow.Author.Needs.{needs}
 use Rattle.model.specs.Values.{notNegative}
 use Rattle.types.proofs.stored_numbers.not_negative.Statement.{statement}

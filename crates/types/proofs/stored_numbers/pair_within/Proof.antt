@@ -1,3 +1,4 @@
+-- Three tests, one after the other.
 use borrow.Author.Needs.{needs}
 use borrow.Author.Tests.{lt-leb, le-leb}
 use Rattle.types.proofs.StoredNumbers.{has-less}

@@ -32,12 +32,16 @@ loop-holds c = (c .dimension .ensures, rw (← c .dimension .ensures) (every-sta
 not-negative-requires : tie.Need-not-negative-requires Inv-loop μ-loop
 not-negative-requires c κs =
     let d = c .before .before .before .before in
-    let a = d .args in
-    (search needs, has-flat (a .image .now) (d .pre .0 .0) (a .i) (search needs) (whole-four _ _ (d .pre .1 .0)) (d .pre .1 .1) (c .before .loop .k) (search needs))
+    let a = d .args in (
+      search needs,
+      has-flat (a .image .now) (d .pre .0 .0) (a .i) (search needs) (whole-four _ _ (d .pre .1 .0)) (d .pre .1 .1) (c .before .loop .k)
+          (search needs),
+    )
 
 returns : tie.Need-returns Inv-loop μ-loop
 returns c =
-    every-stop (c .before .before .before .loop .inv .1) (c .before .before .loop-test .taken) (sym (c .before .not-negative .ensures) ∙ not-true _ (c .if1 .taken))
+    every-stop (c .before .before .before .loop .inv .1) (c .before .before .loop-test .taken)
+    (sym (c .before .not-negative .ensures) ∙ not-true _ (c .if1 .taken))
 
 loop-again : tie.Need-loop-again Inv-loop μ-loop
 loop-again c =
@@ -48,4 +52,5 @@ returns-2 : tie.Need-returns-2 Inv-loop μ-loop
 returns-2 c = every-done (c .before .loop .inv .1) (c .loop-test .left)
 
 pub rind-value-spec : {M : Type 1} → statement M
-rind-value-spec = tie.close (tie.spec Inv-loop μ-loop dimension-requires loop-holds not-negative-requires returns (search needs) (search needs) loop-again returns-2)
+rind-value-spec =
+    tie.close (tie.spec Inv-loop μ-loop dimension-requires loop-holds not-negative-requires returns (search needs) (search needs) loop-again returns-2)

@@ -1,3 +1,4 @@
+-- One of the two texts.
 use borrow.Author.Needs.{needs}
 use Rattle.model.specs.Bytes.{text}
 use Rattle.model.specs.Values.{locationValue}

@@ -1,3 +1,4 @@
+-- The data bytes against the text.
 use native.Mathlib.Omega.{arith}
 use mathlib.Core.Path.{_≡_, ap}
 use borrow.Author.Needs.{needs}

@@ -1,3 +1,4 @@
+-- One text, then the other.
 use mathlib.Core.Path.{_∙_}
 use borrow.Author.Needs.{needs}
 use Rattle.model.proofs.Joins.{or-done, or-on}

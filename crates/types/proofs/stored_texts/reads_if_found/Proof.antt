@@ -1,3 +1,4 @@
+-- A missing node has no data.
 use native.Mathlib.Omega.{arith}
 use Prim.Native.Nat.{_≤_}
 use mathlib.Core.Path.{sym}

@@ -25,8 +25,10 @@ data-sizes-requires : tie.Need-data-sizes-requires
 data-sizes-requires c κs =
     let u = c .before .before in
     let p = u .before .before .before .pre in
-    let n = c .index-dimension .ensures in
-    ((p .0 .1, rw (u .parent-of .ensures .0) (accepted-sized _ (p .0 .0) _ (p .1 .0) (p .1 .1 .1) (p .1 .1 .0))), (n .0 ∙ ap (indexDimension _) (c .before .parent-of2 .ensures .0), n .2))
+    let n = c .index-dimension .ensures in (
+      (p .0 .1, rw (u .parent-of .ensures .0) (accepted-sized _ (p .0 .0) _ (p .1 .0) (p .1 .1 .1) (p .1 .1 .0))),
+      (n .0 ∙ ap (indexDimension _) (c .before .parent-of2 .ensures .0), n .2),
+    )
 
 returns : tie.Need-returns
 returns c =
@@ -36,7 +38,8 @@ returns c =
     let t = treeOf (q .before .before .before .before .args .image .now) in
     let e = n .ensures .0 ∙ ap (indexDimension t) (q .parent-of2 .ensures .0) in
     rw (← u .ensures .0)
-    (sizes-answered t (u .result) (n .result) (c .data-sizes .result) e (n .ensures .1) (n .ensures .2) (c .data-sizes .ensures ∙ ap (directions (dataSize t (u .result))) e))
+    (sizes-answered t (u .result) (n .result) (c .data-sizes .result) e (n .ensures .1) (n .ensures .2)
+    (c .data-sizes .ensures ∙ ap (directions (dataSize t (u .result))) e))
 
 pub array-sizes-spec : {M : Type 1} → statement M
 array-sizes-spec =
