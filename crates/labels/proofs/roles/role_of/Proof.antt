@@ -66,6 +66,6 @@ returns-2 c =
 
 pub role-of-spec : {M : Type 1} → statement M
 role-of-spec =
-    tie.close (tie.spec returns (search needs) (search needs) (search needs) (search needs) (search needs) (search needs) (search needs) (search needs) (search needs)
-    (search needs) (search needs) (search needs) returns-2 (λ c. let d = c .before in absent (known d) (λ h. sym (spelled d) ∙ c .if3 .left))
+    tie.close (tie.spec returns (search needs) (search needs) (search needs) (search needs) (search needs) (search needs) (search needs) (search needs)
+    (search needs) (search needs) (search needs) (search needs) returns-2 (λ c. let d = c .before in absent (known d) (λ h. sym (spelled d) ∙ c .if3 .left))
     (λ c. absent (c .before) (λ h. absurd (omega arith))))

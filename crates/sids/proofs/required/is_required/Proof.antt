@@ -63,5 +63,6 @@ returns-5 c = let m = c .match .rest in rw (under (c .before) refl, ne-eqb _ 3 (
 
 pub is-required-spec : {M : Type 1} → statement M
 is-required-spec =
-    tie.close (tie.spec returns (search needs) kind-of-requires (λ c κs. up-known (c .before) (c .match .keys1)) (λ c κs. up-known (c .before) (c .match .keys2))
+    tie.close (tie.spec returns (search needs) kind-of-requires (λ c κs. up-known (c .before) (c .match .keys1))
+    (λ c κs. up-known (c .before) (c .match .keys2))
     (λ c κs. let m = c .before .before in up-known (m .before) (m .match .keys2)) returns-2 returns-3 returns-4 returns-5)

@@ -38,7 +38,8 @@ module _ (c : tie.After-role-of2) where
   by-parent : sizedArray (treeOf (start .args .image .now)) (start .args .i) ≡ (eqb (c .role-of2 .result) 5 || (eqb (c .role-of2 .result) 6 || false))
   unfolding sizedArray among
   by-parent =
-      rw (← c .before .before .before .role-of .ensures .0, eq-eqb _ 11 (c .before .before .if1 .left), ← c .before .parent-of .ensures .0, ← c .role-of2 .ensures .0)
+      let r = c .before .before .before .role-of .ensures .0 in
+      rw (← r, eq-eqb _ 11 (c .before .before .if1 .left), ← c .before .parent-of .ensures .0, ← c .role-of2 .ensures .0)
 
 returns-2 : tie.Need-returns-2
 returns-2 c = rw (by-parent (c .before), eq-eqb _ 5 (c .if2 .taken))

@@ -31,7 +31,8 @@ returns-3 c =
     let e = c .before .before in
     let d = e .before .before .before in
     let s = sym (e .before .text-shape .ensures) ∙ not-false _ (e .if2 .left) in
-    (rw (← d .zone-type .ensures .0, s, sym (c .before .zone-type-value .ensures) ∙ not-true _ (c .if3 .taken)) (d .before .node-count .ensures .0), search needs)
+    let v = sym (c .before .zone-type-value .ensures) ∙ not-true _ (c .if3 .taken) in
+    (rw (← d .zone-type .ensures .0, s, v) (d .before .node-count .ensures .0), search needs)
 
 returns-4 : tie.Need-returns-4
 unfolding zoneTypeOf text treeOf orMissing
