@@ -23,9 +23,3 @@ bits-below (negsuc n) f t = omega arith
 pub bits-above : (z : ℤ) → SFits w64 z → ltZ (toZ w64 (ofZ w64 z)) (pos 0) ≡ false → natAbs z ≡ ofZ w64 z
 bits-above (pos n) f t = refl
 bits-above (negsuc n) f t = absurd (up w64 (negsuc n) f t .0)
-
-pub single-no-nan : {v : ArrayValue} (x : Float) → NanCases v → v ≡ Single x → T (not (isNan x))
-single-no-nan x h e = rw (rw e at h) tt
-
-pub double-no-nan : {v : ArrayValue} (x : Float) → NanCases v → v ≡ Double x → T (not (isNan x))
-double-no-nan x h e = rw (rw e at h) tt

@@ -7,18 +7,10 @@ use lib.Dec.{leb}
 use borrow.Author.Tests.{leb-true, ne-eqb}
 use Rattle.model.specs.Lists.{Row, _has_, row}
 use Rattle.model.specs.Elements.{nodesPer}
+use Rattle.model.proofs.Logic.{NoneOf, none-known}
 
 pub listed : {e k n : ℕ} → e ≡ k → n ≡ nodesPer k → leb n 27 ≡ true → (n ≡ nodesPer e) × (n ≤ 27)
 listed {n = n} e h l = (rw e h, leb-true n 27 l)
-
--- none of the keys, beside what is known before
-abbrev pub NoneOf : Type 0 → List ℕ → ℕ → Type 0
-NoneOf A [] e = A
-NoneOf A (k ∷ ks) e = NoneOf (A × (e ≡ k → ⊥)) ks e
-
-known : (A : Type 0) (ks : List ℕ) (e : ℕ) → NoneOf A ks e → A
-known A [] e h = h
-known A (k ∷ ks) e h = known (A × (e ≡ k → ⊥)) ks e h .0
 
 keysOf : List (Row ℕ) → List ℕ
 keysOf [] = []
@@ -28,7 +20,7 @@ row-none : (A : Type 0) (rows : List (Row ℕ)) (e default : ℕ) → NoneOf A (
 unfolding row keysOf
 row-none A [] e default h = refl
 row-none A ((k has v) ∷ rows) e default h =
-    simp (ne-eqb e k (known (A × (e ≡ k → ⊥)) (keysOf rows) e h .1)) (row-none (A × (e ≡ k → ⊥)) rows e default h)
+    simp (ne-eqb e k (none-known (A × (e ≡ k → ⊥)) (keysOf rows) e h .1)) (row-none (A × (e ≡ k → ⊥)) rows e default h)
 
 pub unlisted : (e : ℕ)
     → NoneOf Unit (2 ∷ 3 ∷ 4 ∷ 5 ∷ 6 ∷ 7 ∷ 8 ∷ 9 ∷ 10 ∷ 11 ∷ 12 ∷ 13 ∷ 14 ∷ 15 ∷ 16 ∷ 17 ∷ 18 ∷ 19 ∷ 21 ∷ []) e

@@ -18,13 +18,14 @@ use Rattle.model.specs.Elements.{nodesPer, hasOffsets, elementType, elementCoun
 use Rattle.model.specs.Elements.{endsAtLength}
 use Rattle.model.specs.Corner.{numberAt}
 use Rattle.model.proofs.Bounds.{node-placed}
-use Rattle.types.proofs.StoredNumbers.{rank-is, flat-is}
+use Rattle.types.proofs.StoredNumbers.{flat-is}
 use Rattle.rows.specs.declared.Row.{Row}
 use Rattle.elements.specs.Arrays.{risesAt, offsetRules}
 use Rattle.elements.specs.Groups.{shapeRules}
 use Rattle.elements.specs.Given.{Indexed, RowOf, SectionContext}
 use Rattle.elements.proofs.RuleLaws.{row-number}
 use Rattle.elements.proofs.Agree.{every-same}
+use Rattle.model.proofs.Reading.{rank-is}
 
 -- past the last node there are no dimensions
 nodes-past : (n : ℕ) (s : List ℕ) (i : ℕ) → n ≤ i → getD (nodesOf n s) i (nodeOf []) ≡ nodeOf []

@@ -24,16 +24,13 @@ use Rattle.model.proofs.Reading.{number-at}
 use Rattle.model.proofs.Conforming.{conforming-inside, conforming-type, conforming-value, conforming-role, conforming-parent, conforming-name}
 use Rattle.words.specs.Width.{isWidth}
 use Rattle.types.specs.Given.{HasNumber}
-use Rattle.types.proofs.StoredNumbers.{whole-wide, shaped-is, flat-is, bytes-are}
+use Rattle.types.proofs.StoredNumbers.{whole-wide, shaped-is, flat-is, bytes-are, scaled}
 use Rattle.rows.specs.Rows.{Numbers}
 use Rattle.elements.specs.Given.{Stores, Indexed, Ranged}
 
 -- where a node's numbers start
 abbrev pub startOf : List ℕ → ℕ → ℕ
 startOf b j = treeOf b .areaAt + node (treeOf b) j .dataAt
-
-scaled : (w k n : ℕ) → k < n → w * k + w ≤ n * w
-scaled w k n h = rw (← mul-suc w k, mul-comm n w) (mul-le-mul-left w h)
 
 module _ {b : List ℕ} (s : Sound b) {j n : ℕ} (a : Stores b j n) where
   pub stores-has : (k : ℕ) → k < n → HasNumber b j k

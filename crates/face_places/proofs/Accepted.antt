@@ -15,7 +15,7 @@ use Rattle.model.specs.Values.{sidsRules, typed, typeLawful, valueLawful, range
 use Rattle.model.specs.Elements.{NGON, NFACE, elementType, firstElement, lastElement, elementCount, inRange, connectivityLength, elementRules}
 use Rattle.model.specs.Elements.{faceSection, hasFace, faceOf, faceNumber, isFace, allFaces}
 use Rattle.model.specs.FaceUsage.{facesIn, faceCount, facePlace}
-use Rattle.model.proofs.Logic.{untrue, and-first, and-second, when}
+use Rattle.model.proofs.Logic.{untrue, and-first, and-second, when, and-true}
 use Rattle.model.proofs.Walks.{every-at, some-at, seek-holds, seek-before, sum-part}
 use Rattle.model.proofs.Accepted.{sids-rule}
 use Rattle.model.proofs.Conforming.{section-is, conforming-inside, conforming-parent, conforming-role}
@@ -31,10 +31,6 @@ use Rattle.elements.specs.Given.{Ranged}
 use Rattle.elements.proofs.Stored.{type-section, range-ready, stores-has}
 use Rattle.face_places.specs.declared.zone_sections.Span.{Span}
 use Rattle.face_places.specs.ZoneSections.{Section, Spans}
-
-and-true : (a : Bool) → (a && true) ≡ a
-and-true true = refl
-and-true false = refl
 
 pub count-read : {b : List ℕ} {s : ℕ} {r : Span} → Spans b s r → elementCount (treeOf b) s ≡ r .last - r .first + 1
 unfolding elementCount

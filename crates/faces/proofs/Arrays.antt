@@ -21,13 +21,13 @@ use Rattle.model.proofs.InZone.{role-is, connectivity, offsets, offsets-size}
 use Rattle.rows.specs.declared.Row.{Row}
 use Rattle.rows.specs.Rows.{endsAfterAt}
 use Rattle.index.specs.Index.{Index}
-use Rattle.types.proofs.StoredNumbers.{rank-is}
 use Rattle.elements.specs.Given.{Stores, Indexed}
 use Rattle.elements.proofs.Stored.{startOf, stores-row, stores-number, connectivity-stores, offsets-stores}
 use Rattle.face_places.specs.declared.zone_sections.Span.{Span}
 use Rattle.face_places.specs.ZoneSections.{Cells, Spans}
 use Rattle.faces.specs.Uses.{RowOf, References}
 use Rattle.face_places.proofs.Accepted.{section-by, own-zone, count-read, cells-faces}
+use Rattle.model.proofs.Reading.{rank-is}
 
 -- the numbers of node j, as they were read
 pub row-read : {b : List ℕ} → Sound b → {j n : ℕ} → Stores b j n → {at w : ℕ} → at ≡ startOf b j → w ≡ width (treeOf b) j

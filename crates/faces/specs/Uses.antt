@@ -16,7 +16,7 @@ use Rattle.model.specs.Corner.{numberAt}
 use Rattle.model.specs.FaceUsage.{faceCount, facePlace, unused, usesIn}
 use Rattle.rows.specs.declared.Row.{Row}
 use Rattle.rows.specs.Rows.{Numbers}
-use Rattle.ledger.specs.Marks.{signOf, afterUse}
+use Rattle.usage_bytes.specs.Marks.{signOf, afterUse}
 use Rattle.faces.specs.declared.uses.Faces.{Faces}
 use Rattle.face_places.specs.ZoneSections.{Cells}
 use Rattle.face_places.specs.Ranges.{Ranges}

@@ -14,13 +14,13 @@ ghost use Rattle.index.specs.Index.{Index};
 ghost use Rattle.faces.specs.Uses.{Tables, UsedAt, Used};
 use super::cells::element_holding;
 use super::cells::references_of;
-use ledger::use_face;
 use model::Rejection;
 use model::Stage;
 use ranges::Spread;
 use rows::Row;
 use rows::is_negative;
 use rows::magnitude_at;
+use usage_bytes::use_face;
 
 // The faces of a zone in the tables: how many entries there are, and how a face's hint is found.
 pub struct Faces {

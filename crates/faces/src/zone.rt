@@ -15,10 +15,10 @@ ghost use Rattle.faces.specs.Uses.{Tables};
 use super::uses::Faces;
 use super::uses::use_nodes;
 use face_places::places::gather;
-use ledger::clear;
 use model::FaceUsage;
 use model::Rejection;
 use model::Stage;
+use usage_bytes::clear;
 
 // Writes the usage of the zone's faces, whose ranges are at hand, into the first F bytes: 45, and F zeros, where one is used twice with one sign.
 fn fill(

@@ -28,19 +28,6 @@ not-among (x ∷ keys) k a = rw (ne-eqb k x (a .1)) (not-among keys k (a .0))
 pub last-of : (keys : List ℕ) (p : ℕ → Bool) (n : ℕ) {k : ℕ} → everyFrom (λ (i : ℕ). among i keys || p i) n 0 ≡ true → k < n → Beyond keys k → p k ≡ true
 last-of keys p n {k} e h a = let t = each (λ (i : ℕ). among i keys || p i) n e k h in rw (not-among keys k a) at t
 
--- the numbers from 0 to n: the last arm is for n
-abbrev pub Apart : ℕ → ℕ → Type 0
-Apart zero k = Unit {0}
-Apart (suc n) k = Apart n k × (k ≡ n → ⊥)
-
-pub last-arm : (n k : ℕ) → Apart n k → k ≤ n → k ≡ n
-last-arm zero k a h = omega arith
-last-arm (suc n) k a h =
-    elim (ℕ-discrete k (suc n)) [
-      | yes q ↦ q
-      | no z ↦ absurd (a .1 (last-arm n k (a .0) (omega (arith, z))))
-    ]
-
 -- a row of digits, held against its values one by one
 abbrev pub isRow : (ℕ → ℕ) → ℕ → ℕ → Bool
 isRow f n r = everyFrom (λ (k : ℕ). eqb (r / 2 ^ (4 * k) % 16) (f k)) n 0

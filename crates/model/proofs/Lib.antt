@@ -17,6 +17,7 @@ pub mod Arrays
 pub mod InZone
 pub mod Corners
 pub mod References
+pub mod NoNan
 pub mod NoneNegative
 pub mod ZoneEntries
 pub mod LittleEndian

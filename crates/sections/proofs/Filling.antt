@@ -18,10 +18,6 @@ use Rattle.sections.specs.Due.{EntriesDue}
 use Rattle.zone_sections.proofs.After.{next-is, next-section, after-next, all-after}
 
 module _ {A : Type 0} where
-  pub over-length : (out new : List A) → length new ≤ length out → length (over out new) ≡ length out
-  unfolding over
-  over-length out new h = rw (length-append, length-drop) (omega arith)
-
   -- what is stored right after what was written
   pub over-more : (out new more : List A) → length new + length more ≤ length out → sets (over out new) (length new) more ≡ over out (new ++ more)
   unfolding over

@@ -175,11 +175,6 @@ module _ (b : List ℕ) (i : ℕ) (g : NodesTo b i) where
         by-test u false p true q h = inr (kind-role _ _ u (eqb-true _ 6 q))
         by-test u false p false q h = untrue h
 
--- no rule is left
-pub no-rule : (node : ℕ) → check node [] ≡ passed
-unfolding check
-no-rule node = refl
-
 -- the groups are the whole
 pub sids-groups : (t : Tree) (i : ℕ) → check i (sidsRules t i) ≡ (check i (placeRules t i) then (check i (contentRules t i) then check i (sizeRules t i)))
 unfolding sidsRules

@@ -25,11 +25,11 @@ use Rattle.model.proofs.Validated.{validated-child}
 use Rattle.model.proofs.Sections.{not-root}
 use Rattle.model.proofs.Above.{validated-above, earlier-rule}
 use Rattle.model.specs.Rules.{check, passed}
-use Rattle.model.proofs.Staging.{kept}
+use Rattle.model.proofs.Staging.{kept, no-rule}
 use Rattle.labels.proofs.Nodes.{parent-inside}
 use Rattle.sids.specs.Groups.{placeRules}
 use Rattle.labels.proofs.Grid.{orElse, fixed-or, named-root}
-use Rattle.sids.proofs.Context.{placed-held, no-rule}
+use Rattle.sids.proofs.Context.{placed-held}
 use Rattle.index.specs.Index.{Index}
 use Rattle.index.proofs.Marking.{role-few}
 

@@ -18,11 +18,10 @@ use Rattle.model.proofs.Logic.{untrue, and-first, and-second, or-cases}
 use Rattle.model.proofs.Parents.{parent-lower, lawful-at}
 use Rattle.model.proofs.Above.{earlier-rule}
 use Rattle.model.proofs.Conforming.{or-missing, conforming-is, conforming-type, conforming-value}
-use Rattle.model.proofs.Staging.{kept}
+use Rattle.model.proofs.Staging.{kept, no-rule}
 use Rattle.index.specs.Index.{kind}
 use Rattle.index.proofs.Marking.{kind-parts}
 use Rattle.sids.specs.Groups.{requiredUnder, isRequired, contentRules}
-use Rattle.sids.proofs.Context.{no-rule}
 use Rattle.sids.proofs.Found.{child-role}
 
 module _ (b : List ℕ) (i : ℕ) (g : NodesTo b i) where

@@ -21,17 +21,7 @@ use Rattle.words.specs.Width.{isWidth}
 use Rattle.types.specs.Given.{HasNumber}
 use Rattle.model.proofs.Logic.{same-is}
 
-numbers-length : (w n : ℕ) (s : List ℕ) → length (numbers w n s) ≡ n
-unfolding numbers
-numbers-length w zero s = refl
-numbers-length w (suc n) s = ap suc (numbers-length w n (drop w s))
-
 module _ (t : Tree) (i : ℕ) where
-  -- the dimensions are as many as the dimension count says
-  pub rank-is : length (dimensions t i) ≡ node t i .rank
-  unfolding dimensions
-  rank-is = numbers-length 8 (node t i .rank) _
-
   -- one type, one of two types
   pub one-type : (d : ℕ) → typed t i (d ∷ []) ≡ true → dataType t i ≡ d
   unfolding typed among
@@ -92,7 +82,7 @@ unfolding stored treeOf
 stored-is b i = ap (take (node (treeOf b) i .dataSize)) (drop-drop (node (treeOf b) i .dataAt) (dataOffset b) b)
 
 -- which numbers can be read
-scaled : (w k n : ℕ) → k < n → w * k + w ≤ n * w
+pub scaled : (w k n : ℕ) → k < n → w * k + w ≤ n * w
 scaled w k n h = rw (← mul-suc w k, mul-comm n w) (mul-le-mul-left w h)
 
 module _ (b : List ℕ) (s : Sound b) (i : ℕ) (h : i < nodeCount b) where

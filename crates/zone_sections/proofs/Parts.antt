@@ -25,8 +25,9 @@ use Rattle.model.proofs.LookedUp.{child-conforms}
 use Rattle.index.specs.Index.{kind}
 use Rattle.index.proofs.Marking.{kind-role}
 use Rattle.types.specs.Given.{HasNumber}
-use Rattle.types.proofs.StoredNumbers.{rank-is, whole-wide, whole-four, has-pair, has-less}
+use Rattle.types.proofs.StoredNumbers.{whole-wide, whole-four, has-pair, has-less}
 use Rattle.zone_sections.specs.After.{AcceptedSection}
+use Rattle.model.proofs.Reading.{rank-is}
 
 -- a node that is missing has no place
 pub absent-start : (b : List ℕ) (j : ℕ) → nodeCount b ≤ j → 0 ≡ dataStart (treeOf b) j

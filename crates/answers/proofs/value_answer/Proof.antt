@@ -5,7 +5,7 @@ use mir.Syntax.{w64}
 use mir.Facts.{toZ-ofZ}
 use Rattle.model.specs.ReadList.{ruleOf}
 use Rattle.model.specs.Exports.{valueWords}
-use Rattle.answers.proofs.Bits.{single-no-nan, double-no-nan}
+use Rattle.model.proofs.NoNan.{single-no-nan, double-no-nan}
 use Rattle.answers.proofs.value_answer.Statement.{statement}
 use Rattle.answers.proofs.value_answer.Tie as tie
 

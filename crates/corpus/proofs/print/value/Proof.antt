@@ -1,6 +1,6 @@
 -- A float of a value is no NaN: a NaN has a case of its own.
 use borrow.Author.Needs.{needs}
-use Rattle.corpus.proofs.Laws.{single-no-nan, double-no-nan}
+use Rattle.model.proofs.NoNan.{single-no-nan, double-no-nan}
 use Rattle.corpus.proofs.print.value.Statement.{statement}
 use Rattle.corpus.proofs.print.value.Tie as tie
 

@@ -3,9 +3,8 @@ use mathlib.Core.Path.{sym, ap, _∙_}
 use borrow.Author.Needs.{needs}
 use borrow.Author.Tests.{not-true, not-false}
 use Rattle.model.specs.Rules.{rejected}
-use Rattle.model.proofs.Staging.{broken, kept}
+use Rattle.model.proofs.Staging.{broken, kept, no-rule}
 use Rattle.elements.specs.Arrays.{offsetRules}
-use Rattle.sids.proofs.Context.{no-rule}
 use Rattle.elements.proofs.StageLaws.{same-read, other-read}
 use Rattle.elements.proofs.lengths.offsets_stage.Statement.{statement}
 use Rattle.elements.proofs.lengths.offsets_stage.Tie as tie

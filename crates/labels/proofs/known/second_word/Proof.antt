@@ -6,8 +6,8 @@ use native.Mathlib.Omega.{arith}
 use Rattle.model.specs.Bytes.{le, text}
 use Rattle.model.specs.Containment.{knownLabels}
 use Rattle.labels.specs.Padded.{fieldWord, knownNames, knownTexts}
-use Rattle.labels.proofs.Arms.{last-arm}
 use Rattle.labels.proofs.KnownTexts.{textWord}
+use Rattle.model.proofs.Logic.{last-arm}
 use Rattle.labels.proofs.known.second_word.Statement.{statement}
 use Rattle.labels.proofs.known.second_word.Tie as tie
 

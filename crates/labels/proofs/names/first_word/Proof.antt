@@ -6,7 +6,7 @@ use lib.ListN.{getD}
 use native.Mathlib.Omega.{arith}
 use Rattle.model.specs.Bytes.{le, text}
 use Rattle.labels.specs.Padded.{fieldWord, knownNames}
-use Rattle.labels.proofs.Arms.{last-arm}
+use Rattle.model.proofs.Logic.{last-arm}
 use Rattle.labels.proofs.names.first_word.Statement.{statement}
 use Rattle.labels.proofs.names.first_word.Tie as tie
 

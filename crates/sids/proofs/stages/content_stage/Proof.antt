@@ -5,8 +5,7 @@ use borrow.Author.Needs.{needs}
 use borrow.Author.Tests.{not-true, not-false}
 use Rattle.model.specs.Image.{treeOf}
 use Rattle.model.specs.Values.{complete, typeLawful}
-use Rattle.model.proofs.Staging.{broken, kept}
-use Rattle.sids.proofs.Context.{no-rule}
+use Rattle.model.proofs.Staging.{broken, kept, no-rule}
 use Rattle.sids.proofs.RequiredChild.{required-kept}
 use Rattle.sids.proofs.stages.content_stage.Statement.{statement}
 use Rattle.sids.proofs.stages.content_stage.Tie as tie

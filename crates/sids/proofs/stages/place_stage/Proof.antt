@@ -5,10 +5,9 @@ use borrow.Author.Needs.{needs}
 use borrow.Author.Tests.{not-true, not-false}
 use Rattle.model.specs.Image.{treeOf}
 use Rattle.model.specs.Values.{placed}
-use Rattle.model.proofs.Staging.{broken, kept}
+use Rattle.model.proofs.Staging.{broken, kept, no-rule}
 use Rattle.model.proofs.Above.{validated-above}
 use Rattle.labels.proofs.Nodes.{parent-inside}
-use Rattle.sids.proofs.Context.{no-rule}
 use Rattle.sids.proofs.Once.{never-second, root-place, placed-is}
 use Rattle.sids.proofs.stages.place_stage.Statement.{statement}
 use Rattle.sids.proofs.stages.place_stage.Tie as tie

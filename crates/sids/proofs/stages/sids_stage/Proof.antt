@@ -3,8 +3,8 @@ use mathlib.Core.Path.{sym, _∙_}
 use borrow.Author.Needs.{needs}
 use borrow.Author.Tests.{not-true, not-false}
 use Rattle.model.proofs.Passed.{check-pass}
-use Rattle.model.proofs.Staging.{passes, stop, go, broken, kept}
-use Rattle.sids.proofs.Context.{no-rule, ready, sized, sids-groups}
+use Rattle.model.proofs.Staging.{passes, stop, go, broken, kept, no-rule}
+use Rattle.sids.proofs.Context.{ready, sized, sids-groups}
 use Rattle.sids.proofs.stages.sids_stage.Statement.{statement}
 use Rattle.sids.proofs.stages.sids_stage.Tie as tie
 

@@ -2,7 +2,7 @@
 use mathlib.Core.Path.{ap}
 use borrow.Author.Needs.{needs}
 use Rattle.model.specs.Values.{flat}
-use Rattle.types.proofs.StoredNumbers.{rank-is}
+use Rattle.model.proofs.Reading.{rank-is}
 use Rattle.types.proofs.shapes.flat.Statement.{statement}
 use Rattle.types.proofs.shapes.flat.Tie as tie
 

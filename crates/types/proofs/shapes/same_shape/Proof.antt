@@ -10,7 +10,7 @@ use Rattle.model.specs.Values.{shaped}
 use Rattle.model.proofs.Bounds.{node-placed}
 use Rattle.labels.proofs.Fields.{same-not}
 use Rattle.types.proofs.Same.{same-on, same-off, same-end}
-use Rattle.types.proofs.StoredNumbers.{rank-is}
+use Rattle.model.proofs.Reading.{rank-is}
 use Rattle.types.proofs.shapes.same_shape.Statement.{statement}
 use Rattle.types.proofs.shapes.same_shape.Tie as tie
 

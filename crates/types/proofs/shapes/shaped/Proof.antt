@@ -10,7 +10,7 @@ use Rattle.model.specs.Values.{shaped}
 use Rattle.labels.proofs.Fields.{same-not}
 use Rattle.types.proofs.Same.{first-on, first-off, first-end}
 use Rattle.model.proofs.Bounds.{node-placed}
-use Rattle.types.proofs.StoredNumbers.{rank-is}
+use Rattle.model.proofs.Reading.{rank-is}
 use Rattle.types.proofs.shapes.shaped.Statement.{statement}
 use Rattle.types.proofs.shapes.shaped.Tie as tie
 

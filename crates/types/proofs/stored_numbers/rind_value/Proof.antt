@@ -7,8 +7,9 @@ use borrow.Author.Tests.{not-true, not-false}
 use Rattle.model.specs.Image.{treeOf, node}
 use Rattle.model.specs.Values.{rindValue, notNegative, size}
 use Rattle.model.proofs.Bounds.{node-placed}
-use Rattle.types.proofs.StoredNumbers.{rank-is, flat-is, whole-four, has-flat}
+use Rattle.types.proofs.StoredNumbers.{flat-is, whole-four, has-flat}
 use Rattle.model.proofs.Loops.{EveryLeft, every-start, every-more, every-stop, every-done}
+use Rattle.model.proofs.Reading.{rank-is}
 use Rattle.types.proofs.stored_numbers.rind_value.Statement.{statement}
 use Rattle.types.proofs.stored_numbers.rind_value.Tie as tie
 

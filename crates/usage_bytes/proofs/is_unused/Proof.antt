@@ -3,8 +3,8 @@ use Prim.Native.Nat.{_/_}
 use mathlib.Core.Path.{_≡_}
 use native.Mathlib.Omega.{arith}
 use Rattle.model.specs.FaceUsage.{unused}
-use Rattle.ledger.proofs.is_unused.Statement.{statement}
-use Rattle.ledger.proofs.is_unused.Tie as tie
+use Rattle.usage_bytes.proofs.is_unused.Statement.{statement}
+use Rattle.usage_bytes.proofs.is_unused.Tie as tie
 
 returns : tie.Need-returns
 unfolding unused

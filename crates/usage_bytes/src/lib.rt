@@ -4,7 +4,7 @@ ghost use mathlib.Core.List.{_++_};
 ghost use Prim.Native.Nat.{_≤_, _<_};
 ghost use lib.ListN.{length, getD, drop, replicate};
 ghost use Rattle.model.specs.FaceUsage.{unused};
-ghost use Rattle.ledger.specs.Marks.{signOf, afterUse};
+ghost use Rattle.usage_bytes.specs.Marks.{signOf, afterUse};
 
 // Makes the first n bytes 0; the others stay.
 pub fn clear(out: &mut [u8], n: usize)

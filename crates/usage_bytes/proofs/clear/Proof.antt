@@ -6,8 +6,8 @@ use native.Mathlib.Omega.{arith}
 use borrow.Author.Needs.{needs}
 use borrow.Author.Fill.{fill-none, fill-more}
 use lib.ListN.{length, set, drop, replicate, length-set}
-use Rattle.ledger.proofs.clear.Statement.{statement}
-use Rattle.ledger.proofs.clear.Tie as tie
+use Rattle.usage_bytes.proofs.clear.Statement.{statement}
+use Rattle.usage_bytes.proofs.clear.Tie as tie
 
 abbrev Inv-loop : tie.InvT-loop
 Inv-loop out₀ n k₀ out k = ((k ≤ n) × (length out ≡ length out₀)) × (out ≡ replicate k 0 ++ drop k out₀)

@@ -3,9 +3,9 @@ use mathlib.Core.Path.{refl, sym, _∙_}
 use native.Mathlib.Omega.{arith}
 use borrow.Author.Needs.{needs}
 use borrow.Author.Tests.{not-true, not-false}
-use Rattle.ledger.proofs.Marks.{forward-room, reversed-room}
-use Rattle.ledger.proofs.use_face.Statement.{statement}
-use Rattle.ledger.proofs.use_face.Tie as tie
+use Rattle.usage_bytes.proofs.Marks.{forward-room, reversed-room}
+use Rattle.usage_bytes.proofs.use_face.Statement.{statement}
+use Rattle.usage_bytes.proofs.use_face.Tie as tie
 
 returns : tie.Need-returns
 returns c = (sym (sym (c .before .is-unused .ensures .0) ∙ not-true _ (c .if1 .taken)), refl)
