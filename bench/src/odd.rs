@@ -72,7 +72,12 @@ fn of_faces() -> Vec<Odd> {
         odd(
             "1,000 face sections of 30 close together beside a great one, references at random among the 1,000",
             "close_great",
-            beside_great(random),
+            beside_great(random, 1),
+        ),
+        odd(
+            "1,000 face sections of 30 close together beside eight great ones, references at random among all",
+            "close_eight_great",
+            beside_great(random, 8),
         ),
         odd(
             "1,000 face sections that touch, references jump between the last two",
@@ -115,7 +120,11 @@ fn of_nodes() -> Vec<Odd> {
         odd("1,020 sections of a triangle, falling ranges", "triangles_falling", triangles(TRI_3, &down)),
         Odd {
             rule: 23,
-            ..odd("2,040 sections with a range alone, falling: rule 23", "ranges_falling", ranges_alone(&falling(2_040, APART / 2)))
+            ..odd(
+                "2,040 sections with a range alone, falling: rule 23",
+                "ranges_falling",
+                ranges_alone(&falling(2_040, APART / 2)),
+            )
         },
         odd("4,088 arrays of a section, named ElementX..", "named_7", named(|k| format!("ElementX{k:04}"))),
         odd(
@@ -151,19 +160,26 @@ fn both_sides(random: &mut Random, firsts: &[i64]) -> Image {
     image
 }
 
-/// Sections of 30 faces close together, behind them one of as many faces as there is room for, and a cell with references to the first faces.
-fn beside_great(random: &mut Random) -> Image {
+/// Sections of 30 faces close together, behind them so many great ones, which share 300,000 faces, and a cell with references: to the first faces
+/// where there is one great section, else to these and to those of the great ones in equal parts.
+fn beside_great(random: &mut Random, great: usize) -> Image {
     const FACES: usize = 30;
-    const GREAT: usize = 300_000;
+    let size = 300_000 / great;
     let (mut image, zone) = with_zone();
     let firsts = rising(1_000, FACES as i64 + 2);
     for &first in &firsts {
         Section { element_type: NGON_N, first, size: 1, references: &[1; FACES] }.add(&mut image, zone);
     }
-    let great = firsts[firsts.len() - 1] + 2 * FACES as i64;
-    Section { element_type: NGON_N, first: great, size: 1, references: &vec![1; GREAT] }.add(&mut image, zone);
-    let faces: Vec<i64> = firsts.iter().flat_map(|&first| first..first + FACES as i64).collect();
-    Section::of_one(NFACE_N, great + GREAT as i64, &at_random(random, REFERENCES, &faces)).add(&mut image, zone);
+    let mut faces: Vec<i64> = firsts.iter().flat_map(|&first| first..first + FACES as i64).collect();
+    let mut next = firsts[firsts.len() - 1] + 2 * FACES as i64;
+    for _ in 0..great {
+        Section { element_type: NGON_N, first: next, size: 1, references: &vec![1; size] }.add(&mut image, zone);
+        if great > 1 {
+            faces.extend((next..next + size as i64).step_by(10));
+        }
+        next += size as i64 + 2;
+    }
+    Section::of_one(NFACE_N, next, &at_random(random, REFERENCES, &faces)).add(&mut image, zone);
     image
 }
 
