@@ -19,6 +19,8 @@ use element_types::NFACE;
 use model::Rejection;
 use model::Stage;
 use ranges::Interval;
+use ranges::NO_HINTS;
+use ranges::Spread;
 use rows::Row;
 
 // Does number k of a row lie in 1 to limit?
@@ -99,8 +101,53 @@ fn first_outside(image: &[u8], row: Row, k: usize, last: Interval, before: Inter
     j
 }
 
-// Rule 35: does every number of a row refer to a face of zone z? The numbers around the last two that were looked up are known.
-fn all_refer(
+// Does number k of a row refer to a face of zone z?
+fn refers(
+    image: &[u8],
+    z: usize,
+    row: Row,
+    k: usize,
+    firsts: &[u64],
+    reach: &[u64],
+    count: usize,
+) -> bool
+    requires { ⌜ Sound (now image) × (z < nodeCount (now image)) ⌝ }
+    requires { ⌜ (Numbers (now image) (row .at) (row .width) (row .n) × (k < row .n)) × Faces (treeOf (now image)) (now firsts) (now reach) count ⌝ }
+    ensures { λ r. ⌜ r ≡ refersFace (treeOf (now (image .entry))) z (now (image .entry)) (row .at) (row .width) k ⌝ }
+{
+    let f = rows::magnitude_at(image, row, k);
+    if types::MAX_NUMBER < f {
+        return false;
+    }
+    ranges::find(firsts, reach, count, count, ranges::key(z, f)) < count
+}
+
+// Rule 35, each number of a row by itself: as fast in any order, where neither hints nor the last numbers help.
+fn each_refers(
+    image: &[u8],
+    z: usize,
+    row: Row,
+    firsts: &[u64],
+    reach: &[u64],
+    count: usize,
+) -> bool
+    requires { ⌜ Sound (now image) × (z < nodeCount (now image)) ⌝ }
+    requires { ⌜ Numbers (now image) (row .at) (row .width) (row .n) × Faces (treeOf (now image)) (now firsts) (now reach) count ⌝ }
+    ensures { λ r. ⌜ r ≡ everyFrom (refersFace (treeOf (now (image .entry))) z (now (image .entry)) (row .at) (row .width)) (row .n) 0 ⌝ }
+{
+    let n = row.n;
+    let mut k: usize = 0;
+    while k < n {
+        if !refers(image, z, row, k, firsts, reach, count) {
+            return false;
+        }
+        k += 1;
+    }
+    true
+}
+
+// Rule 35, by the numbers around the last two that were looked up, which are known, and by hints.
+fn all_near(
     image: &[u8],
     z: usize,
     row: Row,
@@ -108,6 +155,7 @@ fn all_refer(
     reach: &[u64],
     count: usize,
     hints: &mut [u16],
+    spread: Spread,
 ) -> bool
     requires { ⌜ Sound (now image) × (z < nodeCount (now image)) ⌝ }
     requires { ⌜ Numbers (now image) (row .at) (row .width) (row .n) × Faces (treeOf (now image)) (now firsts) (now reach) count ⌝ }
@@ -115,7 +163,6 @@ fn all_refer(
     ensures { λ r. ⌜ r ≡ everyFrom (refersFace (treeOf (now (image .entry))) z (now (image .entry)) (row .at) (row .width)) (row .n) 0 ⌝ }
 {
     let n = row.n;
-    let spread = ranges::spread_for(firsts, reach, count, hints, n);
     let mut last = Interval { low: 0, size: 0 };
     let mut k: usize = 0;
     while k < n {
@@ -131,6 +178,28 @@ fn all_refer(
         last = next;
     }
     true
+}
+
+// Rule 35: does every number of a row refer to a face of zone z?
+fn all_refer(
+    image: &[u8],
+    z: usize,
+    row: Row,
+    firsts: &[u64],
+    reach: &[u64],
+    count: usize,
+    hints: &mut [u16],
+) -> bool
+    requires { ⌜ Sound (now image) × (z < nodeCount (now image)) ⌝ }
+    requires { ⌜ Numbers (now image) (row .at) (row .width) (row .n) × Faces (treeOf (now image)) (now firsts) (now reach) count ⌝ }
+    requires { ⌜ 4096 ≤ length (now hints) ⌝ }
+    ensures { λ r. ⌜ r ≡ everyFrom (refersFace (treeOf (now (image .entry))) z (now (image .entry)) (row .at) (row .width)) (row .n) 0 ⌝ }
+{
+    let spread = ranges::spread_for(firsts, reach, count, hints, row.n);
+    if spread.factor == NO_HINTS {
+        return each_refers(image, z, row, firsts, reach, count);
+    }
+    all_near(image, z, row, firsts, reach, count, hints, spread)
 }
 
 // Rule 35: every reference of section s, those of the row, is a face of its zone.

@@ -165,6 +165,9 @@ pub struct Spread {
     pub factor: u64,
 }
 
+// The factor where there are no hints that help.
+pub const NO_HINTS: u64 = 0;
+
 // Numbers in their order; numbers mixed, by the golden ratio and by another factor.
 const IN_ORDER: u64 = 524288;
 
@@ -277,8 +280,19 @@ fn shift_for(firsts: &[u64], reach: &[u64], n: usize) -> u64
     s
 }
 
-// How the hints of n ranges are found, with each range's first hint made: in order where few then share one, else mixed.
-// Where few numbers are looked up a trial is not worth its time.
+// A way of finding hints, where no more than one in four of n entries found its hint taken; else none.
+fn used_if(spread: Spread, taken: usize, n: usize) -> Spread {
+    if taken <= n / 4 {
+        return spread;
+    }
+    Spread {
+        shift: 0,
+        factor: NO_HINTS,
+    }
+}
+
+// How the hints of n ranges are found, and each range's first hint: in order where few then share one, else mixed; none where too many would share
+// one in any way. Where few numbers are looked up it is not worth a trial.
 pub fn spread_for(firsts: &[u64], reach: &[u64], n: usize, hints: &mut [u16], uses: usize) -> Spread
     requires { ⌜ ((n ≤ length (now firsts)) × (n ≤ length (now reach))) × (4096 ≤ length (now hints)) ⌝ }
 {
@@ -305,10 +319,11 @@ pub fn spread_for(firsts: &[u64], reach: &[u64], n: usize, hints: &mut [u16], us
         shift,
         factor: GOLDEN,
     };
-    if fill_hints(firsts, n, hints, golden) <= taken {
-        return golden;
+    let golden_taken = fill_hints(firsts, n, hints, golden);
+    if golden_taken <= taken {
+        return used_if(golden, golden_taken, n);
     }
-    other
+    used_if(other, taken, n)
 }
 
 // The same as `find`, where numbers jump: the entry is asked that held the last number near this one.
