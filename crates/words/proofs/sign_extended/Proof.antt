@@ -1,3 +1,4 @@
+-- Half of all patterns is added and taken off again: the upper half comes out below 0.
 use borrow.Author.Needs.{needs}
 use mir.Facts.{toZ-ofZ}
 use Rattle.words.proofs.Signed.{extended, extended-fits}

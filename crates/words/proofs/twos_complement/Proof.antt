@@ -1,3 +1,4 @@
+-- The upper half of the patterns stands for the negative numbers, counted down from -1.
 use native.Mathlib.Omega.{arith}
 use mir.Facts.{toZ-ofZ}
 use Rattle.words.proofs.Signed.{low, high, twos-fits}

@@ -1,3 +1,4 @@
+-- From the last byte down, what is read is the number of the bytes from here on.
 use native.Mathlib.Omega.{arith}
 use Prim.Native.Nat.{_≤_}
 use Rattle.words.proofs.Laws.{Tail, none, room, front, whole}
