@@ -1,6 +1,6 @@
 -- References to faces by the tables: numbers in intervals that ranges cover, and numbers looked up.
 use Prim.Native.Nat.{ℕ, _+_, _≤_, _<_}
-use mathlib.Core.Path.{_≡_, sym, _∙_}
+use mathlib.Core.Path.{_≡_, sym, ap, _∙_}
 use mathlib.Core.Bool.{Bool, true, false}
 use mathlib.Core.List.{List}
 use native.Mathlib.Omega.{arith}
@@ -40,7 +40,7 @@ skipped-more {b} {row} {last} {before} {k} {j} s h e =
 pub refers-by : (t : Tree) (z : ℕ) (b : List ℕ) (at w k : ℕ) {f : ℕ} {v : Bool} → f ≡ magnitude w (numberAt b at w k) → faceOf t z f ≡ v
     → refersFace t z b at w k ≡ v
 unfolding refersFace
-refers-by t z b at w k e h = rw (← e) h
+refers-by t z b at w k e h = sym (ap (faceOf t z) e) ∙ h
 
 -- faces by the tables: those of an interval that ranges cover, and a number looked up
 module _ {t : Tree} {firsts reach : List ℕ} {n : ℕ} (g : Faces t firsts reach n) (z : ℕ) where

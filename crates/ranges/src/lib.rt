@@ -156,9 +156,6 @@ pub fn find(firsts: &[u64], reach: &[u64], n: usize, hint: usize, f: u64) -> usi
     meeting(firsts, reach, n, f, f)
 }
 
-// How many hints a table of hints has.
-pub const HINTS: usize = 4096;
-
 // How the hint of a number is found: by the upper bits of the number times a factor. No answer depends on it.
 pub struct Spread {
     pub shift: u64,
