@@ -26,6 +26,14 @@ rising r i (suc j) h l =
 pub begun-start : (s : List ℕ) (n f : ℕ) → Begun s n f 0 n
 begun-start s n f = omega arith
 
+-- no fewer begin no later than a greater number
+pub begun-up : {s : List ℕ} {n f g r q : ℕ} → Begun s n f r 0 → Begun s n g q 0 → f ≤ g → r ≤ q
+begun-up {r = r} {q = q} b d h =
+    elim (decLt q r) [
+      | yes l ↦ absurd (omega (arith, b .inside, b .begins (r - 1) (omega arith), d .later (r - 1) (omega arith) (omega (arith, b .inside))))
+      | no l ↦ omega arith
+    ]
+
 module _ {s : List ℕ} {n f from left half : ℕ} (b : Begun s n f from left) (r : Rising s n) (z : 1 ≤ half) (h : half + half ≤ left + 1) where
   -- c tells whether the entry in the middle begins no later
   pub begun-half : {c : ℕ} → c ≡ cond (leb (getD s (from + half - 1) 0) f) 1 0 → Begun s n f (from + half * c) (left - half)

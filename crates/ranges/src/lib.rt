@@ -8,7 +8,9 @@ ghost use lib.Dec.{ltb, leb};
 ghost use lib.ListN.{length, getD};
 ghost use Rattle.model.specs.Lists.{someFrom};
 ghost use Rattle.ranges.specs.Tables.{key, meetsAt, holds, inRanges, Firsts, Ordered, Begun, Raised, Placed, Inserted, isWithin, Covered};
-use std::num::wrapping_add_u64;
+
+pub mod search_tree; // search_tree.rt: guesses of the entries that hold numbers
+
 use std::num::wrapping_sub_u64;
 
 // The number of an element with its zone, so that one table serves all zones of an image.
@@ -24,11 +26,6 @@ fn greater(x: u64, y: u64) -> u64
     ensures { λ r. ⌜ r ≡ max x y ⌝ }
 {
     if x < y { y } else { x }
-}
-
-// The lesser of two numbers.
-fn lesser(x: u64, y: u64) -> u64 {
-    if x < y { x } else { y }
 }
 
 // The greater of a number and the entry before k; the number where there is no entry before.
@@ -156,219 +153,6 @@ pub fn find(firsts: &[u64], reach: &[u64], n: usize, hint: usize, f: u64) -> usi
     meeting(firsts, reach, n, f, f)
 }
 
-// How the hint of a number is found: by the upper bits of the number times a factor. No answer depends on it.
-pub struct Spread {
-    pub shift: u64,
-    pub factor: u64,
-}
-
-// The factor where there are no hints that help.
-pub const NO_HINTS: u64 = 0;
-
-// Numbers in their order; numbers mixed, by the golden ratio and by another factor.
-const IN_ORDER: u64 = 524288;
-
-const GOLDEN: u64 = 1327217885;
-
-const OTHER: u64 = 1540483477;
-
-// The product of a number of 32 bits and one of 31.
-fn product(x: u64, y: u64) -> u64
-    requires { ⌜ (x < 4294967296) × (y < 2147483648) ⌝ }
-    ensures { λ r. ⌜ r < 9223372036854775808 ⌝ }
-{
-    x * y
-}
-
-// Which hint is that of a key.
-fn hint_of(f: u64, spread: Spread) -> usize
-    ensures { λ r. ⌜ r < 4096 ⌝ }
-{
-    let number = (f >> (spread.shift % 64)) % 4294967296;
-    let zone = (f >> 32) % 4096;
-    ((product(number, spread.factor % 2147483648) + zone * 2246822519) >> 19) as usize % 4096
-}
-
-// Makes every hint one of no entry.
-fn clear_hints(hints: &mut [u16])
-    requires { ⌜ 4096 ≤ length (now hints) ⌝ }
-{
-    let mut k: usize = 0;
-    while k < 4096 {
-        hints[k] = 65535;
-        k += 1;
-    }
-}
-
-// Makes entry j hint k. It answers 1 where the hint was taken, else 0.
-fn set_hint(hints: &mut [u16], k: usize, j: usize) -> usize
-    requires { ⌜ k < length (now hints) ⌝ }
-    ensures { λ r. ⌜ r ≤ 1 ⌝ }
-{
-    let before = hints[k];
-    hints[k] = (j % 65536) as u16;
-    if before < 65535 { 1 } else { 0 }
-}
-
-// Makes each of n entries the hint of its first number. It answers how many found that taken.
-fn fill_hints(firsts: &[u64], n: usize, hints: &mut [u16], spread: Spread) -> usize
-    requires { ⌜ (n ≤ length (now firsts)) × (4096 ≤ length (now hints)) ⌝ }
-{
-    clear_hints(hints);
-    let mut taken: usize = 0;
-    let mut j: usize = 0;
-    while j < n {
-        taken += set_hint(hints, hint_of(firsts[j], spread), j);
-        j += 1;
-    }
-    taken
-}
-
-// By how many bits a number is shifted to be less than 4,096.
-fn shift_below(number: u64) -> u64 {
-    let mut s: u64 = 0;
-    while s < 52 {
-        if number >> s < 4096 {
-            return s;
-        }
-        s += 1;
-    }
-    s
-}
-
-// The greatest number of n ranges.
-fn top_of(reach: &[u64], n: usize) -> u64
-    requires { ⌜ n ≤ length (now reach) ⌝ }
-{
-    let mut top: u64 = 0;
-    let mut k: usize = 0;
-    while k < n {
-        top = greater(top, reach[k] % 4294967296);
-        k += 1;
-    }
-    top
-}
-
-// How many hints the numbers of n ranges want, shifted by so many bits. A few great ranges count for little, for the last ones are known.
-fn hints_wanted(firsts: &[u64], reach: &[u64], n: usize, shift: u64) -> u64
-    requires { ⌜ (n ≤ length (now firsts)) × (n ≤ length (now reach)) ⌝ }
-{
-    let mut sum = n as u64;
-    let mut k: usize = 0;
-    while k < n {
-        let size = wrapping_sub_u64(reach[k], firsts[k]) >> (shift % 64);
-        sum = wrapping_add_u64(sum, lesser(size, 768));
-        k += 1;
-    }
-    sum
-}
-
-// By how many bits the numbers of n ranges are shifted, so that there are hints for all.
-fn shift_for(firsts: &[u64], reach: &[u64], n: usize) -> u64
-    requires { ⌜ (n ≤ length (now firsts)) × (n ≤ length (now reach)) ⌝ }
-{
-    let mut s: u64 = 0;
-    while s < 31 {
-        if hints_wanted(firsts, reach, n, s) < 3072 {
-            return s;
-        }
-        s += 2;
-    }
-    s
-}
-
-// A way of finding hints, where no more than one in four of n entries found its hint taken; else none.
-fn used_if(spread: Spread, taken: usize, n: usize) -> Spread {
-    if taken <= n / 4 {
-        return spread;
-    }
-    Spread {
-        shift: 0,
-        factor: NO_HINTS,
-    }
-}
-
-// How the hints of n ranges are found, and each range's first hint: in order where few then share one, else mixed; none where too many would share
-// one in any way. Where few numbers are looked up it is not worth a trial.
-pub fn spread_for(firsts: &[u64], reach: &[u64], n: usize, hints: &mut [u16], uses: usize) -> Spread
-    requires { ⌜ ((n ≤ length (now firsts)) × (n ≤ length (now reach))) × (4096 ≤ length (now hints)) ⌝ }
-{
-    if uses / 8 < n {
-        return Spread {
-            shift: 0,
-            factor: GOLDEN,
-        };
-    }
-    let in_order = Spread {
-        shift: shift_below(top_of(reach, n)),
-        factor: IN_ORDER,
-    };
-    if fill_hints(firsts, n, hints, in_order) <= n / 16 {
-        return in_order;
-    }
-    let shift = shift_for(firsts, reach, n);
-    let other = Spread {
-        shift,
-        factor: OTHER,
-    };
-    let taken = fill_hints(firsts, n, hints, other);
-    let golden = Spread {
-        shift,
-        factor: GOLDEN,
-    };
-    let golden_taken = fill_hints(firsts, n, hints, golden);
-    if golden_taken <= taken {
-        return used_if(golden, golden_taken, n);
-    }
-    used_if(other, taken, n)
-}
-
-// The same as `find`, where numbers jump: the entry is asked that held the last number near this one.
-// What the hints hold decides how soon the entry is found, not which.
-pub fn find_by_hint(
-    firsts: &[u64],
-    reach: &[u64],
-    n: usize,
-    hints: &mut [u16],
-    spread: Spread,
-    f: u64,
-) -> usize
-    requires { ⌜ Ordered (now firsts) (now reach) n × (n ≤ 65536) × (f < 9223372036854775808) ⌝ }
-    requires { ⌜ 4096 ≤ length (now hints) ⌝ }
-    ensures { λ r. ⌜ ltb r n ≡ inRanges (now (firsts .entry)) (now (reach .entry)) n f ⌝ }
-    ensures { λ r. ⌜ (r < n → holds (now (firsts .entry)) (now (reach .entry)) f r ≡ true) ⌝ }
-{
-    let k = hint_of(f, spread);
-    let j = find(firsts, reach, n, hints[k] as usize, f);
-    if j < n {
-        hints[k] = j as u16;
-    }
-    j
-}
-
-// The same, where the entry `last` that held the last number is asked first.
-pub fn find_near(
-    firsts: &[u64],
-    reach: &[u64],
-    n: usize,
-    hints: &mut [u16],
-    spread: Spread,
-    last: usize,
-    f: u64,
-) -> usize
-    requires { ⌜ Ordered (now firsts) (now reach) n × (n ≤ 65536) × (f < 9223372036854775808) ⌝ }
-    requires { ⌜ 4096 ≤ length (now hints) ⌝ }
-    ensures { λ r. ⌜ ltb r n ≡ inRanges (now (firsts .entry)) (now (reach .entry)) n f ⌝ }
-    ensures { λ r. ⌜ (r < n → holds (now (firsts .entry)) (now (reach .entry)) f r ≡ true) ⌝ }
-{
-    if last < n {
-        if holds(firsts, reach, f, last) {
-            return last;
-        }
-    }
-    find_by_hint(firsts, reach, n, hints, spread, f)
-}
-
 // `size` numbers from `low` on.
 pub struct Interval {
     pub low: u64,
@@ -397,22 +181,12 @@ fn cut(x: u64, base: u64) -> u64
 }
 
 // The numbers of a zone around f that one entry holds; none where f is in no range.
-pub fn interval_around(
-    firsts: &[u64],
-    reach: &[u64],
-    n: usize,
-    hints: &mut [u16],
-    spread: Spread,
-    zone: usize,
-    f: u64,
-) -> Interval
-    requires { ⌜ Ordered (now firsts) (now reach) n × (n ≤ 65536) ⌝ }
-    requires { ⌜ (zone < 4096) × (f < 4294967296) ⌝ }
-    requires { ⌜ 4096 ≤ length (now hints) ⌝ }
+pub fn interval_around(firsts: &[u64], reach: &[u64], n: usize, zone: usize, f: u64) -> Interval
+    requires { ⌜ Ordered (now firsts) (now reach) n × ((zone < 4096) × (f < 4294967296)) ⌝ }
     ensures { λ r. ⌜ Covered (now (firsts .entry)) (now (reach .entry)) n zone r ⌝ }
     ensures { λ r. ⌜ ltb 0 (r .size) ≡ inRanges (now (firsts .entry)) (now (reach .entry)) n (key zone f) ⌝ }
 {
-    let j = find_by_hint(firsts, reach, n, hints, spread, key(zone, f));
+    let j = find(firsts, reach, n, n, key(zone, f));
     if n <= j {
         return Interval { low: 0, size: 0 };
     }

@@ -1,0 +1,160 @@
+// Guesses of the entries that hold numbers, eight in one loop, by a search tree over the first numbers of a zone's ranges. Whoever uses a guess asks
+// the entry: what the tree holds decides how soon an entry is found, not which.
+ghost use Prim.Native.Nat.{_+_, _*_, _≤_, _<_};
+ghost use lib.ListN.{length};
+ghost use Rattle.ranges.specs.Tables.{Firsts};
+ghost use Rattle.ranges.specs.SearchTree.{Planted, InLevel};
+use super::begun;
+use super::key;
+use std::num::wrapping_add_u64;
+
+// A tree: the first entry of its ranges, and how many nodes its lowest level has, a power of two; 0 where there is no tree. Node 1 is the top, and below
+// node p stand nodes 2 p and 2 p + 1.
+pub struct SearchTree {
+    pub from: usize,
+    pub lowest: usize,
+}
+
+// Four numbers that are looked for.
+pub struct Four {
+    pub a: u32,
+    pub b: u32,
+    pub c: u32,
+    pub d: u32,
+}
+
+// A node of a tree for each of four numbers, or an entry.
+pub struct Places {
+    pub a: usize,
+    pub b: usize,
+    pub c: usize,
+    pub d: usize,
+}
+
+// The entries guessed for eight numbers.
+pub struct Guesses {
+    pub first: Places,
+    pub second: Places,
+}
+
+// How many nodes the lowest level has, so that the tree tells `count` ranges apart.
+fn lowest_for(count: usize) -> usize
+    ensures { λ r. ⌜ r ≤ 1024 ⌝ }
+{
+    if count < 2 {
+        return 0;
+    }
+    let mut lowest: usize = 1;
+    while lowest <= 512 {
+        if count <= 2 * lowest {
+            return lowest;
+        }
+        lowest = 2 * lowest;
+    }
+    lowest
+}
+
+// The first number of entry j, without its zone; the greatest number where j is not before `to`.
+fn number_of(firsts: &[u64], j: u64, to: usize) -> u32
+    requires { ⌜ to ≤ length (now firsts) ⌝ }
+{
+    if j < to as u64 {
+        return (firsts[j as usize] % 4294967296) as u32;
+    }
+    4294967295
+}
+
+// Fills the level of a tree that begins with node `first`: its entries stand two steps apart, the first a step after entry `from`.
+fn fill_level(firsts: &[u64], from: usize, to: usize, first: usize, step: usize, nodes: &mut [u32])
+    requires { ⌜ ((to ≤ length (now firsts)) × (from ≤ 2048)) × ((step ≤ 1024) × (2 * first ≤ length (now nodes))) ⌝ }
+{
+    let end = 2 * first;
+    let mut j = (from + step) as u64;
+    let mut p = first;
+    while p < end {
+        nodes[p] = number_of(firsts, j, to);
+        j = wrapping_add_u64(j, 2 * step as u64);
+        p += 1;
+    }
+}
+
+// Makes the tree of the ranges of a zone, which are among n. Where few numbers are looked for it is not worth the work.
+pub fn plant(firsts: &[u64], n: usize, zone: usize, uses: usize, nodes: &mut [u32]) -> SearchTree
+    requires { ⌜ (Firsts (now firsts) n × (n ≤ 2048)) × ((zone < 4096) × (2048 ≤ length (now nodes))) ⌝ }
+    ensures { λ r. ⌜ Planted r ⌝ }
+{
+    let from = begun(firsts, n, key(zone, 0));
+    let to = begun(firsts, n, key(zone, 4294967295));
+    if uses / 8 < n {
+        return SearchTree { from, lowest: 0 };
+    }
+    let lowest = lowest_for(to - from);
+    let mut step = lowest;
+    let mut first: usize = 1;
+    while first <= lowest {
+        fill_level(firsts, from, to, first, step, nodes);
+        step = step / 2;
+        first = 2 * first;
+    }
+    SearchTree { from, lowest }
+}
+
+// The node below node p where f is to be looked for: the second where f is no less than the node's number.
+fn below(nodes: &[u32], p: usize, f: u32) -> usize
+    requires { ⌜ (p < length (now nodes)) × (p < 2048) ⌝ }
+    ensures { λ r. ⌜ (2 * p ≤ r) × (r ≤ 2 * p + 1) ⌝ }
+{
+    if nodes[p] <= f { 2 * p + 1 } else { 2 * p }
+}
+
+// The nodes below those of the level that begins with node `first`, for four numbers.
+fn four_below(nodes: &[u32], first: usize, p: Places, f: Four) -> Places
+    requires { ⌜ ((first ≤ 1024) × (2048 ≤ length (now nodes))) × InLevel first p ⌝ }
+    ensures { λ r. ⌜ InLevel (2 * first) r ⌝ }
+{
+    let a = below(nodes, p.a, f.a);
+    let b = below(nodes, p.b, f.b);
+    let c = below(nodes, p.c, f.c);
+    let d = below(nodes, p.d, f.d);
+    Places { a, b, c, d }
+}
+
+// The entries of four places below the lowest level, the first of which is `first`.
+fn entries_at(first: usize, p: Places, from: usize) -> Places
+    requires { ⌜ ((first ≤ 2048) × (from ≤ 2048)) × InLevel first p ⌝ }
+{
+    Places {
+        a: from + p.a - first,
+        b: from + p.b - first,
+        c: from + p.c - first,
+        d: from + p.d - first,
+    }
+}
+
+// Guesses the entries of eight numbers of the tree's zone.
+pub fn guess(nodes: &[u32], tree: SearchTree, f: Four, g: Four) -> Guesses
+    requires { ⌜ Planted tree × (2048 ≤ length (now nodes)) ⌝ }
+{
+    let mut p = Places {
+        a: 1,
+        b: 1,
+        c: 1,
+        d: 1,
+    };
+    let mut q = Places {
+        a: 1,
+        b: 1,
+        c: 1,
+        d: 1,
+    };
+    let mut first: usize = 1;
+    while first <= tree.lowest {
+        p = four_below(nodes, first, p, f);
+        q = four_below(nodes, first, q, g);
+        first = 2 * first;
+    }
+    Guesses {
+        first: entries_at(first, p, tree.from),
+        second: entries_at(first, q, tree.from),
+    }
+}
