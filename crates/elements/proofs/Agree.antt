@@ -3,9 +3,11 @@ use Prim.Native.Nat.{ℕ, zero, suc, _+_, _-_, _≤_, _<_}
 use mathlib.Core.Path.{_≡_, refl, _∙_}
 use mathlib.Core.Bool.{Bool, true, false, _&&_}
 use native.Mathlib.Omega.{arith}
+use native.Mathlib.Decide.{ℕ-discrete, decLt}
 use Rattle.model.specs.Lists.{everyFrom}
 use Rattle.model.proofs.Logic.{and-first, and-second}
 use Rattle.model.proofs.Loops.{EveryLeft, every-more, every-stop, every-done}
+use Rattle.elements.specs.Arrays.{Passed}
 
 module _ (p q : ℕ → Bool) where
   pub every-same : (k i : ℕ) → ((j : ℕ) → i ≤ j → j < i + k → p j ≡ q j) → everyFrom p k i ≡ everyFrom q k i
@@ -13,13 +15,58 @@ module _ (p q : ℕ → Bool) where
   every-same zero i e = refl
   every-same (suc k) i e = rw (e i (omega arith) (omega arith), every-same k (suc i) (λ j l h. e j (omega arith) (omega arith)))
 
--- numbers that meet the test are passed over
-pub every-on : {p : ℕ → Bool} {n i j : ℕ} {w : Bool} → EveryLeft p n i w → i ≤ j → j ≤ n → ((m : ℕ) → i ≤ m → m < j → p m ≡ true) → EveryLeft p n j w
-every-on {p} {n} {i} {j} {w} l h u f = on (j - i) i l (omega arith) h f
+-- numbers that meet a test, one after the other
+pub passed-none : (p : ℕ → Bool) (n k : ℕ) → k ≤ n → Passed p n k k
+passed-none p n k h = record { from = omega arith; to = h; each = λ i x y. absurd (omega arith) }
+
+module _ {p : ℕ → Bool} {n k j : ℕ} (s : Passed p n k j) where
+  pub passed-more : j < n → p j ≡ true → Passed p n k (j + 1)
+  passed-more h e =
+      record {
+        from = omega (arith, s .from);
+        to = omega arith;
+        each = λ i x y. elim (ℕ-discrete i j) [
+          | yes q ↦ rw q e
+          | no d ↦ s .each i x (omega arith)
+        ];
+      }
+
+  pub passed-on : {m : ℕ} → Passed p n j m → Passed p n k m
+  passed-on u =
+      record {
+        from = omega (arith, s .from, u .from);
+        to = u .to;
+        each = λ i x y. elim (decLt i j) [
+          | yes l ↦ s .each i x l
+          | no l ↦ u .each i (omega arith) y
+        ];
+      }
+
+-- four in a row
+pub passed-four : {p : ℕ → Bool} {n k : ℕ} → k + 4 ≤ n → p k ≡ true → p (k + 1) ≡ true → p (k + 2) ≡ true → p (k + 3) ≡ true → Passed p n k (k + 4)
+passed-four {p} {n} {k} h a b c d =
+    record {
+      from = omega arith;
+      to = h;
+      each = λ i x y. elim (ℕ-discrete i k) [
+        | yes e ↦ rw e a
+        | no l ↦ elim (ℕ-discrete i (k + 1)) [
+          | yes e ↦ rw e b
+          | no m ↦ elim (ℕ-discrete i (k + 2)) [
+            | yes e ↦ rw e c
+            | no o ↦ let e : i ≡ k + 3 = omega arith in rw e d
+          ]
+        ]
+      ];
+    }
+
+-- they are passed over
+pub every-on : {p : ℕ → Bool} {n i j : ℕ} {w : Bool} → EveryLeft p n i w → Passed p n i j → EveryLeft p n j w
+every-on {p} {n} {i} {j} {w} l s = on (j - i) i l (omega arith) (s .from) (s .each)
   where
     on : (d i : ℕ) → EveryLeft p n i w → d ≡ j - i → i ≤ j → ((m : ℕ) → i ≤ m → m < j → p m ≡ true) → EveryLeft p n j w
     on zero i l e h f = let q : j ≡ i = omega arith in rw q l
-    on (suc d) i l e h f = on d (i + 1) (every-more l (omega arith) (f i (omega arith) (omega arith))) (omega arith) (omega arith)
+    on (suc d) i l e h f = on d (i + 1) (every-more l (omega (arith, s .to)) (f i (omega arith) (omega arith))) (omega arith) (omega arith)
         (λ m x y. f m (omega arith) y)
 
 -- a walk that takes two at a time, and the last by itself

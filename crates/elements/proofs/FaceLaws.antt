@@ -4,7 +4,6 @@ use mathlib.Core.Path.{_≡_, sym, ap, _∙_}
 use mathlib.Core.Bool.{Bool, true, false}
 use mathlib.Core.List.{List}
 use native.Mathlib.Omega.{arith}
-use native.Mathlib.Decide.{ℕ-discrete}
 use lib.Dec.{leb, ltb}
 use borrow.Author.Tests.{lt-ltb, le-ltb, ltb-true}
 use Rattle.model.specs.Bytes.{magnitude}
@@ -12,29 +11,12 @@ use Rattle.model.specs.Corner.{numberAt}
 use Rattle.model.specs.Image.{Tree}
 use Rattle.model.specs.Elements.{faceOf}
 use Rattle.model.proofs.Logic.{and-second, or-cases}
-use Rattle.model.proofs.Loops.{EveryLeft}
 use Rattle.ranges.specs.Tables.{key, inRanges, isWithin, Covered}
 use Rattle.ranges.specs.declared.Interval.{Interval}
 use Rattle.rows.specs.declared.Row.{Row}
-use Rattle.elements.specs.Arrays.{isKnown, Skipped}
+use Rattle.elements.specs.Arrays.{knownAt, Passed}
 use Rattle.elements.specs.Given.{refersFace}
 use Rattle.elements.specs.Ranges.{Faces}
-use Rattle.elements.proofs.Agree.{every-on}
-
-pub skipped-none : (b : List ℕ) (row : Row) (last before : Interval) (k : ℕ) → k ≤ row .n → Skipped b row last before k k
-skipped-none b row last before k h = record { from = omega arith; to = h; skips = λ i x y. absurd (omega arith) }
-
-pub skipped-more : {b : List ℕ} {row : Row} {last before : Interval} {k j : ℕ} → Skipped b row last before k j → j < row .n
-    → isKnown last before (magnitude (row .width) (numberAt b (row .at) (row .width) j)) ≡ true → Skipped b row last before k (j + 1)
-skipped-more {b} {row} {last} {before} {k} {j} s h e =
-    record {
-      from = omega (arith, s .from);
-      to = omega arith;
-      skips = λ i x y. elim (ℕ-discrete i j) [
-        | yes q ↦ rw q e
-        | no d ↦ s .skips i x (omega arith)
-      ];
-    }
 
 -- what number k of a row refers to, by its magnitude
 pub refers-by : (t : Tree) (z : ℕ) (b : List ℕ) (at w k : ℕ) {f : ℕ} {v : Bool} → f ≡ magnitude w (numberAt b at w k) → faceOf t z f ≡ v
@@ -58,9 +40,12 @@ module _ {t : Tree} {firsts reach : List ℕ} {n : ℕ} (g : Faces t firsts reac
     no-face u = sym (g .in-ranges z f h) ∙ sym e ∙ le-ltb 0 s (omega arith)
 
   -- numbers of a row that two such intervals hold refer to faces
-  pub skipped-faces : {b : List ℕ} {row : Row} {last before : Interval} {k j : ℕ} {w : Bool} → Skipped b row last before k j
-      → Covered firsts reach n z last → Covered firsts reach n z before
-      → EveryLeft (refersFace t z b (row .at) (row .width)) (row .n) k w → EveryLeft (refersFace t z b (row .at) (row .width)) (row .n) j w
+  pub known-faces : (b : List ℕ) (row : Row) {last before : Interval} {k j : ℕ} → Passed (knownAt b row last before) (row .n) k j
+      → Covered firsts reach n z last → Covered firsts reach n z before → Passed (refersFace t z b (row .at) (row .width)) (row .n) k j
   unfolding refersFace
-  skipped-faces {b} {row} {last} {before} s c d l =
-      every-on l (s .from) (s .to) (λ i x y. or-cases (isWithin last _) (isWithin before _) (s .skips i x y) (covered-face c _) (covered-face d _))
+  known-faces b row {last} {before} s c d =
+      record {
+        from = s .from;
+        to = s .to;
+        each = λ i x y. or-cases (isWithin last _) (isWithin before _) (s .each i x y) (covered-face c _) (covered-face d _);
+      }

@@ -32,8 +32,12 @@ isWithin b at w limit k = leb 1 (numberAt b at w k) && leb (numberAt b at w k) l
 abbrev pub isKnown : Interval → Interval → ℕ → Bool
 isKnown last before f = Tables.isWithin last f || Tables.isWithin before f
 
--- the magnitudes of the numbers of a row from k to j are in one of two intervals
-pub record Skipped (b : List ℕ) (row : Row) (last before : Interval) (k j : ℕ) : Type 0 where
+-- one of them holds the magnitude of number i of a row
+abbrev pub knownAt : List ℕ → Row → Interval → Interval → ℕ → Bool
+knownAt b row last before i = isKnown last before (magnitude (row .width) (numberAt b (row .at) (row .width) i))
+
+-- the numbers from k to j, of n, meet a test
+pub record Passed (p : ℕ → Bool) (n k j : ℕ) : Type 0 where
   pub from : k ≤ j
-  pub to : j ≤ row .n
-  pub skips : (i : ℕ) → k ≤ i → i < j → isKnown last before (magnitude (row .width) (numberAt b (row .at) (row .width) i)) ≡ true
+  pub to : j ≤ n
+  pub each : (i : ℕ) → k ≤ i → i < j → p i ≡ true

@@ -19,9 +19,6 @@ use labels::roles::ELEMENTS;
 use records::data_types::I4;
 use sids::range_of;
 
-// How many entries the tables have room for: a section that counts has a child of its own, so that an image has no more.
-pub const ROOM: usize = 2048;
-
 // Does section i meet rules 24 and 25, and have the type NGON_n?
 fn is_ngon(image: &[u8], i: usize) -> bool
     requires { ⌜ (Sound (now image) × (i < nodeCount (now image))) × (role (treeOf (now image)) i ≡ Elements) ⌝ }

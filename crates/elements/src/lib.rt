@@ -4,7 +4,7 @@ mod lengths; // lengths.rt: rules 29 to 32
 mod references; // references.rt: rules 34 and 35
 mod stage; // stage.rt: rules 27 to 35 together
 
-pub use element_ranges::ROOM;
 pub use element_ranges::first_overlap;
 pub use element_ranges::gather_faces;
+pub use references::guess_eight;
 pub use stage::element_stage;

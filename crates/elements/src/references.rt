@@ -1,6 +1,6 @@
 // Rules 34 and 35: what the connectivity of a section refers to.
 ghost use mathlib.Core.Path.{_≡_};
-ghost use mathlib.Core.Bool.{_&&_};
+ghost use mathlib.Core.Bool.{true, _&&_};
 ghost use Prim.Native.Nat.{_+_, _≤_, _<_};
 ghost use lib.ListN.{length};
 ghost use Rattle.model.specs.Lists.{everyFrom};
@@ -11,7 +11,8 @@ ghost use Rattle.model.specs.Elements.{elementType, allNodes, allFaces};
 ghost use Rattle.model.specs.Rules.{check};
 ghost use Rattle.model.specs.Answers.{stageTells};
 ghost use Rattle.rows.specs.Rows.{Numbers};
-ghost use Rattle.elements.specs.Arrays.{isWithin, isKnown, Skipped};
+ghost use Rattle.ranges.specs.SearchTree.{Planted};
+ghost use Rattle.elements.specs.Arrays.{isWithin, isKnown, knownAt, Passed};
 ghost use Rattle.elements.specs.Given.{RowOf, SectionContext, refersFace};
 ghost use Rattle.elements.specs.Ranges.{Faces};
 ghost use Rattle.elements.specs.Groups.{referenceRules};
@@ -19,8 +20,11 @@ use element_types::NFACE;
 use model::Rejection;
 use model::Stage;
 use ranges::Interval;
-use ranges::NO_HINTS;
-use ranges::Spread;
+use ranges::search_tree;
+use ranges::search_tree::Four;
+use ranges::search_tree::Guesses;
+use ranges::search_tree::Places;
+use ranges::search_tree::SearchTree;
 use rows::Row;
 
 // Does number k of a row lie in 1 to limit?
@@ -88,7 +92,7 @@ fn is_known(last: Interval, before: Interval, f: u64) -> bool
 fn first_outside(image: &[u8], row: Row, k: usize, last: Interval, before: Interval) -> usize
     requires { ⌜ Numbers (now image) (row .at) (row .width) (row .n) × (k ≤ row .n) ⌝ }
     requires { ⌜ (last .low + last .size ≤ 4294967296) × (before .low + before .size ≤ 4294967296) ⌝ }
-    ensures { λ r. ⌜ Skipped (now (image .entry)) row last before k r ⌝ }
+    ensures { λ r. ⌜ Passed (knownAt (now (image .entry)) row last before) (row .n) k r ⌝ }
 {
     let n = row.n;
     let mut j = k;
@@ -101,7 +105,7 @@ fn first_outside(image: &[u8], row: Row, k: usize, last: Interval, before: Inter
     j
 }
 
-// Does number k of a row refer to a face of zone z?
+// Does number k of a row refer to a face of zone z? The entry `guess` is asked first.
 fn refers(
     image: &[u8],
     z: usize,
@@ -110,6 +114,7 @@ fn refers(
     firsts: &[u64],
     reach: &[u64],
     count: usize,
+    guess: usize,
 ) -> bool
     requires { ⌜ Sound (now image) × (z < nodeCount (now image)) ⌝ }
     requires { ⌜ (Numbers (now image) (row .at) (row .width) (row .n) × (k < row .n)) × Faces (treeOf (now image)) (now firsts) (now reach) count ⌝ }
@@ -119,68 +124,114 @@ fn refers(
     if types::MAX_NUMBER < f {
         return false;
     }
-    ranges::find(firsts, reach, count, count, ranges::key(z, f)) < count
+    ranges::find(firsts, reach, count, guess, ranges::key(z, f)) < count
 }
 
-// Rule 35, each number of a row by itself: as fast in any order, where neither hints nor the last numbers help.
-fn each_refers(
+// Do numbers k to k + 3 of a row refer to faces of zone z?
+fn four_refer(
     image: &[u8],
     z: usize,
     row: Row,
+    k: usize,
     firsts: &[u64],
     reach: &[u64],
     count: usize,
+    guesses: Places,
 ) -> bool
     requires { ⌜ Sound (now image) × (z < nodeCount (now image)) ⌝ }
-    requires { ⌜ Numbers (now image) (row .at) (row .width) (row .n) × Faces (treeOf (now image)) (now firsts) (now reach) count ⌝ }
-    ensures { λ r. ⌜ r ≡ everyFrom (refersFace (treeOf (now (image .entry))) z (now (image .entry)) (row .at) (row .width)) (row .n) 0 ⌝ }
+    requires { ⌜ (Numbers (now image) (row .at) (row .width) (row .n) × (k + 4 ≤ row .n)) × Faces (treeOf (now image)) (now firsts) (now reach) count ⌝ }
+    ensures { λ r. ⌜ (r ≡ true → Passed (refersFace (treeOf (now (image .entry))) z (now (image .entry)) (row .at) (row .width)) (row .n) k (k + 4)) ⌝ }
 {
-    let n = row.n;
-    let mut k: usize = 0;
-    while k < n {
-        if !refers(image, z, row, k, firsts, reach, count) {
-            return false;
-        }
-        k += 1;
+    if !refers(image, z, row, k, firsts, reach, count, guesses.a) {
+        return false;
     }
-    true
+    if !refers(image, z, row, k + 1, firsts, reach, count, guesses.b) {
+        return false;
+    }
+    if !refers(image, z, row, k + 2, firsts, reach, count, guesses.c) {
+        return false;
+    }
+    refers(image, z, row, k + 3, firsts, reach, count, guesses.d)
 }
 
-// Rule 35, by the numbers around the last two that were looked up, which are known, and by hints.
-fn all_near(
+// The magnitudes of numbers k to k + 3 of a row, as a search tree takes them.
+fn four_at(image: &[u8], row: Row, k: usize) -> Four
+    requires { ⌜ Numbers (now image) (row .at) (row .width) (row .n) × (k + 4 ≤ row .n) ⌝ }
+{
+    let a = rows::magnitude_at(image, row, k) % 4294967296;
+    let b = rows::magnitude_at(image, row, k + 1) % 4294967296;
+    let c = rows::magnitude_at(image, row, k + 2) % 4294967296;
+    let d = rows::magnitude_at(image, row, k + 3) % 4294967296;
+    Four {
+        a: a as u32,
+        b: b as u32,
+        c: c as u32,
+        d: d as u32,
+    }
+}
+
+// The entries guessed for numbers k to k + 7 of a row.
+pub fn guess_eight(image: &[u8], row: Row, k: usize, levels: &[u32], tree: SearchTree) -> Guesses
+    requires { ⌜ Numbers (now image) (row .at) (row .width) (row .n) × (k + 8 ≤ row .n) ⌝ }
+    requires { ⌜ Planted tree × (2048 ≤ length (now levels)) ⌝ }
+{
+    search_tree::guess(
+        levels,
+        tree,
+        four_at(image, row, k),
+        four_at(image, row, k + 4),
+    )
+}
+
+// Where numbers of a row are looked up by guesses: from j to the answer. None where eight or more from k on lay in the intervals of the last two,
+// else no more than 64.
+fn jumps_to(k: usize, j: usize, n: usize) -> usize
+    requires { ⌜ (k ≤ j) × (j ≤ n) ⌝ }
+    ensures { λ r. ⌜ (j ≤ r) × (r ≤ n) ⌝ }
+{
+    if 8 <= j - k {
+        return j;
+    }
+    if n - j <= 64 {
+        return n;
+    }
+    j + 64
+}
+
+// How far numbers k to `end` of a row refer to faces of zone z, as guesses tell, eight at a time.
+fn guessed_to(
     image: &[u8],
     z: usize,
     row: Row,
+    k: usize,
+    end: usize,
     firsts: &[u64],
     reach: &[u64],
     count: usize,
-    hints: &mut [u16],
-    spread: Spread,
-) -> bool
-    requires { ⌜ Sound (now image) × (z < nodeCount (now image)) ⌝ }
+    levels: &[u32],
+    tree: SearchTree,
+) -> usize
+    requires { ⌜ (Sound (now image) × (z < nodeCount (now image))) × ((k ≤ end) × (end ≤ row .n)) ⌝ }
     requires { ⌜ Numbers (now image) (row .at) (row .width) (row .n) × Faces (treeOf (now image)) (now firsts) (now reach) count ⌝ }
-    requires { ⌜ 4096 ≤ length (now hints) ⌝ }
-    ensures { λ r. ⌜ r ≡ everyFrom (refersFace (treeOf (now (image .entry))) z (now (image .entry)) (row .at) (row .width)) (row .n) 0 ⌝ }
+    requires { ⌜ Planted tree × (2048 ≤ length (now levels)) ⌝ }
+    ensures { λ r. ⌜ Passed (refersFace (treeOf (now (image .entry))) z (now (image .entry)) (row .at) (row .width)) (row .n) k r ⌝ }
 {
-    let n = row.n;
-    let mut last = Interval { low: 0, size: 0 };
-    let mut k: usize = 0;
-    while k < n {
-        let f = rows::magnitude_at(image, row, k);
-        if types::MAX_NUMBER < f {
-            return false;
+    let mut j = k;
+    while 8 <= end - j {
+        let guesses = guess_eight(image, row, j, levels, tree);
+        if !four_refer(image, z, row, j, firsts, reach, count, guesses.first) {
+            return j;
         }
-        let next = ranges::interval_around(firsts, reach, count, hints, spread, z, f);
-        if next.size == 0 {
-            return false;
+        if !four_refer(image, z, row, j + 4, firsts, reach, count, guesses.second) {
+            return j;
         }
-        k = first_outside(image, row, k + 1, next, last);
-        last = next;
+        j += 8;
     }
-    true
+    j
 }
 
-// Rule 35: does every number of a row refer to a face of zone z?
+// Rule 35: does every number of a row refer to a face of zone z? The numbers around the last two that were looked up are known; where numbers jump,
+// their entries are guessed.
 fn all_refer(
     image: &[u8],
     z: usize,
@@ -188,18 +239,32 @@ fn all_refer(
     firsts: &[u64],
     reach: &[u64],
     count: usize,
-    hints: &mut [u16],
+    levels: &mut [u32],
 ) -> bool
     requires { ⌜ Sound (now image) × (z < nodeCount (now image)) ⌝ }
     requires { ⌜ Numbers (now image) (row .at) (row .width) (row .n) × Faces (treeOf (now image)) (now firsts) (now reach) count ⌝ }
-    requires { ⌜ 4096 ≤ length (now hints) ⌝ }
+    requires { ⌜ 2048 ≤ length (now levels) ⌝ }
     ensures { λ r. ⌜ r ≡ everyFrom (refersFace (treeOf (now (image .entry))) z (now (image .entry)) (row .at) (row .width)) (row .n) 0 ⌝ }
 {
-    let spread = ranges::spread_for(firsts, reach, count, hints, row.n);
-    if spread.factor == NO_HINTS {
-        return each_refers(image, z, row, firsts, reach, count);
+    let n = row.n;
+    let tree = search_tree::plant(firsts, count, z, n, levels);
+    let mut last = Interval { low: 0, size: 0 };
+    let mut k: usize = 0;
+    while k < n {
+        let f = rows::magnitude_at(image, row, k);
+        if types::MAX_NUMBER < f {
+            return false;
+        }
+        let next = ranges::interval_around(firsts, reach, count, z, f);
+        if next.size == 0 {
+            return false;
+        }
+        let j = first_outside(image, row, k + 1, next, last);
+        let end = jumps_to(k, j, n);
+        k = guessed_to(image, z, row, j, end, firsts, reach, count, levels, tree);
+        last = next;
     }
-    all_near(image, z, row, firsts, reach, count, hints, spread)
+    true
 }
 
 // Rule 35: every reference of section s, those of the row, is a face of its zone.
@@ -210,11 +275,11 @@ fn faces_lawful(
     firsts: &[u64],
     reach: &[u64],
     faces: usize,
-    hints: &mut [u16],
+    levels: &mut [u32],
 ) -> bool
     requires { ⌜ Sound (now image) × SectionContext (now image) s ⌝ }
     requires { ⌜ RowOf (now image) (connectivityOf (treeOf (now image)) s) row ⌝ }
-    requires { ⌜ Faces (treeOf (now image)) (now firsts) (now reach) faces × (4096 ≤ length (now hints)) ⌝ }
+    requires { ⌜ Faces (treeOf (now image)) (now firsts) (now reach) faces × (2048 ≤ length (now levels)) ⌝ }
     ensures { λ r. ⌜ r ≡ allFaces (treeOf (now (image .entry))) s ⌝ }
 {
     all_refer(
@@ -224,7 +289,7 @@ fn faces_lawful(
         firsts,
         reach,
         faces,
-        hints,
+        levels,
     )
 }
 
@@ -237,15 +302,15 @@ pub fn reference_stage(
     firsts: &[u64],
     reach: &[u64],
     faces: usize,
-    hints: &mut [u16],
+    levels: &mut [u32],
 ) -> Stage
     requires { ⌜ Sound (now image) × SectionContext (now image) s ⌝ }
     requires { ⌜ RowOf (now image) (connectivityOf (treeOf (now image)) s) row × («element_type» ≡ elementType (treeOf (now image)) s) ⌝ }
-    requires { ⌜ Faces (treeOf (now image)) (now firsts) (now reach) faces × (4096 ≤ length (now hints)) ⌝ }
+    requires { ⌜ Faces (treeOf (now image)) (now firsts) (now reach) faces × (2048 ≤ length (now levels)) ⌝ }
     ensures { λ r. ⌜ stageTells r ≡ check s (referenceRules (treeOf (now (image .entry))) s) ⌝ }
 {
     if element_type == NFACE {
-        if faces_lawful(image, s, row, firsts, reach, faces, hints) {
+        if faces_lawful(image, s, row, firsts, reach, faces, levels) {
             return Stage::Pass;
         }
         return Stage::Rejected(Rejection::at(35, s as u64));

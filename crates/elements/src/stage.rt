@@ -34,11 +34,11 @@ fn array_stage(
     firsts: &[u64],
     reach: &[u64],
     faces: usize,
-    hints: &mut [u16],
+    levels: &mut [u32],
 ) -> Stage
     requires { ⌜ Index (now image) (now index) × SectionContext (now image) s ⌝ }
     requires { ⌜ («element_type» ≡ elementType (treeOf (now image)) s) × (n ≡ elementCount (treeOf (now image)) s) ⌝ }
-    requires { ⌜ Faces (treeOf (now image)) (now firsts) (now reach) faces × (4096 ≤ length (now hints)) ⌝ }
+    requires { ⌜ Faces (treeOf (now image)) (now firsts) (now reach) faces × (2048 ≤ length (now levels)) ⌝ }
     ensures { λ r. ⌜ stageTells r ≡ (check s (shapeRules (treeOf (now (image .entry))) s) then check s (referenceRules (treeOf (now (image .entry))) s)) ⌝ }
 {
     let row = row_of(image, connectivity_of(image, index, s));
@@ -46,7 +46,7 @@ fn array_stage(
     let Stage::Pass = shape else {
         return shape;
     };
-    reference_stage(image, s, element_type, row, firsts, reach, faces, hints)
+    reference_stage(image, s, element_type, row, firsts, reach, faces, levels)
 }
 
 // Rules 27 to 35 at section s, to which validation has come, and where rules 20 to 26 hold. `overlap` is the first node that breaks rule 28; the tables
@@ -59,13 +59,13 @@ pub fn element_stage(
     firsts: &[u64],
     reach: &[u64],
     faces: usize,
-    hints: &mut [u16],
+    levels: &mut [u32],
 ) -> Stage
     requires { ⌜ NodesTo (now image) s × Index (now image) (now index) ⌝ }
     requires { ⌜ (validated (treeOf (now image)) s ≡ true) × (role (treeOf (now image)) s ≡ Elements) ⌝ }
     requires { ⌜ check s (sidsRules (treeOf (now image)) s) ≡ passed ⌝ }
     requires { ⌜ overlap ≡ seekFrom (overlapAt (treeOf (now image))) (nodeCount (now image)) 0 ⌝ }
-    requires { ⌜ Faces (treeOf (now image)) (now firsts) (now reach) faces × (4096 ≤ length (now hints)) ⌝ }
+    requires { ⌜ Faces (treeOf (now image)) (now firsts) (now reach) faces × (2048 ≤ length (now levels)) ⌝ }
     ensures { λ r. ⌜ stageTells r ≡ check s (elementRules (treeOf (now (image .entry))) s) ⌝ }
 {
     let element_type = types::whole(image, s, 0);
@@ -87,6 +87,6 @@ pub fn element_stage(
         firsts,
         reach,
         faces,
-        hints,
+        levels,
     )
 }

@@ -1,9 +1,9 @@
--- What is known of a search tree and of the places in it: they lie in the table. What its nodes hold is not told.
+-- What is known of a search tree and of the places in it: they lie in the table. What stands there is not told.
 use Prim.Native.Nat.{ℕ, _*_, _≤_, _<_}
 use Rattle.ranges.specs.declared.search_tree.SearchTree.{SearchTree}
 use Rattle.ranges.specs.declared.search_tree.Places.{Places}
 
--- its nodes have room in a table of 2,048
+-- its places lie in a table of 2,048
 pub record Planted (t : SearchTree) : Type 0 where
   pub from : t .from ≤ 2048
   pub lowest : t .lowest ≤ 1024

@@ -8,8 +8,8 @@ use super::begun;
 use super::key;
 use std::num::wrapping_add_u64;
 
-// A tree: the first entry of its ranges, and how many nodes its lowest level has, a power of two; 0 where there is no tree. Node 1 is the top, and below
-// node p stand nodes 2 p and 2 p + 1.
+// A tree: the first entry of its ranges, and how many places its lowest level has, a power of two; 0 where there is no tree. Place 1 is the top, and
+// below place p stand places 2 p and 2 p + 1.
 pub struct SearchTree {
     pub from: usize,
     pub lowest: usize,
@@ -23,7 +23,7 @@ pub struct Four {
     pub d: u32,
 }
 
-// A node of a tree for each of four numbers, or an entry.
+// A place of a tree for each of four numbers, or an entry.
 pub struct Places {
     pub a: usize,
     pub b: usize,
@@ -37,7 +37,7 @@ pub struct Guesses {
     pub second: Places,
 }
 
-// How many nodes the lowest level has, so that the tree tells `count` ranges apart.
+// How many places the lowest level has, so that the tree tells `count` ranges apart.
 fn lowest_for(count: usize) -> usize
     ensures { λ r. ⌜ r ≤ 1024 ⌝ }
 {
@@ -64,23 +64,23 @@ fn number_of(firsts: &[u64], j: u64, to: usize) -> u32
     4294967295
 }
 
-// Fills the level of a tree that begins with node `first`: its entries stand two steps apart, the first a step after entry `from`.
-fn fill_level(firsts: &[u64], from: usize, to: usize, first: usize, step: usize, nodes: &mut [u32])
-    requires { ⌜ ((to ≤ length (now firsts)) × (from ≤ 2048)) × ((step ≤ 1024) × (2 * first ≤ length (now nodes))) ⌝ }
+// Fills the level of a tree that begins with place `first`: its entries stand two steps apart, the first a step after entry `from`.
+fn fill_level(firsts: &[u64], from: usize, to: usize, first: usize, step: usize, levels: &mut [u32])
+    requires { ⌜ ((to ≤ length (now firsts)) × (from ≤ 2048)) × ((step ≤ 1024) × (2 * first ≤ length (now levels))) ⌝ }
 {
     let end = 2 * first;
     let mut j = (from + step) as u64;
     let mut p = first;
     while p < end {
-        nodes[p] = number_of(firsts, j, to);
+        levels[p] = number_of(firsts, j, to);
         j = wrapping_add_u64(j, 2 * step as u64);
         p += 1;
     }
 }
 
 // Makes the tree of the ranges of a zone, which are among n. Where few numbers are looked for it is not worth the work.
-pub fn plant(firsts: &[u64], n: usize, zone: usize, uses: usize, nodes: &mut [u32]) -> SearchTree
-    requires { ⌜ (Firsts (now firsts) n × (n ≤ 2048)) × ((zone < 4096) × (2048 ≤ length (now nodes))) ⌝ }
+pub fn plant(firsts: &[u64], n: usize, zone: usize, uses: usize, levels: &mut [u32]) -> SearchTree
+    requires { ⌜ (Firsts (now firsts) n × (n ≤ 2048)) × ((zone < 4096) × (2048 ≤ length (now levels))) ⌝ }
     ensures { λ r. ⌜ Planted r ⌝ }
 {
     let from = begun(firsts, n, key(zone, 0));
@@ -92,30 +92,30 @@ pub fn plant(firsts: &[u64], n: usize, zone: usize, uses: usize, nodes: &mut [u3
     let mut step = lowest;
     let mut first: usize = 1;
     while first <= lowest {
-        fill_level(firsts, from, to, first, step, nodes);
+        fill_level(firsts, from, to, first, step, levels);
         step = step / 2;
         first = 2 * first;
     }
     SearchTree { from, lowest }
 }
 
-// The node below node p where f is to be looked for: the second where f is no less than the node's number.
-fn below(nodes: &[u32], p: usize, f: u32) -> usize
-    requires { ⌜ (p < length (now nodes)) × (p < 2048) ⌝ }
+// The place below place p where f is to be looked for: the second where f is no less than the number at p.
+fn below(levels: &[u32], p: usize, f: u32) -> usize
+    requires { ⌜ (p < length (now levels)) × (p < 2048) ⌝ }
     ensures { λ r. ⌜ (2 * p ≤ r) × (r ≤ 2 * p + 1) ⌝ }
 {
-    if nodes[p] <= f { 2 * p + 1 } else { 2 * p }
+    if levels[p] <= f { 2 * p + 1 } else { 2 * p }
 }
 
-// The nodes below those of the level that begins with node `first`, for four numbers.
-fn four_below(nodes: &[u32], first: usize, p: Places, f: Four) -> Places
-    requires { ⌜ ((first ≤ 1024) × (2048 ≤ length (now nodes))) × InLevel first p ⌝ }
+// The places below those of the level that begins with place `first`, for four numbers.
+fn four_below(levels: &[u32], first: usize, p: Places, f: Four) -> Places
+    requires { ⌜ ((first ≤ 1024) × (2048 ≤ length (now levels))) × InLevel first p ⌝ }
     ensures { λ r. ⌜ InLevel (2 * first) r ⌝ }
 {
-    let a = below(nodes, p.a, f.a);
-    let b = below(nodes, p.b, f.b);
-    let c = below(nodes, p.c, f.c);
-    let d = below(nodes, p.d, f.d);
+    let a = below(levels, p.a, f.a);
+    let b = below(levels, p.b, f.b);
+    let c = below(levels, p.c, f.c);
+    let d = below(levels, p.d, f.d);
     Places { a, b, c, d }
 }
 
@@ -132,8 +132,8 @@ fn entries_at(first: usize, p: Places, from: usize) -> Places
 }
 
 // Guesses the entries of eight numbers of the tree's zone.
-pub fn guess(nodes: &[u32], tree: SearchTree, f: Four, g: Four) -> Guesses
-    requires { ⌜ Planted tree × (2048 ≤ length (now nodes)) ⌝ }
+pub fn guess(levels: &[u32], tree: SearchTree, f: Four, g: Four) -> Guesses
+    requires { ⌜ Planted tree × (2048 ≤ length (now levels)) ⌝ }
 {
     let mut p = Places {
         a: 1,
@@ -149,8 +149,8 @@ pub fn guess(nodes: &[u32], tree: SearchTree, f: Four, g: Four) -> Guesses
     };
     let mut first: usize = 1;
     while first <= tree.lowest {
-        p = four_below(nodes, first, p, f);
-        q = four_below(nodes, first, q, g);
+        p = four_below(levels, first, p, f);
+        q = four_below(levels, first, q, g);
         first = 2 * first;
     }
     Guesses {

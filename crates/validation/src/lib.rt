@@ -34,17 +34,17 @@ fn section_stage(
     firsts: &[u64],
     reach: &[u64],
     faces: usize,
-    hints: &mut [u16],
+    levels: &mut [u32],
 ) -> Stage
     requires { ⌜ NodesTo (now image) i × Index (now image) (now index) ⌝ }
     requires { ⌜ validated (treeOf (now image)) i ≡ true ⌝ }
     requires { ⌜ check i (sidsRules (treeOf (now image)) i) ≡ passed ⌝ }
     requires { ⌜ overlap ≡ seekFrom (overlapAt (treeOf (now image))) (nodeCount (now image)) 0 ⌝ }
-    requires { ⌜ Faces (treeOf (now image)) (now firsts) (now reach) faces × (4096 ≤ length (now hints)) ⌝ }
+    requires { ⌜ Faces (treeOf (now image)) (now firsts) (now reach) faces × (2048 ≤ length (now levels)) ⌝ }
     ensures { λ r. ⌜ stageTells r ≡ check i (cond (eqb (role (treeOf (now (image .entry))) i) Elements) (elementRules (treeOf (now (image .entry))) i) []) ⌝ }
 {
     if index::role_of(image, index, i) == ELEMENTS {
-        return elements::element_stage(image, index, i, overlap, firsts, reach, faces, hints);
+        return elements::element_stage(image, index, i, overlap, firsts, reach, faces, levels);
     }
     Stage::Pass
 }
@@ -58,11 +58,11 @@ fn node_stage(
     firsts: &[u64],
     reach: &[u64],
     faces: usize,
-    hints: &mut [u16],
+    levels: &mut [u32],
 ) -> Stage
     requires { ⌜ NodesTo (now image) i × Index (now image) (now index) ⌝ }
     requires { ⌜ overlap ≡ seekFrom (overlapAt (treeOf (now image))) (nodeCount (now image)) 0 ⌝ }
-    requires { ⌜ Faces (treeOf (now image)) (now firsts) (now reach) faces × (4096 ≤ length (now hints)) ⌝ }
+    requires { ⌜ Faces (treeOf (now image)) (now firsts) (now reach) faces × (2048 ≤ length (now levels)) ⌝ }
     ensures { λ r. ⌜ stageTells r ≡ nodeCheckAt (treeOf (now (image .entry))) i ⌝ }
 {
     if !index::is_validated(image, index, i) {
@@ -72,7 +72,7 @@ fn node_stage(
     let Stage::Pass = s else {
         return s;
     };
-    section_stage(image, index, i, overlap, firsts, reach, faces, hints)
+    section_stage(image, index, i, overlap, firsts, reach, faces, levels)
 }
 
 // Rules 20 to 35 at every node, the lowest first. `overlap` is the first node that breaks rule 28; the tables hold the faces of all zones.
@@ -83,17 +83,17 @@ fn every_node(
     firsts: &[u64],
     reach: &[u64],
     faces: usize,
-    hints: &mut [u16],
+    levels: &mut [u32],
 ) -> Stage
     requires { ⌜ Index (now image) (now index) ⌝ }
     requires { ⌜ overlap ≡ seekFrom (overlapAt (treeOf (now image))) (nodeCount (now image)) 0 ⌝ }
-    requires { ⌜ Faces (treeOf (now image)) (now firsts) (now reach) faces × (4096 ≤ length (now hints)) ⌝ }
+    requires { ⌜ Faces (treeOf (now image)) (now firsts) (now reach) faces × (2048 ≤ length (now levels)) ⌝ }
     ensures { λ r. ⌜ stageTells r ≡ nodeCheck (treeOf (now (image .entry))) ⌝ }
 {
     let n = labels::node_count(image);
     let mut i = 0;
     while i < n {
-        let s = node_stage(image, index, i, overlap, firsts, reach, faces, hints);
+        let s = node_stage(image, index, i, overlap, firsts, reach, faces, levels);
         let Stage::Pass = s else {
             return s;
         };
@@ -108,15 +108,15 @@ fn nodes_stage(
     index: &[u16],
     firsts: &mut [u64],
     reach: &mut [u64],
-    hints: &mut [u16],
+    levels: &mut [u32],
 ) -> Stage
-    requires { ⌜ Index (now image) (now index) × (4096 ≤ length (now hints)) ⌝ }
+    requires { ⌜ Index (now image) (now index) × (2048 ≤ length (now levels)) ⌝ }
     requires { ⌜ (2048 ≤ length (now firsts)) × (2048 ≤ length (now reach)) ⌝ }
     ensures { λ r. ⌜ stageTells r ≡ nodeCheck (treeOf (now (image .entry))) ⌝ }
 {
     let overlap = elements::first_overlap(image, index, firsts, reach);
     let faces = elements::gather_faces(image, index, firsts, reach);
-    every_node(image, index, overlap, firsts, reach, faces, hints)
+    every_node(image, index, overlap, firsts, reach, faces, levels)
 }
 
 // Every rule, 1 to 35, as one stage, in lent tables. The index is that of the image where rules 1 to 18 hold.
@@ -125,9 +125,9 @@ pub fn image_stage_with(
     index: &mut [u16],
     firsts: &mut [u64],
     reach: &mut [u64],
-    hints: &mut [u16],
+    levels: &mut [u32],
 ) -> Stage
-    requires { ⌜ (16384 ≤ length (now index)) × (4096 ≤ length (now hints)) ⌝ }
+    requires { ⌜ (16384 ≤ length (now index)) × (2048 ≤ length (now levels)) ⌝ }
     requires { ⌜ (2048 ≤ length (now firsts)) × (2048 ≤ length (now reach)) ⌝ }
     ensures { λ r. ⌜ (stageTells r ≡ imageCheck (now (image .entry))) × (stageTells r ≡ passed → Index (now (image .entry)) (now (index .exit))) ⌝ }
 {
@@ -136,7 +136,7 @@ pub fn image_stage_with(
         return s;
     };
     index::build(image, index);
-    nodes_stage(image, index, firsts, reach, hints)
+    nodes_stage(image, index, firsts, reach, levels)
 }
 
 // The same, where the index alone is lent.
@@ -146,8 +146,8 @@ pub fn image_stage(image: &[u8], index: &mut [u16]) -> Stage
 {
     let mut firsts: [u64; 2048] = [0; 2048];
     let mut reach: [u64; 2048] = [0; 2048];
-    let mut hints: [u16; 4096] = [0; 4096];
-    image_stage_with(image, index, &mut firsts, &mut reach, &mut hints)
+    let mut levels: [u32; 2048] = [0; 2048];
+    image_stage_with(image, index, &mut firsts, &mut reach, &mut levels)
 }
 
 // 1 for a test that holds, 0 for one that does not.

@@ -11,10 +11,10 @@ use Rattle.validation.proofs.every_node.Statement.{statement}
 use Rattle.validation.proofs.every_node.Tie as tie
 
 abbrev Inv-loop : tie.InvT-loop
-Inv-loop image index overlap firsts reach faces hints₀ n i₀ hints i = (length hints ≡ length hints₀) × NodesLeft (treeOf image) n i
+Inv-loop image index overlap firsts reach faces levels₀ n i₀ levels i = (length levels ≡ length levels₀) × NodesLeft (treeOf image) n i
 
 abbrev μ-loop : tie.MeasureT-loop
-μ-loop image index overlap firsts reach faces hints₀ n i₀ hints i = n - i
+μ-loop image index overlap firsts reach faces levels₀ n i₀ levels i = n - i
 
 loop-holds : tie.Need-loop-holds Inv-loop μ-loop
 unfolding treeOf

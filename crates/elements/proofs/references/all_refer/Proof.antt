@@ -1,26 +1,90 @@
--- Each number by itself, or by the last ones and by hints: both tell of all numbers.
+-- The whole is the rest from number k on; numbers in the two intervals are faces, a number looked up is one where it is found, and so are those guessed.
+use Prim.Native.Nat.{_-_}
+use mathlib.Core.Path.{_≡_, _∙_}
+use Rattle.model.specs.Lists.{everyFrom}
+use Rattle.model.specs.Image.{treeOf}
+use Rattle.model.proofs.Loops.{EveryLeft, every-start, every-more, every-stop, every-done}
+use Rattle.ranges.specs.Tables.{Covered}
+use Rattle.ranges.proofs.Intervals.{none-covered}
+use Rattle.elements.specs.Given.{refersFace}
+use Rattle.elements.proofs.RangeLaws.{too-great}
+use Rattle.elements.proofs.Agree.{every-on}
+use Rattle.elements.proofs.FaceLaws.{refers-by, found-face, no-face, known-faces}
 use native.Mathlib.Omega.{arith}
 use borrow.Author.Needs.{needs}
 use Rattle.elements.proofs.references.all_refer.Statement.{statement}
 use Rattle.elements.proofs.references.all_refer.Tie as tie
 
-all-near-requires : tie.Need-all-near-requires
-all-near-requires c κs =
-    let s = c .before .before .before .before .before in
-    let p = s .before .before .before .before .before .before .pre in
-    (p .0, (p .1 .0, omega (arith, s .spread-for .kept .1 .1 .1 .0, p .1 .1)))
+abbrev Inv-loop : tie.InvT-loop
+Inv-loop image z row firsts reach count levels n tree last₀ k₀ last k =
+    Covered firsts reach count z last × EveryLeft (refersFace (treeOf image) z image (row .at) (row .width)) n k
+    (everyFrom (refersFace (treeOf image) z image (row .at) (row .width)) n 0)
 
-same-length : tie.Need-same-length
-same-length c = search needs
+abbrev μ-loop : tie.MeasureT-loop
+μ-loop image z row firsts reach count levels n tree last₀ k₀ last k = n - k
 
-returns : tie.Need-returns
-returns c = search needs
+loop-holds : tie.Need-loop-holds Inv-loop μ-loop
+loop-holds c = (none-covered _ _ _ _, every-start _ _)
 
-same-length-2 : tie.Need-same-length-2
-same-length-2 c = search needs
+returns : tie.Need-returns Inv-loop μ-loop
+returns c =
+    let l = c .before .before .before in
+    every-stop (l .loop .inv .1) (omega (arith, c .before .before .loop-test .taken))
+    (refers-by _ _ _ _ _ _ (c .before .magnitude-at .ensures) (too-great (l .before .before .before .before .before .before .before .before .before .pre .0 .0) _ _ (c .if1 .taken)))
 
-returns-2 : tie.Need-returns-2
-returns-2 c = search needs
+interval-around-requires : tie.Need-interval-around-requires Inv-loop μ-loop
+interval-around-requires c κs =
+    let p = c .before .before .before .before .before .before .before .before .before .before .before .before .pre in (p .1 .0 .1 .ordered, (omega (arith, p .0 .1, p .0 .0 .laid .few), omega (arith, c .if1 .left)))
+
+returns-2 : tie.Need-returns-2 Inv-loop μ-loop
+returns-2 c =
+    let a = c .before .before in
+    let m = a .before .before in
+    let l = m .before .before in
+    every-stop (l .loop .inv .1) (omega (arith, m .before .loop-test .taken))
+    (refers-by _ _ _ _ _ _ (m .magnitude-at .ensures)
+    (no-face (l .before .before .before .before .before .before .before .before .before .pre .1 .0 .1) _ (omega (arith, a .before .if1 .left)) (a .interval-around .ensures .1) (c .if2 .taken)))
+
+add-first-outside : tie.Need-add-first-outside Inv-loop μ-loop
+add-first-outside c = omega (arith, c .before .before .before .before .before .loop-test .taken, c .before .before .before .before .before .before .before .before .before .before .before .before .before .before .before .good .1 .1 .0)
+
+first-outside-requires : tie.Need-first-outside-requires Inv-loop μ-loop
+first-outside-requires c κs =
+    let l = c .before .before .before .before .before .before in (
+      (l .before .before .before .before .before .before .before .before .before .pre .1 .0 .0, omega (arith, c .before .before .before .before .before .loop-test .taken)),
+      (c .before .before .interval-around .ensures .0 .small, l .loop .inv .0 .small),
+    )
+
+jumps-to-requires : tie.Need-jumps-to-requires Inv-loop μ-loop
+jumps-to-requires c κs = (omega (arith, c .first-outside .ensures .from), c .first-outside .ensures .to)
+
+guessed-to-requires : tie.Need-guessed-to-requires Inv-loop μ-loop
+guessed-to-requires c κs =
+    let l = c .before .before .before .before .before .before .before .before .before in
+    let p = l .before .before .before .before .before .before .before .before .before .pre in
+    let t = l .before .before .before .plant in
+    ((p .0, c .before .jumps-to .ensures), (p .1 .0, (t .ensures, omega (arith, t .kept .1 .1 .1 .1 .0, p .1 .1))))
+
+loop-less : tie.Need-loop-less Inv-loop μ-loop
+loop-less c = omega (arith, c .before .before .before .before .before .before .before .before .before .loop-test .taken, c .before .before .before .first-outside .ensures .from, c .guessed-to .ensures .from)
+
+loop-again : tie.Need-loop-again Inv-loop μ-loop
+loop-again c =
+    let a = c .before .before .before .before .before .before in
+    let m = a .before .before in
+    let l = m .before .before in
+    let g = l .before .before .before .before .before .before .before .before .before .pre .1 .0 .1 in
+    let i = l .loop .inv in (
+      a .interval-around .ensures .0,
+      every-on (every-on (every-more (i .1) (omega (arith, m .before .loop-test .taken)) (refers-by _ _ _ _ _ _ (m .magnitude-at .ensures)
+          (found-face g _ (omega (arith, a .before .if1 .left)) (a .interval-around .ensures .1) (c .before .before .before .before .if2 .left))))
+          (known-faces g _ _ _ (c .before .before .before .first-outside .ensures) (a .interval-around .ensures .0) (i .0))) (c .guessed-to .ensures),
+    )
+
+returns-3 : tie.Need-returns-3 Inv-loop μ-loop
+returns-3 c = every-done (c .before .loop .inv .1) (omega arith)
 
 pub all-refer-spec : {M : Type 1} → statement M
-all-refer-spec = tie.close (tie.spec (λ c κs. search needs) (λ c κs. search needs) same-length returns all-near-requires same-length-2 returns-2)
+all-refer-spec = tie.close (tie.spec Inv-loop μ-loop (λ c κs. search needs) loop-holds (λ c κs. search needs) (search needs) returns
+    interval-around-requires (search needs) returns-2 add-first-outside first-outside-requires jumps-to-requires
+    guessed-to-requires loop-less loop-again (search needs) returns-3)

@@ -2,15 +2,15 @@
 use Prim.Native.Nat.{_-_}
 use mathlib.Core.Path.{sym, _∙_}
 use borrow.Author.Tests.{not-false}
-use Rattle.elements.specs.Arrays.{Skipped}
-use Rattle.elements.proofs.FaceLaws.{skipped-none, skipped-more}
+use Rattle.elements.specs.Arrays.{knownAt, Passed}
+use Rattle.elements.proofs.Agree.{passed-none, passed-more}
 use native.Mathlib.Omega.{arith}
 use borrow.Author.Needs.{needs}
 use Rattle.elements.proofs.references.first_outside.Statement.{statement}
 use Rattle.elements.proofs.references.first_outside.Tie as tie
 
 abbrev Inv-loop : tie.InvT-loop
-Inv-loop image row k last before n j₀ j = Skipped image row last before k j
+Inv-loop image row k last before n j₀ j = Passed (knownAt image row last before) n k j
 
 abbrev μ-loop : tie.MeasureT-loop
 μ-loop image row k last before n j₀ j = n - j
@@ -19,9 +19,9 @@ loop-again : tie.Need-loop-again Inv-loop μ-loop
 loop-again c =
     let l = c .before .before .before .before .loop in
     let m = c .before .before in
-    skipped-more (l .inv) (omega arith) (rw (← m .magnitude-at .ensures) (sym (c .before .is-known .ensures) ∙ not-false _ (c .if1 .left)))
+    passed-more (l .inv) (omega arith) (rw (← m .magnitude-at .ensures) (sym (c .before .is-known .ensures) ∙ not-false _ (c .if1 .left)))
 
 pub first-outside-spec : {M : Type 1} → statement M
 first-outside-spec = tie.close
-    (tie.spec Inv-loop μ-loop (λ c. skipped-none _ _ _ _ _ (c .before .pre .0 .1)) (λ c κs. search needs) (search needs)
+    (tie.spec Inv-loop μ-loop (λ c. passed-none _ _ _ (c .before .pre .0 .1)) (λ c κs. search needs) (search needs)
     (λ c. c .before .before .before .before .loop .inv) (search needs) (search needs) loop-again (λ c. c .before .loop .inv))
