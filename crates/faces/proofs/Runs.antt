@@ -24,9 +24,9 @@ use Rattle.faces.specs.declared.uses.Faces.{Faces}
 use Rattle.face_places.proofs.Accepted.{place-below}
 
 -- memory of the same length serves the tables as well
-pub tables-kept : {b : List ℕ} {f : Faces} {firsts reach places : List ℕ} {h o h′ o′ : ℕ} → Tables b f firsts reach places h o → h′ ≡ h → o′ ≡ o
-    → Tables b f firsts reach places h′ o′
-tables-kept t e g = rw (e, g) t
+pub tables-kept : {b : List ℕ} {f : Faces} {firsts reach places : List ℕ} {o o′ : ℕ} → Tables b f firsts reach places o → o′ ≡ o
+    → Tables b f firsts reach places o′
+tables-kept t e = rw e t
 
 -- one use, as it was made
 pub use-is : (t : Tree) (z w x : ℕ) (bytes : List ℕ) {f p : ℕ} {minus u free : Bool} {after : List ℕ}

@@ -16,16 +16,17 @@ use Rattle.model.specs.Corner.{numberAt}
 use Rattle.model.specs.FaceUsage.{faceCount, facePlace, unused, usesIn}
 use Rattle.rows.specs.declared.Row.{Row}
 use Rattle.rows.specs.Rows.{Numbers}
+use Rattle.ranges.specs.SearchTree.{Planted}
 use Rattle.usage_bytes.specs.Marks.{signOf, afterUse}
 use Rattle.faces.specs.declared.uses.Faces.{Faces}
 use Rattle.face_places.specs.ZoneSections.{Cells}
 use Rattle.face_places.specs.Ranges.{Ranges}
 
--- the tables hold the faces of a zone, and there is room for the hints and for a byte a face
-pub record Tables (b : List ℕ) (f : Faces) (firsts reach places : List ℕ) (hints out : ℕ) : Type 0 where
+-- the tables hold the faces of a zone, and there is room for a byte a face
+pub record Tables (b : List ℕ) (f : Faces) (firsts reach places : List ℕ) (out : ℕ) : Type 0 where
   pub accepted : Accepted b
   pub ranges : Ranges (treeOf b) (f .zone) (nodeCount b) firsts reach places (f .count)
-  pub hinted : 4096 ≤ hints
+  pub tree : Planted (f .tree)
   pub room : faceCount (treeOf b) (f .zone) ≤ out
 
 -- what the reference x of w bytes does to the bytes

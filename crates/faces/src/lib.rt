@@ -25,11 +25,11 @@ fn usage_after(
     zone: u64,
     firsts: &mut [u64],
     reach: &mut [u64],
-    hints: &mut [u16],
+    levels: &mut [u32],
     out: &mut [u8],
 ) -> FaceUsage
     requires { ⌜ (stageTells verdict ≡ imageCheck (now image)) × (stageTells verdict ≡ passed → Index (now image) (now index)) ⌝ }
-    requires { ⌜ (2048 ≤ length (now firsts)) × (2048 ≤ length (now reach)) × (4096 ≤ length (now hints)) ⌝ }
+    requires { ⌜ (2048 ≤ length (now firsts)) × (2048 ≤ length (now reach)) × (2048 ≤ length (now levels)) ⌝ }
     ensures { λ r. ⌜ (usageTells r ≡ usageAnswer (now (image .entry)) zone (length (now (out .entry))))
         × (now (out .exit) ≡ usageMemory (now (image .entry)) zone (now (out .entry))) ⌝ }
 {
@@ -39,7 +39,7 @@ fn usage_after(
     if !index::is_zone(image, index, zone) {
         return FaceUsage::Rejected(Rejection::at(40, 0));
     }
-    zone::zone_usage(image, index, zone as usize, firsts, reach, hints, out)
+    zone::zone_usage(image, index, zone as usize, firsts, reach, levels, out)
 }
 
 // The usage of a zone's faces: validation's rejection, then 40, 44, 45, or how many faces the zone has, a byte for each written in front of `out`. On 45
@@ -51,13 +51,13 @@ pub fn face_usage(image: &[u8], zone: u64, out: &mut [u8]) -> FaceUsage
     let mut index: [u16; 16384] = [0; 16384];
     let mut firsts: [u64; 2048] = [0; 2048];
     let mut reach: [u64; 2048] = [0; 2048];
-    let mut hints: [u16; 4096] = [0; 4096];
+    let mut levels: [u32; 2048] = [0; 2048];
     let verdict = validation::image_stage_with(
         image,
         &mut index,
         &mut firsts,
         &mut reach,
-        &mut hints,
+        &mut levels,
     );
     usage_after(
         verdict,
@@ -66,7 +66,7 @@ pub fn face_usage(image: &[u8], zone: u64, out: &mut [u8]) -> FaceUsage
         zone,
         &mut firsts,
         &mut reach,
-        &mut hints,
+        &mut levels,
         out,
     )
 }

@@ -10,23 +10,27 @@ ghost use Rattle.model.specs.Image.{treeOf, nodeCount};
 ghost use Rattle.model.specs.Elements.{faceOf};
 ghost use Rattle.model.specs.FaceUsage.{faceCount, usesIn, useEntries, useNodes};
 ghost use Rattle.rows.specs.Rows.{Numbers};
+ghost use Rattle.ranges.specs.SearchTree.{Planted};
 ghost use Rattle.index.specs.Index.{Index};
 ghost use Rattle.faces.specs.Uses.{Tables, UsedAt, Used};
 use super::cells::element_holding;
 use super::cells::references_of;
+use elements::guess_eight;
 use model::Rejection;
 use model::Stage;
-use ranges::Spread;
+use ranges::find;
+use ranges::holds;
+use ranges::search_tree::SearchTree;
 use rows::Row;
 use rows::is_negative;
 use rows::magnitude_at;
 use usage_bytes::use_face;
 
-// The faces of a zone in the tables: how many entries there are, and how a face's hint is found.
+// The faces of a zone in the tables: how many entries there are, and the tree by which they are guessed.
 pub struct Faces {
     pub zone: usize,
     pub count: usize,
-    pub spread: Spread,
+    pub tree: SearchTree,
 }
 
 // The place of face f, which entry j holds.
@@ -38,7 +42,64 @@ fn place_of(firsts: &[u64], places: &[u64], j: usize, f: u64) -> usize
     (places[j] + (f - firsts[j])) as usize
 }
 
-// Uses the face of reference k of a row; the entry `last` is asked first. It answers the face's entry, or count where that sign was used before.
+// Guesses the entries of the eight references of a row among which k stands, where they were not guessed before and the row has all eight. The ninth of
+// the guesses tells which references they are of.
+fn guess_block(
+    image: &[u8],
+    tree: SearchTree,
+    row: Row,
+    k: usize,
+    levels: &[u32],
+    guesses: &mut [usize],
+)
+    requires { ⌜ Numbers (now image) (row .at) (row .width) (row .n) × (k < row .n) ⌝ }
+    requires { ⌜ (Planted tree × (2048 ≤ length (now levels))) × (9 ≤ length (now guesses)) ⌝ }
+{
+    let start = k - k % 8;
+    if guesses[8] == start + 1 {
+        return;
+    }
+    if row.n - start < 8 {
+        return;
+    }
+    let g = guess_eight(image, row, start, levels, tree);
+    guesses[0] = g.first.a;
+    guesses[1] = g.first.b;
+    guesses[2] = g.first.c;
+    guesses[3] = g.first.d;
+    guesses[4] = g.second.a;
+    guesses[5] = g.second.b;
+    guesses[6] = g.second.c;
+    guesses[7] = g.second.d;
+    guesses[8] = start + 1;
+}
+
+// Which entry to ask first for the face of reference k of a row: `last`, that of the reference before, where it holds it; else the one guessed.
+fn entry_to_ask(
+    image: &[u8],
+    faces: Faces,
+    row: Row,
+    k: usize,
+    firsts: &[u64],
+    reach: &[u64],
+    levels: &[u32],
+    guesses: &mut [usize],
+    last: usize,
+) -> usize
+    requires { ⌜ Numbers (now image) (row .at) (row .width) (row .n) × (k < row .n) ⌝ }
+    requires { ⌜ ((faces .count ≤ length (now firsts)) × (faces .count ≤ length (now reach))) × (9 ≤ length (now guesses)) ⌝ }
+    requires { ⌜ Planted (faces .tree) × (2048 ≤ length (now levels)) ⌝ }
+{
+    if last < faces.count {
+        if holds(firsts, reach, magnitude_at(image, row, k), last) {
+            return last;
+        }
+    }
+    guess_block(image, faces.tree, row, k, levels, guesses);
+    guesses[k % 8]
+}
+
+// Uses the face of reference k of a row; the entry `ask` is asked first. It answers the face's entry, or count where that sign was used before.
 fn use_entry(
     image: &[u8],
     faces: Faces,
@@ -47,19 +108,18 @@ fn use_entry(
     firsts: &[u64],
     reach: &[u64],
     places: &[u64],
-    hints: &mut [u16],
-    last: usize,
+    ask: usize,
     out: &mut [u8],
 ) -> usize
     requires { ⌜ Numbers (now image) (row .at) (row .width) (row .n) × (k < row .n) ⌝ }
     requires { ⌜ faceOf (treeOf (now image)) (faces .zone) (magnitude (row .width) (numberAt (now image) (row .at) (row .width) k)) ≡ true ⌝ }
-    requires { ⌜ Tables (now image) faces (now firsts) (now reach) (now places) (length (now hints)) (length (now out)) ⌝ }
+    requires { ⌜ Tables (now image) faces (now firsts) (now reach) (now places) (length (now out)) ⌝ }
     ensures { λ r. ⌜ UsedAt (treeOf (now (image .entry))) (faces .zone) (row .width) (numberAt (now (image .entry)) (row .at) (row .width) k)
         (now (out .entry)) (ltb r (faces .count)) (now (out .exit)) ⌝ }
 {
     let count = faces.count;
     let f = magnitude_at(image, row, k);
-    let j = ranges::find_near(firsts, reach, count, hints, faces.spread, last, f);
+    let j = find(firsts, reach, count, ask, f);
     let p = place_of(firsts, places, j, f);
     if !use_face(out, p, is_negative(image, row, k)) {
         return count;
@@ -76,32 +136,33 @@ fn use_entries(
     firsts: &[u64],
     reach: &[u64],
     places: &[u64],
-    hints: &mut [u16],
+    levels: &[u32],
     out: &mut [u8],
 ) -> Stage
-    requires { ⌜ Index (now image) (now index) × (s < nodeCount (now image)) ⌝ }
-    requires { ⌜ Tables (now image) faces (now firsts) (now reach) (now places) (length (now hints)) (length (now out)) ⌝ }
+    requires { ⌜ (Index (now image) (now index) × (s < nodeCount (now image))) × (2048 ≤ length (now levels)) ⌝ }
+    requires { ⌜ Tables (now image) faces (now firsts) (now reach) (now places) (length (now out)) ⌝ }
     ensures { λ r. ⌜ Used (faceCount (treeOf (now (image .entry))) (faces .zone))
         (useEntries (treeOf (now (image .entry))) s (usesIn (treeOf (now (image .entry))) (faces .zone) s) 0 (now (out .entry)))
         (now (out .entry)) r (now (out .exit)) ⌝ }
 {
     let count = faces.count;
     let row = references_of(image, index, faces.zone, s);
+    let mut guesses: [usize; 9] = [0; 9];
     let mut last: usize = 0;
     let mut k: usize = 0;
     while k < row.n {
-        let j = use_entry(
+        let ask = entry_to_ask(
             image,
             faces,
             row,
             k,
             firsts,
             reach,
-            places,
-            hints,
+            levels,
+            &mut guesses,
             last,
-            out,
         );
+        let j = use_entry(image, faces, row, k, firsts, reach, places, ask, out);
         if count <= j {
             let e = element_holding(image, index, s, k);
             return Stage::Rejected(Rejection::repeated(s as u64, e));
@@ -120,11 +181,11 @@ pub fn use_nodes(
     firsts: &[u64],
     reach: &[u64],
     places: &[u64],
-    hints: &mut [u16],
+    levels: &[u32],
     out: &mut [u8],
 ) -> Stage
-    requires { ⌜ Index (now image) (now index) ⌝ }
-    requires { ⌜ Tables (now image) faces (now firsts) (now reach) (now places) (length (now hints)) (length (now out)) ⌝ }
+    requires { ⌜ Index (now image) (now index) × (2048 ≤ length (now levels)) ⌝ }
+    requires { ⌜ Tables (now image) faces (now firsts) (now reach) (now places) (length (now out)) ⌝ }
     ensures { λ r. ⌜ Used (faceCount (treeOf (now (image .entry))) (faces .zone))
         (useNodes (treeOf (now (image .entry))) (faces .zone) (nodeCount (now (image .entry))) 0 (now (out .entry)))
         (now (out .entry)) r (now (out .exit)) ⌝ }
@@ -132,7 +193,7 @@ pub fn use_nodes(
     let nodes = labels::node_count(image);
     let mut i: usize = 0;
     while i < nodes {
-        let s = use_entries(image, index, faces, i, firsts, reach, places, hints, out);
+        let s = use_entries(image, index, faces, i, firsts, reach, places, levels, out);
         let Stage::Pass = s else {
             return s;
         };

@@ -18,6 +18,7 @@ use face_places::places::gather;
 use model::FaceUsage;
 use model::Rejection;
 use model::Stage;
+use ranges::search_tree::plant;
 use usage_bytes::clear;
 
 // Writes the usage of the zone's faces, whose ranges are at hand, into the first F bytes: 45, and F zeros, where one is used twice with one sign.
@@ -28,11 +29,11 @@ fn fill(
     firsts: &[u64],
     reach: &[u64],
     places: &[u64],
-    hints: &mut [u16],
+    levels: &[u32],
     out: &mut [u8],
 ) -> FaceUsage
-    requires { ⌜ Index (now image) (now index) ⌝ }
-    requires { ⌜ Tables (now image) faces (now firsts) (now reach) (now places) (length (now hints)) (length (now out)) ⌝ }
+    requires { ⌜ Index (now image) (now index) × (2048 ≤ length (now levels)) ⌝ }
+    requires { ⌜ Tables (now image) faces (now firsts) (now reach) (now places) (length (now out)) ⌝ }
     ensures { λ r. ⌜ usageTells r
         ≡ (usage (treeOf (now (image .entry))) (faces .zone) into λ bytes. answer (faceCount (treeOf (now (image .entry))) (faces .zone))) ⌝ }
     ensures { λ r. ⌜ now (out .exit)
@@ -41,7 +42,7 @@ fn fill(
     let count = faces.count;
     let n = places[count];
     clear(out, n as usize);
-    let s = use_nodes(image, index, faces, firsts, reach, places, hints, out);
+    let s = use_nodes(image, index, faces, firsts, reach, places, levels, out);
     let Stage::Pass = s else {
         clear(out, n as usize);
         return FaceUsage::Rejected(s.rejection());
@@ -56,11 +57,11 @@ pub fn zone_usage(
     z: usize,
     firsts: &mut [u64],
     reach: &mut [u64],
-    hints: &mut [u16],
+    levels: &mut [u32],
     out: &mut [u8],
 ) -> FaceUsage
     requires { ⌜ (Accepted (now image) × Index (now image) (now index)) × (isZone (treeOf (now image)) z ≡ true) ⌝ }
-    requires { ⌜ (2048 ≤ length (now firsts)) × (2048 ≤ length (now reach)) × (4096 ≤ length (now hints)) ⌝ }
+    requires { ⌜ (2048 ≤ length (now firsts)) × (2048 ≤ length (now reach)) × (2048 ≤ length (now levels)) ⌝ }
     ensures { λ r. ⌜ (usageTells r ≡ usageAnswer (now (image .entry)) z (length (now (out .entry))))
         × (now (out .exit) ≡ usageMemory (now (image .entry)) z (now (out .entry))) ⌝ }
 {
@@ -69,11 +70,11 @@ pub fn zone_usage(
     if (out.len() as u64) < places[count] {
         return FaceUsage::Rejected(Rejection::at(44, 0));
     }
-    let spread = ranges::spread_for(firsts, reach, count, hints, image.len());
+    let tree = plant(firsts, count, 0, image.len(), levels);
     let faces = Faces {
         zone: z,
         count,
-        spread,
+        tree,
     };
-    fill(image, index, faces, firsts, reach, &places, hints, out)
+    fill(image, index, faces, firsts, reach, &places, levels, out)
 }

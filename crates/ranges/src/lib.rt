@@ -129,7 +129,7 @@ pub fn meets(firsts: &[u64], reach: &[u64], n: usize, first: u64, last: u64) -> 
 }
 
 // Does entry j hold f?
-fn holds(firsts: &[u64], reach: &[u64], f: u64, j: usize) -> bool
+pub fn holds(firsts: &[u64], reach: &[u64], f: u64, j: usize) -> bool
     requires { ⌜ (j < length (now firsts)) × (j < length (now reach)) ⌝ }
     ensures { λ r. ⌜ r ≡ holds (now (firsts .entry)) (now (reach .entry)) f j ⌝ }
 {
