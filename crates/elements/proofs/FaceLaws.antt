@@ -1,7 +1,7 @@
 -- References to faces by the tables: numbers in intervals that ranges cover, and numbers looked up.
 use Prim.Native.Nat.{ℕ, _+_, _≤_, _<_}
 use mathlib.Core.Path.{_≡_, sym, ap, _∙_}
-use mathlib.Core.Bool.{Bool, true, false}
+use mathlib.Core.Bool.{Bool, true, false, _&&_}
 use mathlib.Core.List.{List}
 use native.Mathlib.Omega.{arith}
 use lib.Dec.{leb, ltb}
@@ -10,8 +10,9 @@ use Rattle.model.specs.Bytes.{magnitude}
 use Rattle.model.specs.Corner.{numberAt}
 use Rattle.model.specs.Image.{Tree}
 use Rattle.model.specs.Elements.{faceOf}
-use Rattle.model.proofs.Logic.{and-second, or-cases}
-use Rattle.ranges.specs.Tables.{key, inRanges, isWithin, Covered}
+use Rattle.model.proofs.Logic.{and-first, and-second, or-cases}
+use Rattle.model.proofs.Walks.{some-by}
+use Rattle.ranges.specs.Tables.{key, holds, inRanges, isWithin, Covered}
 use Rattle.ranges.specs.declared.Interval.{Interval}
 use Rattle.rows.specs.declared.Row.{Row}
 use Rattle.elements.specs.Arrays.{knownAt, Passed}
@@ -31,6 +32,12 @@ module _ {t : Tree} {firsts reach : List ℕ} {n : ℕ} (g : Faces t firsts reac
   covered-face {r} c f e =
       let h = ltb-true f (r .low + r .size) (and-second (leb (r .low) f) _ e) in
       sym (g .in-ranges z f (omega (arith, c .small))) ∙ c .covered f e
+
+  -- an entry holds the key x of f
+  pub held-face : {f x : ℕ} (j : ℕ) → f < 4294967296 → x ≡ key z f → (ltb j n && holds firsts reach x j) ≡ true → faceOf t z f ≡ true
+  held-face {f} {x} j h p e =
+      let l = ltb-true j n (and-first _ (holds firsts reach x j) e) in
+      sym (g .in-ranges z f h) ∙ rw (← p) (some-by (holds firsts reach x) n 0 j (and-second (ltb j n) _ e) (omega arith) (omega arith))
 
   module _ {f s : ℕ} (h : f < 4294967296) (e : ltb 0 s ≡ inRanges firsts reach n (key z f)) where
     pub found-face : (s ≡ 0 → ⊥) → faceOf t z f ≡ true

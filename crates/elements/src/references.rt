@@ -105,8 +105,8 @@ fn first_outside(image: &[u8], row: Row, k: usize, last: Interval, before: Inter
     j
 }
 
-// Does number k of a row refer to a face of zone z? The entry `guess` is asked first.
-fn refers(
+// Does an entry tell that number k of a row refers to a face of zone z?
+fn entry_refers(
     image: &[u8],
     z: usize,
     row: Row,
@@ -114,20 +114,20 @@ fn refers(
     firsts: &[u64],
     reach: &[u64],
     count: usize,
-    guess: usize,
+    entry: usize,
 ) -> bool
     requires { ⌜ Sound (now image) × (z < nodeCount (now image)) ⌝ }
     requires { ⌜ (Numbers (now image) (row .at) (row .width) (row .n) × (k < row .n)) × Faces (treeOf (now image)) (now firsts) (now reach) count ⌝ }
-    ensures { λ r. ⌜ r ≡ refersFace (treeOf (now (image .entry))) z (now (image .entry)) (row .at) (row .width) k ⌝ }
+    ensures { λ r. ⌜ (r ≡ true → refersFace (treeOf (now (image .entry))) z (now (image .entry)) (row .at) (row .width) k ≡ true) ⌝ }
 {
     let f = rows::magnitude_at(image, row, k);
     if types::MAX_NUMBER < f {
         return false;
     }
-    ranges::find(firsts, reach, count, guess, ranges::key(z, f)) < count
+    ranges::entry_holds(firsts, reach, count, ranges::key(z, f), entry)
 }
 
-// Do numbers k to k + 3 of a row refer to faces of zone z?
+// Do guessed entries tell that numbers k to k + 3 of a row refer to faces of zone z?
 fn four_refer(
     image: &[u8],
     z: usize,
@@ -142,16 +142,16 @@ fn four_refer(
     requires { ⌜ (Numbers (now image) (row .at) (row .width) (row .n) × (k + 4 ≤ row .n)) × Faces (treeOf (now image)) (now firsts) (now reach) count ⌝ }
     ensures { λ r. ⌜ (r ≡ true → Passed (refersFace (treeOf (now (image .entry))) z (now (image .entry)) (row .at) (row .width)) (row .n) k (k + 4)) ⌝ }
 {
-    if !refers(image, z, row, k, firsts, reach, count, guesses.a) {
+    if !entry_refers(image, z, row, k, firsts, reach, count, guesses.a) {
         return false;
     }
-    if !refers(image, z, row, k + 1, firsts, reach, count, guesses.b) {
+    if !entry_refers(image, z, row, k + 1, firsts, reach, count, guesses.b) {
         return false;
     }
-    if !refers(image, z, row, k + 2, firsts, reach, count, guesses.c) {
+    if !entry_refers(image, z, row, k + 2, firsts, reach, count, guesses.c) {
         return false;
     }
-    refers(image, z, row, k + 3, firsts, reach, count, guesses.d)
+    entry_refers(image, z, row, k + 3, firsts, reach, count, guesses.d)
 }
 
 // The magnitudes of numbers k to k + 3 of a row, as a search tree takes them.

@@ -29,12 +29,10 @@ pub tables-kept : {b : List ℕ} {f : Faces} {firsts reach places : List ℕ} {o
 tables-kept t e = rw e t
 
 -- one use, as it was made
-pub use-is : (t : Tree) (z w x : ℕ) (bytes : List ℕ) {f p : ℕ} {minus u free : Bool} {after : List ℕ}
+pub use-is : (t : Tree) (z w x : ℕ) (bytes : List ℕ) {f p : ℕ} {minus u : Bool} {after : List ℕ}
     → f ≡ magnitude w x → p ≡ facePlace t z f → minus ≡ negative w x
-    → (u ≡ unused (signOf minus) (getD bytes p 0)) × (after ≡ afterUse u (signOf minus) p bytes) → free ≡ u → UsedAt t z w x bytes free after
-use-is t z w x bytes e q m h o =
-    let p = q ∙ ap (facePlace t z) e in
-    record { tells = rw (← p, ← m, o) (h .0); leaves = rw (← p, ← m, o) (h .1) }
+    → (u ≡ unused (signOf minus) (getD bytes p 0)) × (after ≡ afterUse u (signOf minus) p bytes) → UsedAt t z w x bytes u after
+use-is t z w x bytes e q m h = let p = q ∙ ap (facePlace t z) e in record { tells = rw (← p, ← m) (h .0); leaves = rw (← p, ← m) (h .1) }
 
 -- a run that has come to these bytes: the whole is the rest from here
 pub record Left (faces : ℕ) (whole : Answer (List ℕ)) (start : List ℕ) (rest : Answer (List ℕ)) (bytes : List ℕ) : Type 0 where

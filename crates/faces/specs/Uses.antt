@@ -16,6 +16,7 @@ use Rattle.model.specs.Corner.{numberAt}
 use Rattle.model.specs.FaceUsage.{faceCount, facePlace, unused, usesIn}
 use Rattle.rows.specs.declared.Row.{Row}
 use Rattle.rows.specs.Rows.{Numbers}
+use Rattle.ranges.specs.Tables.{Found}
 use Rattle.ranges.specs.SearchTree.{Planted}
 use Rattle.usage_bytes.specs.Marks.{signOf, afterUse}
 use Rattle.faces.specs.declared.uses.Faces.{Faces}
@@ -28,6 +29,11 @@ pub record Tables (b : List ℕ) (f : Faces) (firsts reach places : List ℕ) (o
   pub ranges : Ranges (treeOf b) (f .zone) (nodeCount b) firsts reach places (f .count)
   pub tree : Planted (f .tree)
   pub room : faceCount (treeOf b) (f .zone) ≤ out
+
+-- entry j of n is what a search for the magnitude of number k of a row finds
+abbrev pub FoundFor : List ℕ → Row → ℕ → List ℕ → List ℕ → ℕ → ℕ → Type 0
+FoundFor b row k firsts reach n j =
+    let f = magnitude (row .width) (numberAt b (row .at) (row .width) k) in Found firsts reach n f f j
 
 -- what the reference x of w bytes does to the bytes
 pub record UsedAt (t : Tree) (z w x : ℕ) (bytes : List ℕ) (free : Bool) (after : List ℕ) : Type 0 where

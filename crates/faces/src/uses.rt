@@ -3,23 +3,23 @@ ghost use mathlib.Core.Path.{_≡_};
 ghost use mathlib.Core.Bool.{true};
 ghost use Prim.Native.Nat.{_+_, _-_, _≤_, _<_};
 ghost use lib.ListN.{length, getD};
-ghost use lib.Dec.{ltb};
 ghost use Rattle.model.specs.Bytes.{magnitude};
 ghost use Rattle.model.specs.Corner.{numberAt};
 ghost use Rattle.model.specs.Image.{treeOf, nodeCount};
 ghost use Rattle.model.specs.Elements.{faceOf};
 ghost use Rattle.model.specs.FaceUsage.{faceCount, usesIn, useEntries, useNodes};
 ghost use Rattle.rows.specs.Rows.{Numbers};
+ghost use Rattle.ranges.specs.Tables.{Ordered};
 ghost use Rattle.ranges.specs.SearchTree.{Planted};
 ghost use Rattle.index.specs.Index.{Index};
-ghost use Rattle.faces.specs.Uses.{Tables, UsedAt, Used};
+ghost use Rattle.faces.specs.Uses.{Tables, FoundFor, UsedAt, Used};
 use super::cells::element_holding;
 use super::cells::references_of;
 use elements::guess_eight;
 use model::Rejection;
 use model::Stage;
+use ranges::entry_holds;
 use ranges::find;
-use ranges::holds;
 use ranges::search_tree::SearchTree;
 use rows::Row;
 use rows::is_negative;
@@ -74,8 +74,8 @@ fn guess_block(
     guesses[8] = start + 1;
 }
 
-// Which entry to ask first for the face of reference k of a row: `last`, that of the reference before, where it holds it; else the one guessed.
-fn entry_to_ask(
+// The entry that holds the face of reference k of a row: `last`, that of the reference before, is asked first, then the one guessed.
+fn entry_of(
     image: &[u8],
     faces: Faces,
     row: Row,
@@ -87,19 +87,21 @@ fn entry_to_ask(
     last: usize,
 ) -> usize
     requires { ⌜ Numbers (now image) (row .at) (row .width) (row .n) × (k < row .n) ⌝ }
-    requires { ⌜ ((faces .count ≤ length (now firsts)) × (faces .count ≤ length (now reach))) × (9 ≤ length (now guesses)) ⌝ }
-    requires { ⌜ Planted (faces .tree) × (2048 ≤ length (now levels)) ⌝ }
+    requires { ⌜ magnitude (row .width) (numberAt (now image) (row .at) (row .width) k) < 9223372036854775808 ⌝ }
+    requires { ⌜ Ordered (now firsts) (now reach) (faces .count) ⌝ }
+    requires { ⌜ (Planted (faces .tree) × (2048 ≤ length (now levels))) × (9 ≤ length (now guesses)) ⌝ }
+    ensures { λ r. ⌜ FoundFor (now (image .entry)) row k (now (firsts .entry)) (now (reach .entry)) (faces .count) r ⌝ }
 {
-    if last < faces.count {
-        if holds(firsts, reach, magnitude_at(image, row, k), last) {
-            return last;
-        }
+    let count = faces.count;
+    let f = magnitude_at(image, row, k);
+    if entry_holds(firsts, reach, count, f, last) {
+        return last;
     }
     guess_block(image, faces.tree, row, k, levels, guesses);
-    guesses[k % 8]
+    find(firsts, reach, count, guesses[k % 8], f)
 }
 
-// Uses the face of reference k of a row; the entry `ask` is asked first. It answers the face's entry, or count where that sign was used before.
+// Uses the face of reference k of a row, which entry j holds. It answers whether that sign was not used before.
 fn use_entry(
     image: &[u8],
     faces: Faces,
@@ -108,23 +110,19 @@ fn use_entry(
     firsts: &[u64],
     reach: &[u64],
     places: &[u64],
-    ask: usize,
+    j: usize,
     out: &mut [u8],
-) -> usize
+) -> bool
     requires { ⌜ Numbers (now image) (row .at) (row .width) (row .n) × (k < row .n) ⌝ }
     requires { ⌜ faceOf (treeOf (now image)) (faces .zone) (magnitude (row .width) (numberAt (now image) (row .at) (row .width) k)) ≡ true ⌝ }
     requires { ⌜ Tables (now image) faces (now firsts) (now reach) (now places) (length (now out)) ⌝ }
+    requires { ⌜ FoundFor (now image) row k (now firsts) (now reach) (faces .count) j ⌝ }
     ensures { λ r. ⌜ UsedAt (treeOf (now (image .entry))) (faces .zone) (row .width) (numberAt (now (image .entry)) (row .at) (row .width) k)
-        (now (out .entry)) (ltb r (faces .count)) (now (out .exit)) ⌝ }
+        (now (out .entry)) r (now (out .exit)) ⌝ }
 {
-    let count = faces.count;
     let f = magnitude_at(image, row, k);
-    let j = find(firsts, reach, count, ask, f);
     let p = place_of(firsts, places, j, f);
-    if !use_face(out, p, is_negative(image, row, k)) {
-        return count;
-    }
-    j
+    use_face(out, p, is_negative(image, row, k))
 }
 
 // Uses the faces of the references of node s, where it is a cell section of the zone; 45 at the first that is used twice with one sign.
@@ -145,13 +143,12 @@ fn use_entries(
         (useEntries (treeOf (now (image .entry))) s (usesIn (treeOf (now (image .entry))) (faces .zone) s) 0 (now (out .entry)))
         (now (out .entry)) r (now (out .exit)) ⌝ }
 {
-    let count = faces.count;
     let row = references_of(image, index, faces.zone, s);
     let mut guesses: [usize; 9] = [0; 9];
     let mut last: usize = 0;
     let mut k: usize = 0;
     while k < row.n {
-        let ask = entry_to_ask(
+        let j = entry_of(
             image,
             faces,
             row,
@@ -162,8 +159,7 @@ fn use_entries(
             &mut guesses,
             last,
         );
-        let j = use_entry(image, faces, row, k, firsts, reach, places, ask, out);
-        if count <= j {
+        if !use_entry(image, faces, row, k, firsts, reach, places, j, out) {
             let e = element_holding(image, index, s, k);
             return Stage::Rejected(Rejection::repeated(s as u64, e));
         }

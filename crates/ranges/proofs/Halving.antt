@@ -1,7 +1,7 @@
 -- The search by halving: the last entry that begins no later than a range ends decides whether one meets it.
 use Prim.Native.Nat.{ℕ, zero, suc, _+_, _*_, _-_, _≤_, _<_}
 use mathlib.Core.Path.{_≡_, refl, sym, _∙_}
-use mathlib.Core.Bool.{Bool, true, false, cond}
+use mathlib.Core.Bool.{Bool, true, false, cond, _&&_}
 use mathlib.Core.List.{List}
 use native.Mathlib.Omega.{arith}
 use native.Mathlib.Decide.{ℕ-discrete, decLt}
@@ -11,7 +11,7 @@ use borrow.Author.Tests.{lt-ltb, ltb-true, leb-true, leb-false, le-leb}
 use Rattle.model.specs.Lists.{someFrom}
 use Rattle.model.proofs.Logic.{and-first, and-second, and-both}
 use Rattle.model.proofs.Walks.{some-at, some-by}
-use Rattle.ranges.specs.Tables.{meetsAt, Rising, Ordered, Begun}
+use Rattle.ranges.specs.Tables.{meetsAt, Found, Rising, Ordered, Begun}
 use Rattle.ranges.proofs.Cases.{both}
 
 -- any two entries
@@ -69,12 +69,14 @@ module _ (firsts reach : List ℕ) (a c : ℕ) where
     meet i h l u = some-by (meetsAt firsts reach a c) n 0 i (meets-at i l u) (omega arith) (omega arith)
 
     -- the entry r meets the numbers from a to c; none does
-    pub found : (r : ℕ) → r < n → meetsAt firsts reach a c r ≡ true
-        → (ltb r n ≡ someFrom (meetsAt firsts reach a c) n 0) × (r < n → meetsAt firsts reach a c r ≡ true)
+    pub found : (r : ℕ) → r < n → meetsAt firsts reach a c r ≡ true → Found firsts reach n a c r
     found r h e = (lt-ltb r n h ∙ sym (some-by (meetsAt firsts reach a c) n 0 r e (omega arith) (omega arith)), λ l. e)
 
+    pub entry-found : (r : ℕ) → (ltb r n && meetsAt firsts reach a c r) ≡ true → Found firsts reach n a c r
+    entry-found r e = found r (ltb-true r n (and-first _ (meetsAt firsts reach a c r) e)) (and-second (ltb r n) _ e)
+
     pub none-found : {r : ℕ} → Ordered firsts reach n → Begun firsts n c r 0 → (0 < r → getD reach (r - 1) 0 < a)
-        → (ltb n n ≡ someFrom (meetsAt firsts reach a c) n 0) × (n < n → meetsAt firsts reach a c n ≡ true)
+        → Found firsts reach n a c n
     none-found {r} o b h = (
       both _ _ (λ e. absurd (omega (arith, ltb-true n n e)))
           (λ e. let s = some-at (meetsAt firsts reach a c) n 0 e in absurd (none (s .at) (omega arith) (met (s .at) (s .holds)))),

@@ -24,6 +24,10 @@ holds firsts reach f = meetsAt firsts reach f f
 abbrev pub inRanges : List ℕ → List ℕ → ℕ → ℕ → Bool
 inRanges firsts reach n f = someFrom (holds firsts reach f) n 0
 
+-- the answer of a search: an entry of n that meets the numbers from first to last, where there is one
+abbrev pub Found : List ℕ → List ℕ → ℕ → ℕ → ℕ → ℕ → Type 0
+Found firsts reach n first last r = (ltb r n ≡ someFrom (meetsAt firsts reach first last) n 0) × (r < n → meetsAt firsts reach first last r ≡ true)
+
 -- n entries of a table, none below the one before it
 pub record Rising (s : List ℕ) (n : ℕ) : Type 0 where
   pub room : n ≤ length s

@@ -1,13 +1,13 @@
 // Ranges of numbers in two tables, in ascending order of their first numbers, found by halving; ranges may overlap.
 // Entry j begins with firsts[j]; reach[j] is the greatest last number of the entries up to j.
 ghost use mathlib.Core.Path.{_≡_};
-ghost use mathlib.Core.Bool.{true, cond};
+ghost use mathlib.Core.Bool.{cond, _&&_};
 ghost use mathlib.Core.List.{_∷_};
 ghost use Prim.Native.Nat.{ℕ, suc, _+_, _-_, _≤_, _<_, max, min};
 ghost use lib.Dec.{ltb, leb};
 ghost use lib.ListN.{length, getD};
 ghost use Rattle.model.specs.Lists.{someFrom};
-ghost use Rattle.ranges.specs.Tables.{key, meetsAt, holds, inRanges, Firsts, Ordered, Begun, Raised, Placed, Inserted, isWithin, Covered};
+ghost use Rattle.ranges.specs.Tables.{key, meetsAt, holds, inRanges, Found, Firsts, Ordered, Begun, Raised, Placed, Inserted, isWithin, Covered};
 
 pub mod search_tree; // search_tree.rt: guesses of the entries that hold numbers
 
@@ -107,8 +107,7 @@ pub fn insert(firsts: &mut [u64], reach: &mut [u64], n: usize, first: u64, last:
 // An entry of n that meets the numbers from first to last; n where none does.
 fn meeting(firsts: &[u64], reach: &[u64], n: usize, first: u64, last: u64) -> usize
     requires { ⌜ Ordered (now firsts) (now reach) n × (last < 9223372036854775808) ⌝ }
-    ensures { λ r. ⌜ ltb r n ≡ someFrom (meetsAt (now (firsts .entry)) (now (reach .entry)) first last) n 0 ⌝ }
-    ensures { λ r. ⌜ (r < n → meetsAt (now (firsts .entry)) (now (reach .entry)) first last r ≡ true) ⌝ }
+    ensures { λ r. ⌜ Found (now (firsts .entry)) (now (reach .entry)) n first last r ⌝ }
 {
     let r = begun(firsts, n, last);
     if r == 0 {
@@ -129,7 +128,7 @@ pub fn meets(firsts: &[u64], reach: &[u64], n: usize, first: u64, last: u64) -> 
 }
 
 // Does entry j hold f?
-pub fn holds(firsts: &[u64], reach: &[u64], f: u64, j: usize) -> bool
+fn holds(firsts: &[u64], reach: &[u64], f: u64, j: usize) -> bool
     requires { ⌜ (j < length (now firsts)) × (j < length (now reach)) ⌝ }
     ensures { λ r. ⌜ r ≡ holds (now (firsts .entry)) (now (reach .entry)) f j ⌝ }
 {
@@ -139,16 +138,24 @@ pub fn holds(firsts: &[u64], reach: &[u64], f: u64, j: usize) -> bool
     f <= reach[j]
 }
 
-// An entry of n that holds f, the entry `hint` asked first; n where none does.
-pub fn find(firsts: &[u64], reach: &[u64], n: usize, hint: usize, f: u64) -> usize
-    requires { ⌜ Ordered (now firsts) (now reach) n × (f < 9223372036854775808) ⌝ }
-    ensures { λ r. ⌜ ltb r n ≡ inRanges (now (firsts .entry)) (now (reach .entry)) n f ⌝ }
-    ensures { λ r. ⌜ (r < n → holds (now (firsts .entry)) (now (reach .entry)) f r ≡ true) ⌝ }
+// Is j one of n entries, and does it hold f?
+pub fn entry_holds(firsts: &[u64], reach: &[u64], n: usize, f: u64, j: usize) -> bool
+    requires { ⌜ (n ≤ length (now firsts)) × (n ≤ length (now reach)) ⌝ }
+    ensures { λ r. ⌜ r ≡ (ltb j n && holds (now (firsts .entry)) (now (reach .entry)) f j) ⌝ }
 {
-    if hint < n {
-        if holds(firsts, reach, f, hint) {
-            return hint;
-        }
+    if n <= j {
+        return false;
+    }
+    holds(firsts, reach, f, j)
+}
+
+// An entry of n that holds f, the entry `guess` asked first; n where none does.
+pub fn find(firsts: &[u64], reach: &[u64], n: usize, guess: usize, f: u64) -> usize
+    requires { ⌜ Ordered (now firsts) (now reach) n × (f < 9223372036854775808) ⌝ }
+    ensures { λ r. ⌜ Found (now (firsts .entry)) (now (reach .entry)) n f f r ⌝ }
+{
+    if entry_holds(firsts, reach, n, f, guess) {
+        return guess;
     }
     meeting(firsts, reach, n, f, f)
 }
