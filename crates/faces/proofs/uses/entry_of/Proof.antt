@@ -14,5 +14,5 @@ returns-2 : tie.Need-returns-2
 returns-2 c = rw (← c .before .before .before .before .before .before .before .before .magnitude-at .ensures) (c .find .ensures)
 
 pub entry-of-spec : {M : Type 1} → statement M
-entry-of-spec = tie.close (tie.spec (search needs) (search needs) returns (search needs) (search needs) (search needs)
-    (search needs) (search needs) returns-2)
+entry-of-spec = tie.close (tie.spec (λ c κs. search needs) (λ c κs. search needs) returns (λ c κs. search needs) (search needs) (search needs)
+    (λ c κs. search needs) (search needs) returns-2)
