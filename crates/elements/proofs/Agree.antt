@@ -42,24 +42,6 @@ module _ {p : ℕ → Bool} {n k j : ℕ} (s : Passed p n k j) where
         ];
       }
 
--- four in a row
-pub passed-four : {p : ℕ → Bool} {n k : ℕ} → k + 4 ≤ n → p k ≡ true → p (k + 1) ≡ true → p (k + 2) ≡ true → p (k + 3) ≡ true → Passed p n k (k + 4)
-passed-four {p} {n} {k} h a b c d =
-    record {
-      from = omega arith;
-      to = h;
-      each = λ i x y. elim (ℕ-discrete i k) [
-        | yes e ↦ rw e a
-        | no l ↦ elim (ℕ-discrete i (k + 1)) [
-          | yes e ↦ rw e b
-          | no m ↦ elim (ℕ-discrete i (k + 2)) [
-            | yes e ↦ rw e c
-            | no o ↦ let e : i ≡ k + 3 = omega arith in rw e d
-          ]
-        ]
-      ];
-    }
-
 -- they are passed over
 pub every-on : {p : ℕ → Bool} {n i j : ℕ} {w : Bool} → EveryLeft p n i w → Passed p n i j → EveryLeft p n j w
 every-on {p} {n} {i} {j} {w} l s = on (j - i) i l (omega arith) (s .from) (s .each)

@@ -22,8 +22,6 @@ use model::Stage;
 use ranges::Interval;
 use ranges::search_tree;
 use ranges::search_tree::Four;
-use ranges::search_tree::Guesses;
-use ranges::search_tree::Places;
 use ranges::search_tree::SearchTree;
 use rows::Row;
 
@@ -127,8 +125,8 @@ fn entry_refers(
     ranges::entry_holds(firsts, reach, count, ranges::key(z, f), entry)
 }
 
-// Do guessed entries tell that numbers k to k + 3 of a row refer to faces of zone z?
-fn four_refer(
+// Do eight entries tell that numbers k to k + 7 of a row refer to faces of zone z?
+fn eight_refer(
     image: &[u8],
     z: usize,
     row: Row,
@@ -136,22 +134,22 @@ fn four_refer(
     firsts: &[u64],
     reach: &[u64],
     count: usize,
-    guesses: Places,
+    entries: &[usize],
 ) -> bool
     requires { ⌜ Sound (now image) × (z < nodeCount (now image)) ⌝ }
-    requires { ⌜ (Numbers (now image) (row .at) (row .width) (row .n) × (k + 4 ≤ row .n)) × Faces (treeOf (now image)) (now firsts) (now reach) count ⌝ }
-    ensures { λ r. ⌜ (r ≡ true → Passed (refersFace (treeOf (now (image .entry))) z (now (image .entry)) (row .at) (row .width)) (row .n) k (k + 4)) ⌝ }
+    requires { ⌜ (Numbers (now image) (row .at) (row .width) (row .n) × (k + 8 ≤ row .n)) × Faces (treeOf (now image)) (now firsts) (now reach) count ⌝ }
+    requires { ⌜ 8 ≤ length (now entries) ⌝ }
+    ensures { λ r. ⌜ (r ≡ true → Passed (refersFace (treeOf (now (image .entry))) z (now (image .entry)) (row .at) (row .width)) (row .n) k (k + 8)) ⌝ }
 {
-    if !entry_refers(image, z, row, k, firsts, reach, count, guesses.a) {
-        return false;
+    let end = k + 8;
+    let mut j = k;
+    while j < end {
+        if !entry_refers(image, z, row, j, firsts, reach, count, entries[j - k]) {
+            return false;
+        }
+        j += 1;
     }
-    if !entry_refers(image, z, row, k + 1, firsts, reach, count, guesses.b) {
-        return false;
-    }
-    if !entry_refers(image, z, row, k + 2, firsts, reach, count, guesses.c) {
-        return false;
-    }
-    entry_refers(image, z, row, k + 3, firsts, reach, count, guesses.d)
+    true
 }
 
 // The magnitudes of numbers k to k + 3 of a row, as a search tree takes them.
@@ -170,21 +168,29 @@ fn four_at(image: &[u8], row: Row, k: usize) -> Four
     }
 }
 
-// The entries guessed for numbers k to k + 7 of a row.
-pub fn guess_eight(image: &[u8], row: Row, k: usize, levels: &[u32], tree: SearchTree) -> Guesses
+// Guesses the entries of numbers k to k + 7 of a row.
+pub fn guess_eight(
+    image: &[u8],
+    row: Row,
+    k: usize,
+    levels: &[u32],
+    tree: SearchTree,
+    entries: &mut [usize],
+)
     requires { ⌜ Numbers (now image) (row .at) (row .width) (row .n) × (k + 8 ≤ row .n) ⌝ }
-    requires { ⌜ Planted tree × (2048 ≤ length (now levels)) ⌝ }
+    requires { ⌜ (Planted tree × (2048 ≤ length (now levels))) × (8 ≤ length (now entries)) ⌝ }
 {
     search_tree::guess(
         levels,
         tree,
         four_at(image, row, k),
         four_at(image, row, k + 4),
-    )
+        entries,
+    );
 }
 
 // Where numbers of a row are looked up by guesses: from j to the answer. None where eight or more from k on lay in the intervals of the last two,
-// else no more than 64.
+// else no more than 256.
 fn jumps_to(k: usize, j: usize, n: usize) -> usize
     requires { ⌜ (k ≤ j) × (j ≤ n) ⌝ }
     ensures { λ r. ⌜ (j ≤ r) × (r ≤ n) ⌝ }
@@ -192,10 +198,10 @@ fn jumps_to(k: usize, j: usize, n: usize) -> usize
     if 8 <= j - k {
         return j;
     }
-    if n - j <= 64 {
+    if n - j <= 256 {
         return n;
     }
-    j + 64
+    j + 256
 }
 
 // How far numbers k to `end` of a row refer to faces of zone z, as guesses tell, eight at a time.
@@ -216,13 +222,11 @@ fn guessed_to(
     requires { ⌜ Planted tree × (2048 ≤ length (now levels)) ⌝ }
     ensures { λ r. ⌜ Passed (refersFace (treeOf (now (image .entry))) z (now (image .entry)) (row .at) (row .width)) (row .n) k r ⌝ }
 {
+    let mut entries: [usize; 8] = [0; 8];
     let mut j = k;
     while 8 <= end - j {
-        let guesses = guess_eight(image, row, j, levels, tree);
-        if !four_refer(image, z, row, j, firsts, reach, count, guesses.first) {
-            return j;
-        }
-        if !four_refer(image, z, row, j + 4, firsts, reach, count, guesses.second) {
+        guess_eight(image, row, j, levels, tree, &mut entries);
+        if !eight_refer(image, z, row, j, firsts, reach, count, &entries) {
             return j;
         }
         j += 8;

@@ -42,35 +42,22 @@ fn place_of(firsts: &[u64], places: &[u64], j: usize, f: u64) -> usize
     (places[j] + (f - firsts[j])) as usize
 }
 
-// Guesses the entries of the eight references of a row among which k stands, where they were not guessed before and the row has all eight. The ninth of
-// the guesses tells which references they are of.
+// Guesses the entries of the eight references of a row from `start` on, where the row has all eight. The ninth number tells which references they are of.
 fn guess_block(
     image: &[u8],
     tree: SearchTree,
     row: Row,
-    k: usize,
+    start: usize,
     levels: &[u32],
     guesses: &mut [usize],
 )
-    requires { ⌜ Numbers (now image) (row .at) (row .width) (row .n) × (k < row .n) ⌝ }
+    requires { ⌜ Numbers (now image) (row .at) (row .width) (row .n) × (start < row .n) ⌝ }
     requires { ⌜ (Planted tree × (2048 ≤ length (now levels))) × (9 ≤ length (now guesses)) ⌝ }
 {
-    let start = k - k % 8;
-    if guesses[8] == start + 1 {
-        return;
-    }
     if row.n - start < 8 {
         return;
     }
-    let g = guess_eight(image, row, start, levels, tree);
-    guesses[0] = g.first.a;
-    guesses[1] = g.first.b;
-    guesses[2] = g.first.c;
-    guesses[3] = g.first.d;
-    guesses[4] = g.second.a;
-    guesses[5] = g.second.b;
-    guesses[6] = g.second.c;
-    guesses[7] = g.second.d;
+    guess_eight(image, row, start, levels, tree, guesses);
     guesses[8] = start + 1;
 }
 
@@ -97,7 +84,10 @@ fn entry_of(
     if entry_holds(firsts, reach, count, f, last) {
         return last;
     }
-    guess_block(image, faces.tree, row, k, levels, guesses);
+    let start = k - k % 8;
+    if guesses[8] != start + 1 {
+        guess_block(image, faces.tree, row, start, levels, guesses);
+    }
     find(firsts, reach, count, guesses[k % 8], f)
 }
 

@@ -23,18 +23,12 @@ pub struct Four {
     pub d: u32,
 }
 
-// A place of a tree for each of four numbers, or an entry.
+// A place of a tree for each of four numbers.
 pub struct Places {
     pub a: usize,
     pub b: usize,
     pub c: usize,
     pub d: usize,
-}
-
-// The entries guessed for eight numbers.
-pub struct Guesses {
-    pub first: Places,
-    pub second: Places,
 }
 
 // How many places the lowest level has, so that the tree tells `count` ranges apart.
@@ -119,21 +113,19 @@ fn four_below(levels: &[u32], first: usize, p: Places, f: Four) -> Places
     Places { a, b, c, d }
 }
 
-// The entries of four places below the lowest level, the first of which is `first`.
-fn entries_at(first: usize, p: Places, from: usize) -> Places
-    requires { ⌜ ((first ≤ 2048) × (from ≤ 2048)) × InLevel first p ⌝ }
+// Writes the entries of four places below the lowest level, the first of which is `first`, from number k of `entries` on.
+fn put_entries(entries: &mut [usize], k: usize, first: usize, p: Places, from: usize)
+    requires { ⌜ ((k ≤ 4) × (8 ≤ length (now entries))) × (((first ≤ 2048) × (from ≤ 2048)) × InLevel first p) ⌝ }
 {
-    Places {
-        a: from + p.a - first,
-        b: from + p.b - first,
-        c: from + p.c - first,
-        d: from + p.d - first,
-    }
+    entries[k] = from + p.a - first;
+    entries[k + 1] = from + p.b - first;
+    entries[k + 2] = from + p.c - first;
+    entries[k + 3] = from + p.d - first;
 }
 
 // Guesses the entries of eight numbers of the tree's zone.
-pub fn guess(levels: &[u32], tree: SearchTree, f: Four, g: Four) -> Guesses
-    requires { ⌜ Planted tree × (2048 ≤ length (now levels)) ⌝ }
+pub fn guess(levels: &[u32], tree: SearchTree, f: Four, g: Four, entries: &mut [usize])
+    requires { ⌜ (Planted tree × (2048 ≤ length (now levels))) × (8 ≤ length (now entries)) ⌝ }
 {
     let mut p = Places {
         a: 1,
@@ -153,8 +145,6 @@ pub fn guess(levels: &[u32], tree: SearchTree, f: Four, g: Four) -> Guesses
         q = four_below(levels, first, q, g);
         first = 2 * first;
     }
-    Guesses {
-        first: entries_at(first, p, tree.from),
-        second: entries_at(first, q, tree.from),
-    }
+    put_entries(entries, 0, first, p, tree.from);
+    put_entries(entries, 4, first, q, tree.from);
 }

@@ -45,9 +45,16 @@ use-entry-requires : tie.Need-use-entry-requires Inv-loop μ-loop
 use-entry-requires c κs =
     let l = c .before .before .before .before .before .before in
     let r = l .before .references-of .ensures in
-    let h = c .before .before .before .before .if1 .taken in
-    ((r .numbers, h), (entry-face (r .each (l .loop .k) h), (tables-kept (l .before .before .before .before .before .before .before .before .before .pre .1) (l .loop .inv .1 .long),
-    c .before .before .entry-of .ensures)))
+    let h = c .before .before .before .before .if1 .taken in (
+      (r .numbers, h),
+      (
+        entry-face (r .each (l .loop .k) h),
+        (
+          tables-kept (l .before .before .before .before .before .before .before .before .before .pre .1) (l .loop .inv .1 .long),
+          c .before .before .entry-of .ensures,
+        ),
+      ),
+    )
 
 element-holding-requires : tie.Need-element-holding-requires Inv-loop μ-loop
 element-holding-requires c κs =
