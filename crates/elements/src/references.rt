@@ -243,15 +243,15 @@ fn all_refer(
     firsts: &[u64],
     reach: &[u64],
     count: usize,
-    levels: &mut [u32],
+    levels: &[u32],
+    tree: SearchTree,
 ) -> bool
     requires { ⌜ Sound (now image) × (z < nodeCount (now image)) ⌝ }
     requires { ⌜ Numbers (now image) (row .at) (row .width) (row .n) × Faces (treeOf (now image)) (now firsts) (now reach) count ⌝ }
-    requires { ⌜ 2048 ≤ length (now levels) ⌝ }
+    requires { ⌜ Planted tree × (2048 ≤ length (now levels)) ⌝ }
     ensures { λ r. ⌜ r ≡ everyFrom (refersFace (treeOf (now (image .entry))) z (now (image .entry)) (row .at) (row .width)) (row .n) 0 ⌝ }
 {
     let n = row.n;
-    let tree = search_tree::plant(firsts, count, z, n, levels);
     let mut last = Interval { low: 0, size: 0 };
     let mut k: usize = 0;
     while k < n {
@@ -271,7 +271,7 @@ fn all_refer(
     true
 }
 
-// Rule 35: every reference of section s, those of the row, is a face of its zone.
+// Rule 35: every reference of section s, those of the row, is a face of its zone. A tree is made where it is worth the work.
 fn faces_lawful(
     image: &[u8],
     s: usize,
@@ -286,15 +286,13 @@ fn faces_lawful(
     requires { ⌜ Faces (treeOf (now image)) (now firsts) (now reach) faces × (2048 ≤ length (now levels)) ⌝ }
     ensures { λ r. ⌜ r ≡ allFaces (treeOf (now (image .entry))) s ⌝ }
 {
-    all_refer(
-        image,
-        records::parent_of(image, s),
-        row,
-        firsts,
-        reach,
-        faces,
-        levels,
-    )
+    let z = records::parent_of(image, s);
+    if row.n / 8 < faces {
+        let tree = SearchTree { from: 0, lowest: 0 };
+        return all_refer(image, z, row, firsts, reach, faces, levels, tree);
+    }
+    let tree = search_tree::plant(firsts, faces, z, levels);
+    all_refer(image, z, row, firsts, reach, faces, levels, tree)
 }
 
 // Rules 34 and 35 at section s, whose references are those of the row.

@@ -70,7 +70,7 @@ pub fn zone_usage(
     if (out.len() as u64) < places[count] {
         return FaceUsage::Rejected(Rejection::at(44, 0));
     }
-    let tree = plant(firsts, count, 0, image.len(), levels);
+    let tree = plant(firsts, count, 0, levels);
     let faces = Faces {
         zone: z,
         count,

@@ -72,16 +72,13 @@ fn fill_level(firsts: &[u64], from: usize, to: usize, first: usize, step: usize,
     }
 }
 
-// Makes the tree of the ranges of a zone, which are among n. Where few numbers are looked for it is not worth the work.
-pub fn plant(firsts: &[u64], n: usize, zone: usize, uses: usize, levels: &mut [u32]) -> SearchTree
+// Makes the tree of the ranges of a zone, which are among n.
+pub fn plant(firsts: &[u64], n: usize, zone: usize, levels: &mut [u32]) -> SearchTree
     requires { ⌜ (Firsts (now firsts) n × (n ≤ 2048)) × ((zone < 4096) × (2048 ≤ length (now levels))) ⌝ }
     ensures { λ r. ⌜ Planted r ⌝ }
 {
     let from = begun(firsts, n, key(zone, 0));
     let to = begun(firsts, n, key(zone, 4294967295));
-    if uses / 8 < n {
-        return SearchTree { from, lowest: 0 };
-    }
     let lowest = lowest_for(to - from);
     let mut step = lowest;
     let mut first: usize = 1;

@@ -16,12 +16,12 @@ use Rattle.elements.proofs.references.all_refer.Statement.{statement}
 use Rattle.elements.proofs.references.all_refer.Tie as tie
 
 abbrev Inv-loop : tie.InvT-loop
-Inv-loop image z row firsts reach count levels n tree last₀ k₀ last k =
+Inv-loop image z row firsts reach count levels tree n last₀ k₀ last k =
     Covered firsts reach count z last × EveryLeft (refersFace (treeOf image) z image (row .at) (row .width)) n k
     (everyFrom (refersFace (treeOf image) z image (row .at) (row .width)) n 0)
 
 abbrev μ-loop : tie.MeasureT-loop
-μ-loop image z row firsts reach count levels n tree last₀ k₀ last k = n - k
+μ-loop image z row firsts reach count levels tree n last₀ k₀ last k = n - k
 
 loop-holds : tie.Need-loop-holds Inv-loop μ-loop
 loop-holds c = (none-covered _ _ _ _, every-start _ _)
@@ -30,11 +30,11 @@ returns : tie.Need-returns Inv-loop μ-loop
 returns c =
     let l = c .before .before .before in
     every-stop (l .loop .inv .1) (omega (arith, c .before .before .loop-test .taken))
-    (refers-by _ _ _ _ _ _ (c .before .magnitude-at .ensures) (too-great (l .before .before .before .before .before .before .before .before .before .pre .0 .0) _ _ (c .if1 .taken)))
+    (refers-by _ _ _ _ _ _ (c .before .magnitude-at .ensures) (too-great (l .before .before .before .before .before .pre .0 .0) _ _ (c .if1 .taken)))
 
 interval-around-requires : tie.Need-interval-around-requires Inv-loop μ-loop
 interval-around-requires c κs =
-    let p = c .before .before .before .before .before .before .before .before .before .before .before .before .pre in (p .1 .0 .1 .ordered, (omega (arith, p .0 .1, p .0 .0 .laid .few), omega (arith, c .if1 .left)))
+    let p = c .before .before .before .before .before .before .before .before .pre in (p .1 .0 .1 .ordered, (omega (arith, p .0 .1, p .0 .0 .laid .few), omega (arith, c .if1 .left)))
 
 returns-2 : tie.Need-returns-2 Inv-loop μ-loop
 returns-2 c =
@@ -42,49 +42,35 @@ returns-2 c =
     let m = a .before .before in
     let l = m .before .before in
     every-stop (l .loop .inv .1) (omega (arith, m .before .loop-test .taken))
-    (refers-by _ _ _ _ _ _ (m .magnitude-at .ensures)
-    (no-face (l .before .before .before .before .before .before .before .before .before .pre .1 .0 .1) _ (omega (arith, a .before .if1 .left)) (a .interval-around .ensures .1) (c .if2 .taken)))
-
-add-first-outside : tie.Need-add-first-outside Inv-loop μ-loop
-add-first-outside c = omega (arith, c .before .before .before .before .before .loop-test .taken, c .before .before .before .before .before .before .before .before .before .before .before .before .before .before .before .good .1 .1 .0)
+    (refers-by _ _ _ _ _ _ (m .magnitude-at .ensures) (no-face (l .before .before .before .before .before .pre .1 .0 .1) _ (omega (arith, a .before .if1 .left))
+    (a .interval-around .ensures .1) (c .if2 .taken)))
 
 first-outside-requires : tie.Need-first-outside-requires Inv-loop μ-loop
 first-outside-requires c κs =
     let l = c .before .before .before .before .before .before in (
-      (l .before .before .before .before .before .before .before .before .before .pre .1 .0 .0, omega (arith, c .before .before .before .before .before .loop-test .taken)),
+      (l .before .before .before .before .before .pre .1 .0 .0, omega (arith, c .before .before .before .before .before .loop-test .taken)),
       (c .before .before .interval-around .ensures .0 .small, l .loop .inv .0 .small),
     )
 
-jumps-to-requires : tie.Need-jumps-to-requires Inv-loop μ-loop
-jumps-to-requires c κs = (omega (arith, c .first-outside .ensures .from), c .first-outside .ensures .to)
-
 guessed-to-requires : tie.Need-guessed-to-requires Inv-loop μ-loop
-guessed-to-requires c κs =
-    let l = c .before .before .before .before .before .before .before .before .before in
-    let p = l .before .before .before .before .before .before .before .before .before .pre in
-    let t = l .before .before .before .plant in
-    ((p .0, c .before .jumps-to .ensures), (p .1 .0, (t .ensures, omega (arith, t .kept .1 .1 .1 .1 .0, p .1 .1))))
-
-loop-less : tie.Need-loop-less Inv-loop μ-loop
-loop-less c = omega (arith, c .before .before .before .before .before .before .before .before .before .loop-test .taken, c .before .before .before .first-outside .ensures .from, c .guessed-to .ensures .from)
+guessed-to-requires c κs = let p = c .before .before .before .before .before .before .before .before .before .before .before .before .before .pre in ((p .0, c .jumps-to .ensures), p .1)
 
 loop-again : tie.Need-loop-again Inv-loop μ-loop
 loop-again c =
-    let a = c .before .before .before .before .before .before in
+    let a = c .before .before .before .before .before in
     let m = a .before .before in
     let l = m .before .before in
-    let g = l .before .before .before .before .before .before .before .before .before .pre .1 .0 .1 in
+    let g = l .before .before .before .before .before .pre .1 .0 .1 in
     let i = l .loop .inv in (
       a .interval-around .ensures .0,
       every-on (every-on (every-more (i .1) (omega (arith, m .before .loop-test .taken)) (refers-by _ _ _ _ _ _ (m .magnitude-at .ensures)
-          (found-face g _ (omega (arith, a .before .if1 .left)) (a .interval-around .ensures .1) (c .before .before .before .before .if2 .left))))
-          (known-faces g _ _ _ (c .before .before .before .first-outside .ensures) (a .interval-around .ensures .0) (i .0))) (c .guessed-to .ensures),
+          (found-face g _ (omega (arith, a .before .if1 .left)) (a .interval-around .ensures .1) (c .before .before .before .if2 .left))))
+          (known-faces g _ _ _ (c .before .before .first-outside .ensures) (a .interval-around .ensures .0) (i .0))) (c .guessed-to .ensures),
     )
 
-returns-3 : tie.Need-returns-3 Inv-loop μ-loop
-returns-3 c = every-done (c .before .loop .inv .1) (omega arith)
-
 pub all-refer-spec : {M : Type 1} → statement M
-all-refer-spec = tie.close (tie.spec Inv-loop μ-loop (λ c κs. search needs) loop-holds (λ c κs. search needs) (search needs) returns
-    interval-around-requires (search needs) returns-2 add-first-outside first-outside-requires jumps-to-requires
-    guessed-to-requires loop-less loop-again (search needs) returns-3)
+all-refer-spec = tie.close (tie.spec Inv-loop μ-loop loop-holds (λ c κs. search needs) returns interval-around-requires returns-2
+    (λ c. omega (arith, c .before .before .before .before .before .loop-test .taken, c .before .before .before .before .before .before .before .before .before .before .before .good .1 .1 .0)) first-outside-requires
+    (λ c κs. (omega (arith, c .first-outside .ensures .from), c .first-outside .ensures .to)) guessed-to-requires
+    (λ c. omega (arith, c .before .before .before .before .before .before .before .before .loop-test .taken, c .before .before .first-outside .ensures .from, c .guessed-to .ensures .from)) loop-again
+    (λ c. every-done (c .before .loop .inv .1) (omega arith)))

@@ -35,7 +35,7 @@ fill-requires c κs =
     let p = m .before .before .before .before .before .before .before .before .before .before .pre in
     let g = m .gather .ensures in
     let t = c .before .before .before .before .before .before .before .plant in (
-      (p .0 .0 .1, omega (arith, t .kept .1 .1 .1 .1 .0, p .1 .2)),
+      (p .0 .0 .1, omega (arith, t .kept .1 .1 .1 .0, p .1 .2)),
       record { accepted = p .0 .0 .0; ranges = g; tree = t .ensures; room = omega (arith, all-faces (p .0 .0 .0) g, i .if1 .left) },
     )
 

@@ -10,21 +10,20 @@ use Rattle.ranges.proofs.search_tree.plant.Statement.{statement}
 use Rattle.ranges.proofs.search_tree.plant.Tie as tie
 
 abbrev Inv-loop : tie.InvT-loop
-Inv-loop firsts n zone uses levels₀ from to lowest step₀ first₀ levels step first =
+Inv-loop firsts n zone levels₀ from to lowest step₀ first₀ levels step first =
     (length levels ≡ length levels₀) × ((1 ≤ first) × (first ≤ 2048)) × (step ≤ 1024)
 
 abbrev μ-loop : tie.MeasureT-loop
-μ-loop firsts n zone uses levels₀ from to lowest step₀ first₀ levels step first = 2049 - first
+μ-loop firsts n zone levels₀ from to lowest step₀ first₀ levels step first = 2049 - first
 
 sub-lowest-for : tie.Need-sub-lowest-for Inv-loop μ-loop
 unfolding key
 sub-lowest-for c =
-    let b = c .before .before .before in
-    begun-up (b .begun .ensures) (c .before .begun2 .ensures) (omega (arith, b .before .key .ensures .0, c .before .before .key2 .ensures .0))
+    let b = c .before .before in begun-up (b .begun .ensures) (c .begun2 .ensures) (omega (arith, b .before .key .ensures .0, c .before .key2 .ensures .0))
 
 loop-again : tie.Need-loop-again Inv-loop μ-loop
 loop-again c = search needs
 
 pub plant-spec : {M : Type 1} → statement M
-plant-spec = tie.close (tie.spec Inv-loop μ-loop (λ c κs. search needs) (λ c κs. search needs) (λ c κs. search needs) (λ c κs. search needs) (search needs)
+plant-spec = tie.close (tie.spec Inv-loop μ-loop (λ c κs. search needs) (λ c κs. search needs) (λ c κs. search needs) (λ c κs. search needs)
     sub-lowest-for (search needs) (search needs) (λ c κs. search needs) (search needs) (search needs) loop-again (search needs) (search needs))
