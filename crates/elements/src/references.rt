@@ -11,7 +11,7 @@ ghost use Rattle.model.specs.Elements.{elementType, allNodes, allFaces};
 ghost use Rattle.model.specs.Rules.{check};
 ghost use Rattle.model.specs.Answers.{stageTells};
 ghost use Rattle.rows.specs.Rows.{Numbers};
-ghost use Rattle.ranges.specs.SearchTree.{Planted};
+ghost use Rattle.ranges.specs.SearchTree.{Built};
 ghost use Rattle.elements.specs.Arrays.{isWithin, isKnown, knownAt, Passed};
 ghost use Rattle.elements.specs.Given.{RowOf, SectionContext, refersFace};
 ghost use Rattle.elements.specs.Ranges.{Faces};
@@ -178,7 +178,7 @@ pub fn guess_eight(
     entries: &mut [usize],
 )
     requires { ⌜ Numbers (now image) (row .at) (row .width) (row .n) × (k + 8 ≤ row .n) ⌝ }
-    requires { ⌜ (Planted tree × (2048 ≤ length (now levels))) × (8 ≤ length (now entries)) ⌝ }
+    requires { ⌜ (Built tree × (2048 ≤ length (now levels))) × (8 ≤ length (now entries)) ⌝ }
 {
     search_tree::guess(
         levels,
@@ -219,7 +219,7 @@ fn guessed_to(
 ) -> usize
     requires { ⌜ (Sound (now image) × (z < nodeCount (now image))) × ((k ≤ end) × (end ≤ row .n)) ⌝ }
     requires { ⌜ Numbers (now image) (row .at) (row .width) (row .n) × Faces (treeOf (now image)) (now firsts) (now reach) count ⌝ }
-    requires { ⌜ Planted tree × (2048 ≤ length (now levels)) ⌝ }
+    requires { ⌜ Built tree × (2048 ≤ length (now levels)) ⌝ }
     ensures { λ r. ⌜ Passed (refersFace (treeOf (now (image .entry))) z (now (image .entry)) (row .at) (row .width)) (row .n) k r ⌝ }
 {
     let mut entries: [usize; 8] = [0; 8];
@@ -248,7 +248,7 @@ fn all_refer(
 ) -> bool
     requires { ⌜ Sound (now image) × (z < nodeCount (now image)) ⌝ }
     requires { ⌜ Numbers (now image) (row .at) (row .width) (row .n) × Faces (treeOf (now image)) (now firsts) (now reach) count ⌝ }
-    requires { ⌜ Planted tree × (2048 ≤ length (now levels)) ⌝ }
+    requires { ⌜ Built tree × (2048 ≤ length (now levels)) ⌝ }
     ensures { λ r. ⌜ r ≡ everyFrom (refersFace (treeOf (now (image .entry))) z (now (image .entry)) (row .at) (row .width)) (row .n) 0 ⌝ }
 {
     let n = row.n;
@@ -291,7 +291,7 @@ fn faces_lawful(
         let tree = SearchTree { from: 0, lowest: 0 };
         return all_refer(image, z, row, firsts, reach, faces, levels, tree);
     }
-    let tree = search_tree::plant(firsts, faces, z, levels);
+    let tree = search_tree::build(firsts, faces, z, levels);
     all_refer(image, z, row, firsts, reach, faces, levels, tree)
 }
 

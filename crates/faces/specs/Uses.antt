@@ -17,7 +17,7 @@ use Rattle.model.specs.FaceUsage.{faceCount, facePlace, unused, usesIn}
 use Rattle.rows.specs.declared.Row.{Row}
 use Rattle.rows.specs.Rows.{Numbers}
 use Rattle.ranges.specs.Tables.{Found}
-use Rattle.ranges.specs.SearchTree.{Planted}
+use Rattle.ranges.specs.SearchTree.{Built}
 use Rattle.usage_bytes.specs.Marks.{signOf, afterUse}
 use Rattle.faces.specs.declared.uses.Faces.{Faces}
 use Rattle.face_places.specs.ZoneSections.{Cells}
@@ -27,7 +27,7 @@ use Rattle.face_places.specs.Ranges.{Ranges}
 pub record Tables (b : List ℕ) (f : Faces) (firsts reach places : List ℕ) (out : ℕ) : Type 0 where
   pub accepted : Accepted b
   pub ranges : Ranges (treeOf b) (f .zone) (nodeCount b) firsts reach places (f .count)
-  pub tree : Planted (f .tree)
+  pub tree : Built (f .tree)
   pub room : faceCount (treeOf b) (f .zone) ≤ out
 
 -- entry j of n is what a search for the magnitude of number k of a row finds

@@ -10,7 +10,7 @@ ghost use Rattle.model.specs.Elements.{faceOf};
 ghost use Rattle.model.specs.FaceUsage.{faceCount, usesIn, useEntries, useNodes};
 ghost use Rattle.rows.specs.Rows.{Numbers};
 ghost use Rattle.ranges.specs.Tables.{Ordered};
-ghost use Rattle.ranges.specs.SearchTree.{Planted};
+ghost use Rattle.ranges.specs.SearchTree.{Built};
 ghost use Rattle.index.specs.Index.{Index};
 ghost use Rattle.faces.specs.Uses.{Tables, FoundFor, UsedAt, Used};
 use super::cells::element_holding;
@@ -52,7 +52,7 @@ fn guess_block(
     guesses: &mut [usize],
 )
     requires { ⌜ Numbers (now image) (row .at) (row .width) (row .n) × (start < row .n) ⌝ }
-    requires { ⌜ (Planted tree × (2048 ≤ length (now levels))) × (9 ≤ length (now guesses)) ⌝ }
+    requires { ⌜ (Built tree × (2048 ≤ length (now levels))) × (9 ≤ length (now guesses)) ⌝ }
 {
     if row.n - start < 8 {
         return;
@@ -76,7 +76,7 @@ fn entry_of(
     requires { ⌜ Numbers (now image) (row .at) (row .width) (row .n) × (k < row .n) ⌝ }
     requires { ⌜ magnitude (row .width) (numberAt (now image) (row .at) (row .width) k) < 9223372036854775808 ⌝ }
     requires { ⌜ Ordered (now firsts) (now reach) (faces .count) ⌝ }
-    requires { ⌜ (Planted (faces .tree) × (2048 ≤ length (now levels))) × (9 ≤ length (now guesses)) ⌝ }
+    requires { ⌜ (Built (faces .tree) × (2048 ≤ length (now levels))) × (9 ≤ length (now guesses)) ⌝ }
     ensures { λ r. ⌜ FoundFor (now (image .entry)) row k (now (firsts .entry)) (now (reach .entry)) (faces .count) r ⌝ }
 {
     let count = faces.count;

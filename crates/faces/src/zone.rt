@@ -18,7 +18,7 @@ use face_places::places::gather;
 use model::FaceUsage;
 use model::Rejection;
 use model::Stage;
-use ranges::search_tree::plant;
+use ranges::search_tree;
 use usage_bytes::clear;
 
 // Writes the usage of the zone's faces, whose ranges are at hand, into the first F bytes: 45, and F zeros, where one is used twice with one sign.
@@ -70,7 +70,7 @@ pub fn zone_usage(
     if (out.len() as u64) < places[count] {
         return FaceUsage::Rejected(Rejection::at(44, 0));
     }
-    let tree = plant(firsts, count, 0, levels);
+    let tree = search_tree::build(firsts, count, 0, levels);
     let faces = Faces {
         zone: z,
         count,

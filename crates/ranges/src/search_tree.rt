@@ -3,7 +3,7 @@
 ghost use Prim.Native.Nat.{_+_, _*_, _≤_, _<_};
 ghost use lib.ListN.{length};
 ghost use Rattle.ranges.specs.Tables.{Firsts};
-ghost use Rattle.ranges.specs.SearchTree.{Planted, InLevel};
+ghost use Rattle.ranges.specs.SearchTree.{Built, InLevel};
 use super::begun;
 use super::key;
 use std::num::wrapping_add_u64;
@@ -73,9 +73,9 @@ fn fill_level(firsts: &[u64], from: usize, to: usize, first: usize, step: usize,
 }
 
 // Makes the tree of the ranges of a zone, which are among n.
-pub fn plant(firsts: &[u64], n: usize, zone: usize, levels: &mut [u32]) -> SearchTree
+pub fn build(firsts: &[u64], n: usize, zone: usize, levels: &mut [u32]) -> SearchTree
     requires { ⌜ (Firsts (now firsts) n × (n ≤ 2048)) × ((zone < 4096) × (2048 ≤ length (now levels))) ⌝ }
-    ensures { λ r. ⌜ Planted r ⌝ }
+    ensures { λ r. ⌜ Built r ⌝ }
 {
     let from = begun(firsts, n, key(zone, 0));
     let to = begun(firsts, n, key(zone, 4294967295));
@@ -122,7 +122,7 @@ fn put_entries(entries: &mut [usize], k: usize, first: usize, p: Places, from: u
 
 // Guesses the entries of eight numbers of the tree's zone.
 pub fn guess(levels: &[u32], tree: SearchTree, f: Four, g: Four, entries: &mut [usize])
-    requires { ⌜ (Planted tree × (2048 ≤ length (now levels))) × (8 ≤ length (now entries)) ⌝ }
+    requires { ⌜ (Built tree × (2048 ≤ length (now levels))) × (8 ≤ length (now entries)) ⌝ }
 {
     let mut p = Places {
         a: 1,

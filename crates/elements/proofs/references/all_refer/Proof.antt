@@ -1,6 +1,5 @@
 -- The whole is the rest from number k on; numbers in the two intervals are faces, a number looked up is one where it is found, and so are those guessed.
 use Prim.Native.Nat.{_-_}
-use mathlib.Core.Path.{_≡_, _∙_}
 use Rattle.model.specs.Lists.{everyFrom}
 use Rattle.model.specs.Image.{treeOf}
 use Rattle.model.proofs.Loops.{EveryLeft, every-start, every-more, every-stop, every-done}
@@ -34,7 +33,8 @@ returns c =
 
 interval-around-requires : tie.Need-interval-around-requires Inv-loop μ-loop
 interval-around-requires c κs =
-    let p = c .before .before .before .before .before .before .before .before .pre in (p .1 .0 .1 .ordered, (omega (arith, p .0 .1, p .0 .0 .laid .few), omega (arith, c .if1 .left)))
+    let p = c .before .before .before .before .before .before .before .before .pre in
+    (p .1 .0 .1 .ordered, (omega (arith, p .0 .1, p .0 .0 .laid .few), omega (arith, c .if1 .left)))
 
 returns-2 : tie.Need-returns-2 Inv-loop μ-loop
 returns-2 c =
@@ -52,8 +52,20 @@ first-outside-requires c κs =
       (c .before .before .interval-around .ensures .0 .small, l .loop .inv .0 .small),
     )
 
+add-first-outside : tie.Need-add-first-outside Inv-loop μ-loop
+add-first-outside c =
+    let l = c .before .before .before .before .before .before in
+    omega (arith, c .before .before .before .before .before .loop-test .taken, l .before .before .before .before .before .good .1 .1 .0)
+
 guessed-to-requires : tie.Need-guessed-to-requires Inv-loop μ-loop
-guessed-to-requires c κs = let p = c .before .before .before .before .before .before .before .before .before .before .before .before .before .pre in ((p .0, c .jumps-to .ensures), p .1)
+guessed-to-requires c κs =
+    let l = c .before .before .before .before .before .before .before .before in
+    let p = l .before .before .before .before .before .pre in ((p .0, c .jumps-to .ensures), p .1)
+
+loop-less : tie.Need-loop-less Inv-loop μ-loop
+loop-less c =
+    let f = c .before .before .first-outside .ensures .from in
+    omega (arith, c .before .before .before .before .before .before .before .before .loop-test .taken, f, c .guessed-to .ensures .from)
 
 loop-again : tie.Need-loop-again Inv-loop μ-loop
 loop-again c =
@@ -69,8 +81,6 @@ loop-again c =
     )
 
 pub all-refer-spec : {M : Type 1} → statement M
-all-refer-spec = tie.close (tie.spec Inv-loop μ-loop loop-holds (λ c κs. search needs) returns interval-around-requires returns-2
-    (λ c. omega (arith, c .before .before .before .before .before .loop-test .taken, c .before .before .before .before .before .before .before .before .before .before .before .good .1 .1 .0)) first-outside-requires
-    (λ c κs. (omega (arith, c .first-outside .ensures .from), c .first-outside .ensures .to)) guessed-to-requires
-    (λ c. omega (arith, c .before .before .before .before .before .before .before .before .loop-test .taken, c .before .before .first-outside .ensures .from, c .guessed-to .ensures .from)) loop-again
+all-refer-spec = tie.close (tie.spec Inv-loop μ-loop loop-holds (λ c κs. search needs) returns interval-around-requires returns-2 add-first-outside
+    first-outside-requires (λ c κs. (omega (arith, c .first-outside .ensures .from), c .first-outside .ensures .to)) guessed-to-requires loop-less loop-again
     (λ c. every-done (c .before .loop .inv .1) (omega arith)))

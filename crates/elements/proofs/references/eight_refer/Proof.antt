@@ -29,7 +29,8 @@ returns c e = untrue e
 
 loop-again : tie.Need-loop-again Inv-loop μ-loop
 loop-again c =
-    let l = c .before .before .before .before .loop in (passed-more (l .inv .0) (omega arith) (c .before .entry-refers .ensures (not-false _ (c .if1 .left))), omega arith)
+    let l = c .before .before .before .before .loop in
+    (passed-more (l .inv .0) (omega arith) (c .before .entry-refers .ensures (not-false _ (c .if1 .left))), omega arith)
 
 returns-2 : tie.Need-returns-2 Inv-loop μ-loop
 returns-2 c e =

@@ -14,11 +14,13 @@ returns c =
     rw (← c .before .before .magnitude-at .ensures) (entry-found _ _ _ _ _ _ (sym (c .before .entry-holds .ensures) ∙ c .if1 .taken))
 
 -- guesses have room for as many numbers as before
-same : (c : tie.Joined2) → length (c .if2 .guesses) ≡ length (now (c .before .before .before .before .before .before .before .before .before .before .args .guesses))
+same : (c : tie.Joined2)
+    → let a = c .before .before .before .before .before .before .before .before .before .before .args in length (c .if2 .guesses) ≡ length (now (a .guesses))
 same c = ⊎-elim (λ w. ap length (w .5) ∙ w .2 .kept .1 .1 .1 .1 .1 .0) (λ w. ap length (w .1)) (c .if2 .came)
 
 guess-block-requires : tie.Need-guess-block-requires
-guess-block-requires c κs = let p = c .before .before .before .before .before .before .before .before .before .before .before .pre in ((p .0 .0, omega arith), p .1 .1 .1)
+guess-block-requires c κs =
+    let p = c .before .before .before .before .before .before .before .before .before .before .before .pre in ((p .0 .0, omega arith), p .1 .1 .1)
 
 slice-read-find : tie.Need-slice-read-find
 slice-read-find c = omega (arith, same (c .before))

@@ -23,7 +23,8 @@ place-of-requires c κs =
 use-face-requires : tie.Need-use-face-requires
 use-face-requires c κs =
     let p = c .before .before in
-    let w = found (p .before) in omega (arith, p .place-of .ensures, w .place, w .below, p .before .before .before .before .before .before .before .pre .1 .1 .0 .room)
+    let w = found (p .before) in
+    omega (arith, p .place-of .ensures, w .place, w .below, p .before .before .before .before .before .before .before .pre .1 .1 .0 .room)
 
 returns : tie.Need-returns
 returns c =

@@ -1,6 +1,6 @@
 -- The whole run is the rest from node i on, over the bytes that the nodes before it left.
-use Prim.Native.Nat.{_+_, _-_, _≤_, _<_}
-use mathlib.Core.Path.{_≡_, refl, _∙_}
+use Prim.Native.Nat.{_+_, _-_, _≤_}
+use mathlib.Core.Path.{_≡_, _∙_}
 use native.Mathlib.Omega.{arith}
 use borrow.Author.Needs.{needs}
 use Rattle.model.specs.Image.{treeOf, nodeCount}
@@ -24,7 +24,8 @@ loop-holds c = ((c .node-count .ensures .0, omega arith), nodes-start _ _ _ _ _)
 use-entries-requires : tie.Need-use-entries-requires Inv-loop μ-loop
 use-entries-requires c κs =
     let l = c .before .before in
-    let p = l .before .before .before .before .before .before .before .before .before .pre in (((p .0 .0, omega (arith, l .loop .inv .0)), p .0 .1), tables-kept (p .1) (l .loop .inv .1 .long))
+    let p = l .before .before .before .before .before .before .before .before .before .pre in
+    (((p .0 .0, omega (arith, l .loop .inv .0)), p .0 .1), tables-kept (p .1) (l .loop .inv .1 .long))
 
 same-length : tie.Need-same-length Inv-loop μ-loop
 same-length c =
@@ -36,7 +37,8 @@ returns c =
     let u = c .before .before .before .before in
     let l = u .before .before .before in
     let a = l .before .before .before .before .before .before .before .before .before .args in
-    left-stop (l .loop .inv .1) (λ later. useNodes (treeOf (a .image .now)) (a .faces .zone) (nodeCount (a .image .now) - (l .loop .i + 1)) (l .loop .i + 1) later)
+    left-stop (l .loop .inv .1)
+    (λ later. useNodes (treeOf (a .image .now)) (a .faces .zone) (nodeCount (a .image .now) - (l .loop .i + 1)) (l .loop .i + 1) later)
     (nodes-step _ _ _ _ _ (omega (arith, l .loop .inv .0))) (u .use-entries .ensures) (c .enum-told2 .given .1)
 
 loop-again : tie.Need-loop-again Inv-loop μ-loop

@@ -11,7 +11,8 @@ use Rattle.faces.proofs.zone.fill.Statement.{statement}
 use Rattle.faces.proofs.zone.fill.Tie as tie
 
 clear-requires : tie.Need-clear-requires
-clear-requires c κs = let t = c .before .before .before .before .before .before .before .before .before .pre .1 in omega (arith, all-faces (t .accepted) (t .ranges), t .room)
+clear-requires c κs =
+    let t = c .before .before .before .before .before .before .before .before .before .pre .1 in omega (arith, all-faces (t .accepted) (t .ranges), t .room)
 
 use-nodes-requires : tie.Need-use-nodes-requires
 use-nodes-requires c κs =

@@ -10,7 +10,8 @@ use Rattle.faces.proofs.zone.zone_usage.Tie as tie
 
 array-read-if1 : tie.Need-array-read-if1
 array-read-if1 c =
-    let m = c .before .before .before .before .before in omega (arith, few-ranges (m .before .before .before .before .before .before .before .before .before .before .pre .0 .0 .0) (m .gather .ensures))
+    let m = c .before .before .before .before .before in
+    omega (arith, few-ranges (m .before .before .before .before .before .before .before .before .before .before .pre .0 .0 .0) (m .gather .ensures))
 
 returns : tie.Need-returns
 returns c =
@@ -21,8 +22,8 @@ returns c =
     (too-short _ _ _ (p .0 .0 .image) (p .1) (omega (arith, all-faces (p .0 .0) (m .gather .ensures), c .before .if1 .taken))) in
     (ap rejected (c .at .ensures) ∙ w .0, w .1)
 
-plant-requires : tie.Need-plant-requires
-plant-requires c κs =
+build-requires : tie.Need-build-requires
+build-requires c κs =
     let m = c .before .before .before .before .before .before .before .before in
     let p = m .before .before .before .before .before .before .before .before .before .before .pre in
     let g = m .gather .ensures in
@@ -34,7 +35,7 @@ fill-requires c κs =
     let m = i .before .before .before .before .before .before in
     let p = m .before .before .before .before .before .before .before .before .before .before .pre in
     let g = m .gather .ensures in
-    let t = c .before .before .before .before .before .before .before .plant in (
+    let t = c .before .before .before .before .before .before .before .build in (
       (p .0 .0 .1, omega (arith, t .kept .1 .1 .1 .0, p .1 .2)),
       record { accepted = p .0 .0 .0; ranges = g; tree = t .ensures; room = omega (arith, all-faces (p .0 .0 .0) g, i .if1 .left) },
     )
@@ -52,4 +53,4 @@ returns-2 c =
 
 pub zone-usage-spec : {M : Type 1} → statement M
 zone-usage-spec = tie.close (tie.spec (λ c. refl) (λ c κs. search needs) (search needs) array-read-if1 (search needs) (search needs) (search needs) returns
-    plant-requires (search needs) fill-requires (search needs) (search needs) (search needs) (search needs) returns-2)
+    build-requires (search needs) fill-requires (search needs) (search needs) (search needs) (search needs) returns-2)

@@ -1,7 +1,6 @@
 -- All eight places stay in one level, whose numbers lie in the table.
 use Prim.Native.Nat.{_-_, _≤_}
 use Rattle.ranges.specs.SearchTree.{InLevel}
-use native.Mathlib.Omega.{arith}
 use borrow.Author.Needs.{needs}
 use Rattle.ranges.proofs.search_tree.guess.Statement.{statement}
 use Rattle.ranges.proofs.search_tree.guess.Tie as tie

@@ -1,6 +1,5 @@
 -- No level has more than 1,024 nodes.
 use Prim.Native.Nat.{_-_, _≤_}
-use native.Mathlib.Omega.{arith}
 use borrow.Author.Needs.{needs}
 use Rattle.ranges.proofs.search_tree.lowest_for.Statement.{statement}
 use Rattle.ranges.proofs.search_tree.lowest_for.Tie as tie

@@ -1,13 +1,13 @@
 -- The entries of the zone begin after those of zones before it; each level lies in the table.
 use Prim.Native.Nat.{_-_, _≤_}
-use mathlib.Core.Path.{_≡_, refl}
+use mathlib.Core.Path.{_≡_}
 use lib.ListN.{length}
 use Rattle.ranges.specs.Tables.{key}
 use Rattle.ranges.proofs.Halving.{begun-up}
 use native.Mathlib.Omega.{arith}
 use borrow.Author.Needs.{needs}
-use Rattle.ranges.proofs.search_tree.plant.Statement.{statement}
-use Rattle.ranges.proofs.search_tree.plant.Tie as tie
+use Rattle.ranges.proofs.search_tree.build.Statement.{statement}
+use Rattle.ranges.proofs.search_tree.build.Tie as tie
 
 abbrev Inv-loop : tie.InvT-loop
 Inv-loop firsts n zone levels₀ from to lowest step₀ first₀ levels step first =
@@ -24,6 +24,6 @@ sub-lowest-for c =
 loop-again : tie.Need-loop-again Inv-loop μ-loop
 loop-again c = search needs
 
-pub plant-spec : {M : Type 1} → statement M
-plant-spec = tie.close (tie.spec Inv-loop μ-loop (λ c κs. search needs) (λ c κs. search needs) (λ c κs. search needs) (λ c κs. search needs)
+pub build-spec : {M : Type 1} → statement M
+build-spec = tie.close (tie.spec Inv-loop μ-loop (λ c κs. search needs) (λ c κs. search needs) (λ c κs. search needs) (λ c κs. search needs)
     sub-lowest-for (search needs) (search needs) (λ c κs. search needs) (search needs) (search needs) loop-again (search needs) (search needs))
