@@ -135,11 +135,6 @@ module _ (b : List ℕ) (i : ℕ) (g : NodesTo b i) where
             let a = above i here n in
             held (parent (treeOf b) i) (a .upper) (rind-under (role (treeOf b) (parent (treeOf b) i)) (rw e at (a .holds))) .zone .based
 
-    -- the zone of a section
-    pub section-held : role (treeOf b) i ≡ Elements → UnderZone b i
-    unfolding among
-    section-held e = held i here (rw e)
-
     -- the zone of a coordinate or flow array
     sized-held : sizedArray (treeOf b) i ≡ true → UnderZone b (parent (treeOf b) i)
     unfolding sizedArray among
@@ -197,10 +192,6 @@ module _ (b : List ℕ) (a : Accepted b) (i : ℕ) (h : i < nodeCount b) (v : va
   unfolding sidsRules
   place = sids-rule b (a .image) 20 i h v
 
-  -- the zone of a coordinate or flow array, and a zone itself
+  -- the zone of a coordinate or flow array
   pub accepted-sized : sizedArray (treeOf b) i ≡ true → Sized b (parent (treeOf b) i)
   accepted-sized = sized b i (accepted-to b a i h) v place
-
-  pub accepted-zone : role (treeOf b) i ≡ Zone → TypedZone b i
-  unfolding sidsRules
-  accepted-zone e = record { based = ready b i (accepted-to b a i h) v place .zone e; zone = e; type = sids-rule b (a .image) 24 i h v }
