@@ -95,7 +95,12 @@ fn of_faces() -> Vec<Odd> {
         odd(
             "500 face sections apart, 500 cell sections, references at random among all",
             "many_cells",
-            many_cells(random, 500),
+            many_cells(random, 500, FEW_REFERENCES),
+        ),
+        odd(
+            "500 face sections apart, 500 cell sections of 1,000 references at random among all",
+            "many_small_cells",
+            many_cells(random, 500, 1_000),
         ),
         odd("two zones in turn, 256 face and 255 cell sections each, falling ranges", "two_zones", two_zones(random)),
         odd(
@@ -183,14 +188,14 @@ fn beside_great(random: &mut Random, great: usize) -> Image {
     image
 }
 
-/// So many face sections, and behind them as many cell sections.
-fn many_cells(random: &mut Random, count: i64) -> Image {
+/// So many face sections, and behind them as many cell sections with references.
+fn many_cells(random: &mut Random, count: i64, references: usize) -> Image {
     let (mut image, zone) = with_zone();
     let numbers = rising(2 * count, APART);
     let (faces, cells) = numbers.split_at(count as usize);
     add_triangles(&mut image, zone, NGON_N, faces);
     for &cell in cells {
-        Section::of_one(NFACE_N, cell, &at_random(random, FEW_REFERENCES, faces)).add(&mut image, zone);
+        Section::of_one(NFACE_N, cell, &at_random(random, references, faces)).add(&mut image, zone);
     }
     image
 }

@@ -287,7 +287,7 @@ fn faces_lawful(
     ensures { λ r. ⌜ r ≡ allFaces (treeOf (now (image .entry))) s ⌝ }
 {
     let z = records::parent_of(image, s);
-    if row.n / 8 < faces {
+    if row.n < faces / 4 {
         let tree = SearchTree { from: 0, lowest: 0 };
         return all_refer(image, z, row, firsts, reach, faces, levels, tree);
     }

@@ -8,7 +8,7 @@ use native.Mathlib.Omega.{arith}
 use lib.Dec.{eqb}
 use borrow.Author.Tests.{eqb-true, ne-eqb}
 use Rattle.model.specs.Lists.{among}
-use Rattle.model.specs.Rules.{check, passed, Check, _then_}
+use Rattle.model.specs.Rules.{check, Check, _then_}
 use Rattle.model.specs.Image.{Tree, treeOf, nodeCount, parent}
 use Rattle.model.specs.Given.{NodesTo, Accepted}
 use Rattle.model.specs.Records.{tableCheck}
@@ -25,7 +25,7 @@ use Rattle.model.proofs.Above.{validated-above, earlier-rule, held-by}
 use Rattle.index.specs.Index.{kind}
 use Rattle.index.proofs.Marking.{kind-role}
 use Rattle.types.specs.Given.{ZoneInBase, NodeContext}
-use Rattle.sids.specs.Given.{TypedZone, UnderZone, Sized}
+use Rattle.sids.specs.Given.{UnderZone, Sized}
 use Rattle.sids.specs.Groups.{placeRules, contentRules, sizeRules}
 
 -- a list of one; what may hold a zone; what holds the three kinds of nodes under a zone
