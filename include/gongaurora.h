@@ -24,8 +24,8 @@
  *              gongaurora_array_value under 40,000; gongaurora_read_corner and gongaurora_read_element under 1,000.
  *   Threads    There is no state: any calls may run at the same time, as long as no other thread writes what they read.
  *   Cost       Measured, not proved. One validation of a usual mesh costs about one pass over the image's bytes; of an image
- *              with 1,000 face sections and references at random among them 16; of the costliest image measured 34. Each call
- *              says whether it validates.
+ *              with 1,000 face sections and references at random among them 17. No image measured takes as long as 20 passes
+ *              over 16 MB. Each call says whether it validates.
  *   Linking    The archive needs one symbol from outside, memset.
  *   Proof      What is proved is proved of the archive's exports. The calls of this header are C around them: tested, not
  *              proved.

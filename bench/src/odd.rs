@@ -126,9 +126,17 @@ fn of_nodes() -> Vec<Odd> {
         Odd {
             rule: 23,
             ..odd(
-                "2,040 sections with a range alone, falling: rule 23",
+                "2,040 sections of triangles with a range alone, falling: rule 23",
                 "ranges_falling",
-                ranges_alone(&falling(2_040, APART / 2)),
+                ranges_alone(TRI_3, &falling(2_040, APART / 2)),
+            )
+        },
+        Odd {
+            rule: 23,
+            ..odd(
+                "2,040 face sections with a range alone, falling: rule 23",
+                "face_ranges_falling",
+                ranges_alone(NGON_N, &falling(2_040, APART / 2)),
             )
         },
         odd("4,088 arrays of a section, named ElementX..", "named_7", named(|k| format!("ElementX{k:04}"))),
@@ -227,10 +235,10 @@ fn triangles(element_type: i64, numbers: &[i64]) -> Image {
 }
 
 /// A section for each number, with its range alone: the first breaks rule 23.
-fn ranges_alone(numbers: &[i64]) -> Image {
+fn ranges_alone(element_type: i64, numbers: &[i64]) -> Image {
     let (mut image, zone) = with_zone();
     for &number in numbers {
-        let section = Section::triangle(TRI_3, number).add_bare(&mut image, zone);
+        let section = Section::triangle(element_type, number).add_bare(&mut image, zone);
         image.add(section, Node::integers("ElementRange", "IndexRange_t", 4, &[2], &[number, number]));
     }
     image
