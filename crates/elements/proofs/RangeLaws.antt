@@ -92,7 +92,7 @@ module _ {b : List ℕ} (g : Sound b) (faces : Bool) (s : ℕ) (e : isRanged (tr
   unfolding validatedAs
   zone-inside h =
       let t = treeOf b in
-      held-inside b g s h Elements (eqb-true _ _ (and-first (eqb (role t s) Elements) _ is-section)) (λ (z : _≡_ {A = ℕ} 7 14). absurd (omega arith))
+      held-inside b g s h Elements (eqb-true _ _ (and-first (eqb (role t s) Elements) _ is-section)) refl
 
   -- its range is a child of its own, which is no section
   own-child : (rangeOf (treeOf b) s < nodeCount b) × (parent (treeOf b) (rangeOf (treeOf b) s) ≡ s) × (isRanged (treeOf b) faces (rangeOf (treeOf b) s) ≡ false)

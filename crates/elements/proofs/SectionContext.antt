@@ -28,7 +28,7 @@ use Rattle.elements.proofs.Stored.{type-section, stores-pair, range-rea
 
 -- the root is no section
 no-root : (t : Tree) (s : ℕ) → role t s ≡ Elements → s ≡ 0 → ⊥
-no-root t s e = not-root t s Elements e (λ (z : _≡_ {A = ℕ} 7 14). absurd (omega arith))
+no-root t s e = not-root t s Elements e refl
 
 module _ (t : Tree) (s : ℕ) (e : role t s ≡ Elements) where
   placed-is : placed t s ≡ (mayHold (role t (parent t s)) Elements && unstructured t (parent t s))

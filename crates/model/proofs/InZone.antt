@@ -13,7 +13,7 @@ use Rattle.model.specs.Bytes.{numbers, text, spells, half, below}
 use Rattle.model.specs.Rules.{passed}
 use Rattle.model.specs.Image.{Tree, treeOf, nodeCount, node, name, width, number, I4, I8}
 use Rattle.model.specs.Containment.{role, Elements, IndexRange, DataArray, sectionOf, found}
-use Rattle.model.specs.Values.{sidsRules, size, typed, indexArray, complete, rangeValue, valueLawful, conforming, rangeOf, offsetsOf, connectivityOf}
+use Rattle.model.specs.Values.{sidsRules, size, typed, indexArray, complete, rangeValue, indexRangeValue, valueLawful, conforming, rangeOf, offsetsOf, connectivityOf}
 use Rattle.model.specs.Elements.{nodesPer, hasOffsets, taken, elementType, firstElement, lastElement, elementCount, startOffset, connectivityLength}
 use Rattle.model.specs.Elements.{elementStart, elementRules, lengthsFit, startsAtZero, rises, allRise, endsAtLength}
 use Rattle.model.specs.Validation.{imageCheck}
@@ -21,7 +21,7 @@ use Rattle.model.proofs.Logic.{untrue, and-first, and-second, or-left, 
 use Rattle.model.proofs.Walks.{every-at}
 use Rattle.model.proofs.Passed.{Claim}
 use Rattle.model.proofs.Accepted.{table-passed, sids-rule, element-rule}
-use Rattle.model.proofs.Conforming.{IsSection, section-is, conforming-inside, conforming-value, conforming-role, conforming-name}
+use Rattle.model.proofs.Conforming.{IsSection, section-is, conforming-inside, conforming-value, conforming-parent, conforming-role, conforming-name}
 use Rattle.model.proofs.TwosComplement.{rise-small, rise-next, rise-last}
 use Rattle.model.proofs.Arrays.{Indices, indices, index-array}
 use Rattle.model.proofs.Absent.{absent-size}
@@ -71,10 +71,11 @@ module _ {b : List ℕ} {z s : ℕ} (a : InZone b z s) where
 
   -- 25: 1 ≤ first ≤ last ≤ 2,147,483,647
   range-lawful : rangeValue (treeOf b) (rangeOf (treeOf b) s) ≡ true
-  unfolding valueLawful row rangeOf
+  unfolding valueLawful indexRangeValue row rangeOf
   range-lawful =
-      rw (conforming-role (treeOf b) s IndexRange (text "ElementRange") range-found) at
-      (conforming-value (treeOf b) s IndexRange (text "ElementRange") range-found)
+      rw (conforming-parent (treeOf b) s IndexRange (text "ElementRange") range-found, role-is) at
+      (rw (conforming-role (treeOf b) s IndexRange (text "ElementRange") range-found) at
+      (conforming-value (treeOf b) s IndexRange (text "ElementRange") range-found))
 
   pub range : Range (treeOf b) s
   unfolding rangeValue firstElement lastElement

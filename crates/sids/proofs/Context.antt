@@ -97,7 +97,7 @@ module _ (b : List ℕ) (i : ℕ) (g : NodesTo b i) where
 
   based : (j : ℕ) → Placed j → role (treeOf b) j ≡ Zone → ZoneInBase b j
   based j p e =
-      let a = above j p (not-root (treeOf b) j Zone e (λ (z : _≡_ {A = ℕ} 3 14). absurd (omega arith))) in
+      let a = above j p (not-root (treeOf b) j Zone e refl) in
       record {
         inside = omega arith;
         zone = kind-role (treeOf b) j (p .is-validated) e;
@@ -131,7 +131,7 @@ module _ (b : List ℕ) (i : ℕ) (g : NodesTo b i) where
       where
         rind-based : role (treeOf b) i ≡ Rind → ZoneInBase b (parent (treeOf b) (parent (treeOf b) i))
         rind-based e =
-            let n = not-root (treeOf b) i Rind e (λ (z : _≡_ {A = ℕ} 9 14). absurd (omega arith)) in
+            let n = not-root (treeOf b) i Rind e refl in
             let a = above i here n in
             held (parent (treeOf b) i) (a .upper) (rind-under (role (treeOf b) (parent (treeOf b) i)) (rw e at (a .holds))) .zone .based
 
@@ -141,7 +141,7 @@ module _ (b : List ℕ) (i : ℕ) (g : NodesTo b i) where
     sized-held e =
         let t = treeOf b in
         let d = eqb-true (role t i) DataArray (and-first (eqb (role t i) DataArray) _ e) in
-        let n = not-root t i DataArray d (λ (z : _≡_ {A = ℕ} 11 14). absurd (omega arith)) in
+        let n = not-root t i DataArray d refl in
         held (parent t i) (above i here n .upper) (three (eqb (role t (parent t i)) 5) (eqb (role t (parent t i)) 6) _
         (and-second (eqb (role t i) DataArray) _ e))
       where
@@ -155,7 +155,7 @@ module _ (b : List ℕ) (i : ℕ) (g : NodesTo b i) where
     sized e =
         let t = treeOf b in
         let d = eqb-true (role t i) DataArray (and-first (eqb (role t i) DataArray) _ e) in
-        let n = not-root t i DataArray d (λ (z : _≡_ {A = ℕ} 11 14). absurd (omega arith)) in
+        let n = not-root t i DataArray d refl in
         let u = above i here n .upper .is-validated in
         record {
           held = sized-held e;

@@ -22,8 +22,7 @@ unfolding sizedArray
 array-after t i e =
     omega (
       arith,
-      not-root t i DataArray (eqb-true (role t i) DataArray (and-first (eqb (role t i) DataArray) _ e))
-          (λ (z : _≡_ {A = ℕ} 11 14). absurd (omega arith)),
+      not-root t i DataArray (eqb-true (role t i) DataArray (and-first (eqb (role t i) DataArray) _ e)) refl,
     )
 
 pub sibling-sizes : (b : List ℕ) (i up : ℕ) → NodesTo b i → sizedArray (treeOf b) i ≡ true → up ≡ parent (treeOf b) i

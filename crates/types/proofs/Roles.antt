@@ -85,7 +85,7 @@ module _ (b : List ℕ) (s : Sound b) (z : ℕ) (g : ZoneInBase b z) where
       (l, omega arith)
 
 -- a node that is validated as anything but the root has a parent
-pub held-inside : (b : List ℕ) → Sound b → (i : ℕ) → i < nodeCount b → (r : ℕ) → role (treeOf b) i ≡ r → (r ≡ Root → ⊥) → parent (treeOf b) i < nodeCount b
+pub held-inside : (b : List ℕ) → Sound b → (i : ℕ) → i < nodeCount b → (r : ℕ) → role (treeOf b) i ≡ r → eqb r Root ≡ false → parent (treeOf b) i < nodeCount b
 held-inside b s i h r e n =
     let l = parent-lower (treeOf b) i (lawful-at b s i h) (not-root (treeOf b) i r e n) in
     omega arith

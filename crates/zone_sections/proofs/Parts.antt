@@ -61,17 +61,17 @@ module _ {b : List ℕ} {s : ℕ} (a : AcceptedSection b s) where
   section-kind = kind-role (treeOf b) s (parts in-zone .is-validated) (role-is in-zone)
 
   -- what is looked up under the section
-  looked-up : (r : ℕ) (n : List ℕ) → 0 < r → (r ≡ Root → ⊥) → conforming (treeOf b) s r n ≡ child (treeOf b) s r n
+  looked-up : (r : ℕ) (n : List ℕ) → 0 < r → eqb r Root ≡ false → conforming (treeOf b) s r n ≡ child (treeOf b) s r n
   looked-up r n p q =
       let u : eqb (role (treeOf b) s) UserDefinedData ≡ false = rw (role-is in-zone) in
       child-conforms b (a .accepted) s (parts in-zone .is-validated) u r n p q
 
   pub range-child : rangeOf (treeOf b) s ≡ child (treeOf b) s IndexRange (text "ElementRange")
   unfolding rangeOf
-  range-child = looked-up 8 (text "ElementRange") (omega arith) (λ (x : _≡_ {A = ℕ} 8 14). absurd (omega arith))
+  range-child = looked-up 8 (text "ElementRange") (omega arith) refl
 
   array-child : (n : List ℕ) → conforming (treeOf b) s DataArray n ≡ child (treeOf b) s DataArray n
-  array-child n = looked-up 11 n (omega arith) (λ (x : _≡_ {A = ℕ} 11 14). absurd (omega arith))
+  array-child n = looked-up 11 n (omega arith) refl
 
   pub offsets-child : offsetsOf (treeOf b) s ≡ child (treeOf b) s DataArray (text "ElementStartOffset")
   unfolding offsetsOf
