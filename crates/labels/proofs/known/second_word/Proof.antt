@@ -21,5 +21,5 @@ second-word-spec =
     (λ c. arm (c .match .keys5))
     (λ c. arm (c .match .keys6)) (λ c. arm (c .match .keys7)) (λ c. arm (c .match .keys8)) (λ c. arm (c .match .keys9)) (λ c. arm (c .match .keys10))
     (λ c. arm (c .match .keys11)) (λ c. arm (c .match .keys12)) (λ c. arm (c .match .keys13)) (λ c. arm (c .match .keys14)) (λ c. arm (c .match .keys15))
-    (λ c. arm (c .match .keys16)) (λ c. arm (c .match .keys17)) (λ c. arm (c .match .keys18)) (λ c. arm (c .match .keys19))
-    (λ c. arm (last-arm 19 _ (c .match .rest) (omega arith))))
+    (λ c. arm (c .match .keys16)) (λ c. arm (c .match .keys17)) (λ c. arm (c .match .keys18)) (λ c. arm (c .match .keys19)) (λ c. arm (c .match .keys20))
+    (λ c. arm (c .match .keys21)) (λ c. arm (c .match .keys22)) (λ c. arm (last-arm 22 _ (c .match .rest) (omega arith))))

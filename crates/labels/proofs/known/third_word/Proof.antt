@@ -22,4 +22,4 @@ unfolding everyFrom among fieldWord le knownTexts knownNames knownLabels text
 third-word-spec =
     tie.close (tie.spec (λ c. arm (c .match .keys1)) (λ c. arm (c .match .keys2)) (λ c. arm (c .match .keys3))
     (λ c. arm (c .match .keys4)) (λ c. arm (c .match .keys5)) (λ c. arm (c .match .keys6))
-    (λ c. eqb-true _ _ (last-of (19 ∷ 18 ∷ 13 ∷ 12 ∷ 4 ∷ 0 ∷ []) (λ (k : ℕ). eqb 0x2020202020202020 (textWord 2 k)) 20 refl (omega arith) (c .match .rest))))
+    (λ c. eqb-true _ _ (last-of (20 ∷ 19 ∷ 14 ∷ 12 ∷ 4 ∷ 0 ∷ []) (λ (k : ℕ). eqb 0x2020202020202020 (textWord 2 k)) 23 refl (omega arith) (c .match .rest))))
