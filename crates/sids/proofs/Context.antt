@@ -5,6 +5,7 @@ use mathlib.Core.Logic.{_⊎_, inl, inr}
 use mathlib.Core.Bool.{Bool, true, false, _||_, or-false}
 use mathlib.Core.List.{List, [], _∷_, _++_}
 use native.Mathlib.Omega.{arith}
+use native.Mathlib.Decide.{ℕ-discrete}
 use lib.Dec.{eqb}
 use borrow.Author.Tests.{eqb-true, ne-eqb}
 use Rattle.model.specs.Lists.{among}
@@ -13,7 +14,7 @@ use Rattle.model.specs.Image.{Tree, treeOf, nodeCount, parent}
 use Rattle.model.specs.Given.{NodesTo, Accepted}
 use Rattle.model.specs.Records.{tableCheck}
 use Rattle.model.specs.Validation.{imageCheck, nodeCheck, nodeCheckAt}
-use Rattle.model.specs.Containment.{role, validated, mayHold, containment, Base, Zone, Elements, Rind, GridCoordinates, FlowSolution, DataArray}
+use Rattle.model.specs.Containment.{role, validated, mayHold, containment, Base, Zone, Elements, Rind, GridCoordinates, FlowSolution, DataArray, Root}
 use Rattle.model.specs.Values.{placed, typeLawful, valueLawful, zoneAbove, sidsRules, sizedArray}
 use Rattle.model.proofs.Logic.{untrue, and-first, and-second}
 use Rattle.model.proofs.Parents.{parent-lower, lawful-at}
@@ -27,6 +28,14 @@ use Rattle.index.proofs.Marking.{kind-role}
 use Rattle.types.specs.Given.{ZoneInBase, NodeContext}
 use Rattle.sids.specs.Given.{UnderZone, Sized}
 use Rattle.sids.specs.Groups.{placeRules, contentRules, sizeRules}
+
+-- what stands in a list is nothing that does not
+pub not-of : (l : List ℕ) (r x : ℕ) → among r l ≡ true → among x l ≡ false → eqb r x ≡ false
+not-of l r x e n =
+    elim (ℕ-discrete r x) [
+      | yes q ↦ untrue (sym n ∙ (rw q at e))
+      | no z ↦ ne-eqb r x z
+    ]
 
 -- a list of one; what may hold a zone; what holds the three kinds of nodes under a zone
 among-one : (x y : ℕ) → among x (y ∷ []) ≡ true → x ≡ y
@@ -57,7 +66,7 @@ rind-under above e = held-by above Rind e
 
 no-root : (t : Tree) (j r : ℕ) → among r (GridCoordinates ∷ FlowSolution ∷ Elements ∷ []) ≡ true → role t j ≡ r → j ≡ 0 → ⊥
 unfolding among
-no-root t j r k e = not-root t j r e (λ (z : r ≡ 14). untrue (rw z at k))
+no-root t j r k e = not-root t j r e (not-of (GridCoordinates ∷ FlowSolution ∷ Elements ∷ []) r Root k refl)
 
 -- a node that is no root is one of the table's
 pub placed-held : (t : Tree) (i : ℕ) → (i ≡ 0 → ⊥) → placed t i ≡ true → mayHold (role t (parent t i)) (role t i) ≡ true
@@ -120,15 +129,19 @@ module _ (b : List ℕ) (i : ℕ) (g : NodesTo b i) where
     here = record { upto = omega arith; is-validated = v; place = q }
 
     pub ready : NodeContext b i
-    unfolding zoneAbove
+    unfolding zoneAbove among
     ready =
         record {
           inside = g .inside;
           is-validated = v;
           zone = λ e. based i here e;
           rind = λ e. rind-based e;
+          flow = λ n e. flow-based n e;
         }
       where
+        flow-based : eqb (role (treeOf b) i) Root ≡ false → role (treeOf b) (parent (treeOf b) i) ≡ FlowSolution → ZoneInBase b (parent (treeOf b) (parent (treeOf b) i))
+        flow-based n e = held (parent (treeOf b) i) (above i here (not-root (treeOf b) i (role (treeOf b) i) refl n) .upper) (rw e) .zone .based
+
         rind-based : role (treeOf b) i ≡ Rind → ZoneInBase b (parent (treeOf b) (parent (treeOf b) i))
         rind-based e =
             let n = not-root (treeOf b) i Rind e refl in

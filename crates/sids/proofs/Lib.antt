@@ -1,4 +1,6 @@
 pub mod Zones
+pub mod PointRanges
+pub mod DataSizes
 pub mod Found
 pub mod Rinds
 pub mod Context

@@ -1,3 +1,4 @@
 pub mod Given
 pub mod Sizes
+pub mod Points
 pub mod Groups

@@ -1,14 +1,14 @@
-// Rules 20 to 26: zone sizes, permitted values, conforming children, DataSize.
+// Rules 20 to 26: zone sizes, permitted values, conforming children, point ranges, DataSize.
 mod children; // children.rt: conforming children
 mod data_size; // data_size.rt: DataSize
 mod required; // required.rt: containment and required children
 mod stages; // stages.rt: the rules in order
 mod permitted; // permitted.rt: permitted values
+mod points; // points.rt: point ranges and point lists
 mod zone; // zone.rt: a zone's sizes
 
 pub use children::connectivity_of;
 pub use children::offsets_of;
 pub use children::range_of;
-pub use data_size::data_sizes;
 pub use stages::sids_stage;
 pub use stages::sized_array;

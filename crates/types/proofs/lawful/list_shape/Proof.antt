@@ -41,7 +41,7 @@ returns-2 c =
     let t = treeOf (a .image .now) in
     let e : d .read .result .rank ≡ node t (a .i) .rank = ap (λ r. r .rank) (d .read .ensures) in
     let n : shaped t (a .i) (indexDimension t (zoneAbove t (a .i)) ∷ listCount t (a .i) ∷ []) ≡ false =
-        same-not (dimensions t (a .i)) _ (λ f. c .if2 .taken (e ∙ sym (rank-is t (a .i)) ∙ f)) in
+    same-not (dimensions t (a .i)) _ (λ f. c .if2 .taken (e ∙ sym (rank-is t (a .i)) ∙ f)) in
     rw (n, and-false (eqb (role t (parent t (a .i))) 6)) (sym (and-false (typed t (a .i) (I4 ∷ I8 ∷ []))))
 
 -- two dimensions
