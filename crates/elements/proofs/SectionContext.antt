@@ -78,7 +78,7 @@ section-ready {b} {s} g v e c =
       own = stores-pair (g .sound) s (g .inside) (whole-four t s (and-first (typed t s (I4 ∷ [])) _ own)) (and-second (typed t s (I4 ∷ [])) _ own);
       below = low;
       zone = zone-has b (g .sound) (parent t s) (omega arith) z (earlier-rule b s g 24 (parent t s) low vz);
-      ranged = range-ready (g .sound) s (and-first (found t (rangeOf t s)) _ full);
+      ranged = range-ready (g .sound) s e (and-first (found t (rangeOf t s)) _ full);
       connectivity = connectivity-stores (g .sound) s e (and-second (found t (rangeOf t s)) _ full);
       offsets = λ h. offsets-stores (g .sound) s e h;
     }

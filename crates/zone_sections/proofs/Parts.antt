@@ -1,6 +1,6 @@
 -- The nodes of a section of an accepted image: what was looked up conforms, and its numbers can be read.
 use Prim.Native.Nat.{ℕ, _+_, _≤_, _<_}
-use mathlib.Core.Path.{_≡_, refl, sym, _∙_}
+use mathlib.Core.Path.{_≡_, refl, sym, ap, _∙_}
 use mathlib.Core.Bool.{true, false, _&&_}
 use mathlib.Core.List.{List, [], _∷_}
 use native.Mathlib.Omega.{arith}
@@ -18,7 +18,7 @@ use Rattle.model.specs.Sections.{dataStart, entry}
 use Rattle.model.proofs.Logic.{and-first, and-second, and-both, or-left}
 use Rattle.model.proofs.Accepted.{sids-rule}
 use Rattle.model.proofs.Bounds.{node-placed}
-use Rattle.model.proofs.Conforming.{conforming-inside, conforming-type, conforming-role, conforming-name}
+use Rattle.model.proofs.Conforming.{conforming-inside, conforming-type, conforming-parent, conforming-role, conforming-name}
 use Rattle.model.proofs.Arrays.{index-array}
 use Rattle.model.proofs.InZone.{InZone, parts, role-is, range-found, connectivity}
 use Rattle.model.proofs.LookedUp.{child-conforms}
@@ -26,6 +26,7 @@ use Rattle.index.specs.Index.{kind}
 use Rattle.index.proofs.Marking.{kind-role}
 use Rattle.types.specs.Given.{HasNumber}
 use Rattle.types.proofs.StoredNumbers.{whole-wide, whole-four, has-pair, has-less}
+use Rattle.types.proofs.Roles.{range-has as range-pair}
 use Rattle.zone_sections.specs.After.{AcceptedSection}
 use Rattle.model.proofs.Reading.{rank-is}
 
@@ -94,15 +95,13 @@ module _ {b : List ℕ} {s : ℕ} (a : AcceptedSection b s) where
 
   -- the two numbers of its range
   pub range-has : HasNumber b (rangeOf (treeOf b) s) 1
-  unfolding typeLawful row rangeOf treeOf
+  unfolding rangeOf treeOf
   range-has =
       let j = conforming (treeOf b) s IndexRange (text "ElementRange") in
       let h = range-found in-zone in
-      let r : (typed (treeOf b) j (I4 ∷ I8 ∷ []) && shaped (treeOf b) j (2 ∷ [])) ≡ true
-      = rw (conforming-role (treeOf b) s IndexRange (text "ElementRange") h) at (conforming-type (treeOf b) s IndexRange (text "ElementRange") h) in
-      has-pair b (a .accepted .sound) j (conforming-inside (treeOf b) s IndexRange (text "ElementRange") h)
-      (whole-wide (treeOf b) j (and-first (typed (treeOf b) j (I4 ∷ I8 ∷ [])) _ r))
-      (and-second (typed (treeOf b) j (I4 ∷ I8 ∷ [])) _ r)
+      let p = ap (role (treeOf b)) (conforming-parent (treeOf b) s IndexRange (text "ElementRange") h) ∙ role-is in-zone in
+      range-pair b (a .accepted .sound) j (conforming-inside (treeOf b) s IndexRange (text "ElementRange") h)
+      (conforming-role (treeOf b) s IndexRange (text "ElementRange") h) p (conforming-type (treeOf b) s IndexRange (text "ElementRange") h)
 
   -- its connectivity
   pub connectivity-inside : connectivityOf (treeOf b) s < nodeCount b
