@@ -189,22 +189,3 @@ unfolding sidsRules
 sids-groups t i =
     check-append i (placeRules t i) (contentRules t i ++ sizeRules t i)
     ∙ ap (λ (c : Check). check i (placeRules t i) then c) (check-append i (contentRules t i) (sizeRules t i))
-
--- an accepted image: validation has come to every node
-pub accepted-to : (b : List ℕ) → Accepted b → (i : ℕ) → i < nodeCount b → NodesTo b i
-unfolding imageCheck nodeCheck treeOf
-accepted-to b a i h =
-    record {
-      sound = a .sound;
-      inside = h;
-      before = λ j l. checkFrom-at (nodeCheckAt (treeOf b)) (nodeCount b) 0 j (then-second (tableCheck b) _ (a .image)) (omega arith) (omega arith);
-    }
-
-module _ (b : List ℕ) (a : Accepted b) (i : ℕ) (h : i < nodeCount b) (v : validated (treeOf b) i ≡ true) where
-  place : placed (treeOf b) i ≡ true
-  unfolding sidsRules
-  place = sids-rule b (a .image) 20 i h v
-
-  -- the zone of a coordinate or flow array
-  pub accepted-sized : sizedArray (treeOf b) i ≡ true → Sized b (parent (treeOf b) i)
-  accepted-sized = sized b i (accepted-to b a i h) v place
