@@ -24,18 +24,18 @@ enum Target {
     Points(usize),
 }
 
-/// How many indices make a round: each rule once, a lawful image after every second one, five others, and nine cases of
-/// points.
+/// How many indices make a round: each rule once, a lawful image after every second one, five others, and eleven cases
+/// of points, of which there are three times as many.
 const ROUND: u64 = 32 + 18 + 5 + POINTS;
-const POINTS: u64 = 9;
+const POINTS: u64 = 11;
 
-/// The target of an index: every seventh of a round is a case of points, each case in its turn.
+/// The target of an index: every sixth is a case of points, each case in its turn.
 fn target(index: u64) -> Target {
     let (round, place) = (index / ROUND, index % ROUND);
-    if place % 7 == 6 {
-        return Target::Points((round * POINTS + place / 7) as usize);
+    if place % 6 == 5 {
+        return Target::Points((round * POINTS + place / 6) as usize);
     }
-    let place = (place - place / 7) as usize;
+    let place = (place - place / 6) as usize;
     let paired = place / 3;
     match place {
         0..48 if place.is_multiple_of(3) => Target::Lawful,

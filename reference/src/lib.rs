@@ -19,6 +19,7 @@ pub mod labels;
 pub mod lawful;
 pub mod mesh;
 pub mod path;
+pub mod point_cases;
 pub mod points;
 pub mod queries;
 pub mod random;

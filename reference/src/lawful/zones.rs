@@ -102,7 +102,7 @@ impl Maker<'_> {
             self.add(node, Node::integers("Rind", "Rind_t", 4, &[length], &rind));
         }
         let mut sizes: Vec<u64> = (0..core.len()).map(|d| (core[d] + rind[2 * d] + rind[2 * d + 1]) as u64).collect();
-        if flow && self.chance(3, 2) {
+        if flow && self.chance(2, 2) {
             sizes = vec![self.points(node, core.len())];
         }
         self.arrays(node, &sizes, flow);

@@ -27,31 +27,34 @@ fn bad_order(site: &mut Site) -> Bad {
     Bad { node: Node::point_range(width, &range), rule: 25, size }
 }
 
-/// A range with a number that is not within ±2,147,483,647.
-fn bad_bounds(site: &mut Site) -> Bad {
+/// A range with -2^31 in a direction.
+fn too_small(site: &mut Site) -> Bad {
+    let least = -MAX_NUMBER - 1;
+    let width = site.width();
+    out_of_bounds(site, width, &[[least, least], [least, least + 2], [least, 1]])
+}
+
+/// A range with a number in a direction that 4 bytes do not hold.
+fn too_great(site: &mut Site) -> Bad {
+    let (great, far) = (MAX_NUMBER + 1, 1 << 32);
+    let choices = [
+        [great, great + 2],
+        [great - 3, great],
+        [-great - 1, 0],
+        [far + 1, far + 3],
+        [-far + 1, 3],
+        [i64::MIN, i64::MIN + 1],
+        [i64::MAX - 1, i64::MAX],
+        [i64::MIN, i64::MAX],
+        [1, i64::MAX],
+    ];
+    out_of_bounds(site, 8, &choices)
+}
+
+/// A range with one of these begins and ends in a direction.
+fn out_of_bounds(site: &mut Site, width: usize, choices: &[[i64; 2]]) -> Bad {
     let mut range = site.small_range();
     let direction = site.random.index(range.len());
-    let least = i64::from(i32::MIN);
-    let (width, choices): (usize, &[[i64; 2]]) = if site.random.one_in(2) {
-        (4, &[[least, least], [least, least + 2], [least, 1]])
-    } else {
-        let (wide, far) = (MAX_NUMBER + 1, 1 << 32);
-        (
-            8,
-            &[
-                [least, least + 1],
-                [least - 1, 0],
-                [wide, wide + 2],
-                [wide - 3, wide],
-                [far + 1, far + 3],
-                [-far + 1, 3],
-                [i64::MIN, i64::MIN + 1],
-                [i64::MAX - 1, i64::MAX],
-                [i64::MIN, i64::MAX],
-                [1, i64::MAX],
-            ],
-        )
-    };
     range[direction] = *site.random.pick(choices);
     let size = range.iter().map(|[begin, end]| begin.abs_diff(*end).wrapping_add(1)).fold(1, u64::wrapping_mul);
     Bad { node: Node::point_range(width, &range), rule: 25, size }
@@ -87,9 +90,10 @@ fn bad_range_type(site: &mut Site) -> Bad {
 
 /// A range that does not conform.
 pub fn bad_range(site: &mut Site) -> Bad {
-    match site.random.below(3) {
+    match site.random.below(4) {
         0 => bad_order(site),
-        1 => bad_bounds(site),
+        1 => too_small(site),
+        2 => too_great(site),
         _ => bad_range_type(site),
     }
 }
@@ -115,9 +119,15 @@ pub fn begin_above_end(site: &mut Site) -> Option<Answer> {
     behind_zone_array(site, bad, "PointRange")
 }
 
-/// 25 at a range, a number that is too great or too small.
-pub fn number_out_of_bounds(site: &mut Site) -> Option<Answer> {
-    let bad = bad_bounds(site);
+/// 25 at a range, a number of -2^31.
+pub fn number_too_small(site: &mut Site) -> Option<Answer> {
+    let bad = too_small(site);
+    behind_zone_array(site, bad, "PointRange")
+}
+
+/// 25 at a range, a number that 4 bytes do not hold.
+pub fn number_too_great(site: &mut Site) -> Option<Answer> {
+    let bad = too_great(site);
     behind_zone_array(site, bad, "PointRange")
 }
 

@@ -7,18 +7,30 @@ use crate::damage::pick::{is_validated, labelled, plain_node, some_node};
 use crate::labels::LABELS;
 use crate::text::padded;
 
-/// 20 at an IndexArray_t under any validated node but a flow solution: its name may be the right one.
+/// 20 at an IndexArray_t in the zone.
+pub fn list_in_zone(site: &mut Site) -> Option<Answer> {
+    list_under(site, site.zone)
+}
+
+/// 20 at an IndexArray_t in a section.
+pub fn list_in_section(site: &mut Site) -> Option<Answer> {
+    let section = labelled(site.image, site.random, "Elements_t")?;
+    list_under(site, section)
+}
+
+/// 20 at an IndexArray_t under any validated node but a flow solution.
 pub fn list_elsewhere(site: &mut Site) -> Option<Answer> {
-    let chosen = *site.random.pick(&["Zone_t", "Elements_t", "GridCoordinates_t", "CGNSBase_t", "DataArray_t", ""]);
     let elsewhere = |image: &Image, n: usize| {
         let node = &image.nodes[n];
         let open = n == 0 || !node.is_labelled("UserDefinedData_t") && !node.is_labelled("FlowSolution_t");
         open && is_validated(image, n)
     };
-    let parent = match labelled(site.image, site.random, chosen) {
-        Some(parent) => parent,
-        None => some_node(site.image, site.random, elsewhere)?,
-    };
+    let parent = some_node(site.image, site.random, elsewhere)?;
+    list_under(site, parent)
+}
+
+/// 20 at a list under a parent; now and then it has another name.
+fn list_under(site: &mut Site, parent: usize) -> Option<Answer> {
     let mut list = site.list().0;
     if site.random.one_in(3) {
         list.name = padded(b"Points");
