@@ -25,7 +25,7 @@ enum Target {
 }
 
 /// How many indices make a round: each rule once, a lawful image after every second one, five others, and eleven cases
-/// of points, of which there are three times as many.
+/// of points, a third of their list.
 const ROUND: u64 = 32 + 18 + 5 + POINTS;
 const POINTS: u64 = 11;
 

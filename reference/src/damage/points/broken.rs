@@ -42,6 +42,8 @@ fn too_great(site: &mut Site) -> Bad {
         [great - 3, great],
         [-great - 1, 0],
         [far + 1, far + 3],
+        [far - 1, far + 1],
+        [1, far + 2],
         [-far + 1, 3],
         [i64::MIN, i64::MIN + 1],
         [i64::MAX - 1, i64::MAX],
@@ -64,15 +66,15 @@ fn out_of_bounds(site: &mut Site, width: usize, choices: &[[i64; 2]]) -> Bad {
 fn break_points(site: &mut Site, node: &mut Node) {
     let wide = node.width() == 8;
     let (d, n) = (node.dimensions[0], node.dimensions[1]);
-    match site.random.below(9) {
-        0 => node.data_type = if wide { *b"U8" } else { *b"U4" },
-        1 => node.data_type = if wide { *b"R8" } else { *b"R4" },
-        2 => node.dimensions = vec![d * n],
-        3 => node.dimensions = vec![d, n, 1],
-        4 => node.dimensions = vec![1, d, n],
-        5 if d != n => node.dimensions = vec![n, d],
-        6 if node.is_named("PointRange") => node.reshape(&[d, 3]),
-        7 => {
+    match site.random.below(12) {
+        0 | 1 => node.data_type = if wide { *b"U8" } else { *b"U4" },
+        2 | 3 => node.data_type = if wide { *b"R8" } else { *b"R4" },
+        4 => node.dimensions = vec![d * n],
+        5 => node.dimensions = vec![d, n, 1],
+        6 => node.dimensions = vec![1, d, n],
+        7 if d != n => node.dimensions = vec![n, d],
+        8 if node.is_named("PointRange") => node.reshape(&[d, 3]),
+        9 => {
             node.data_type = *b"MT";
             node.dimensions.clear();
             node.data.clear();

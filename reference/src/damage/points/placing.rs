@@ -104,7 +104,8 @@ pub fn known_label_below(site: &mut Site) -> Option<Answer> {
     site.random.shuffle(&mut nodes);
     let flow = site.add("FlowSolution_t", nodes, Vec::new());
     let parent = site.image.child(flow, name)?;
-    let label = site.random.pick(&LABELS).1;
+    let any = site.random.pick(&LABELS).1;
+    let label = *site.random.pick(&["Descriptor_t", "UserDefinedData_t", any]);
     let child = plain_node(site.random, "Below", label);
     refused_below(site, 20, parent, child)
 }
