@@ -20,6 +20,25 @@ pub const SIZE: usize = 16384;
 // A kind is so many times its number; node numbers are below.
 const KIND: u16 = 4096;
 
+// The slots of a zone.
+const ZONE_TYPE: usize = 0;
+
+// Those of coordinates and of a flow solution.
+const RIND: usize = 0;
+
+const LOCATION: usize = 1;
+
+const POINT_RANGE: usize = 2;
+
+const POINT_LIST: usize = 3;
+
+// Those of a section.
+const RANGE: usize = 0;
+
+const CONNECTIVITY: usize = 1;
+
+const OFFSETS: usize = 2;
+
 // What a node is validated as, by its parent's kind and its own role.
 fn kind_below(above: u64, role: u64) -> u64
     requires { ⌜ role < 16 ⌝ }
@@ -168,7 +187,7 @@ pub fn zone_type(image: &[u8], index: &[u16], p: usize) -> usize
     requires { ⌜ kind (treeOf (now image)) p ≡ Zone ⌝ }
     ensures { λ r. ⌜ (r ≡ child (treeOf (now (image .entry))) p ZoneType (text "ZoneType")) × (r ≤ nodeCount (now (image .entry))) ⌝ }
 {
-    look_up(image, index, p, 0)
+    look_up(image, index, p, ZONE_TYPE)
 }
 
 // The ElementRange of a section.
@@ -177,7 +196,7 @@ pub fn range(image: &[u8], index: &[u16], p: usize) -> usize
     requires { ⌜ kind (treeOf (now image)) p ≡ Elements ⌝ }
     ensures { λ r. ⌜ (r ≡ child (treeOf (now (image .entry))) p IndexRange (text "ElementRange")) × (r ≤ nodeCount (now (image .entry))) ⌝ }
 {
-    look_up(image, index, p, 0)
+    look_up(image, index, p, RANGE)
 }
 
 // The ElementConnectivity of a section.
@@ -186,7 +205,7 @@ pub fn connectivity(image: &[u8], index: &[u16], p: usize) -> usize
     requires { ⌜ kind (treeOf (now image)) p ≡ Elements ⌝ }
     ensures { λ r. ⌜ (r ≡ child (treeOf (now (image .entry))) p DataArray (text "ElementConnectivity")) × (r ≤ nodeCount (now (image .entry))) ⌝ }
 {
-    look_up(image, index, p, 1)
+    look_up(image, index, p, CONNECTIVITY)
 }
 
 // The ElementStartOffset of a section.
@@ -195,7 +214,7 @@ pub fn offsets(image: &[u8], index: &[u16], p: usize) -> usize
     requires { ⌜ kind (treeOf (now image)) p ≡ Elements ⌝ }
     ensures { λ r. ⌜ (r ≡ child (treeOf (now (image .entry))) p DataArray (text "ElementStartOffset")) × (r ≤ nodeCount (now (image .entry))) ⌝ }
 {
-    look_up(image, index, p, 2)
+    look_up(image, index, p, OFFSETS)
 }
 
 // The GridLocation of a flow solution.
@@ -204,7 +223,7 @@ pub fn location(image: &[u8], index: &[u16], p: usize) -> usize
     requires { ⌜ kind (treeOf (now image)) p ≡ FlowSolution ⌝ }
     ensures { λ r. ⌜ (r ≡ child (treeOf (now (image .entry))) p GridLocation (text "GridLocation")) × (r ≤ nodeCount (now (image .entry))) ⌝ }
 {
-    look_up(image, index, p, 1)
+    look_up(image, index, p, LOCATION)
 }
 
 // The PointRange of a flow solution.
@@ -213,7 +232,7 @@ pub fn point_range(image: &[u8], index: &[u16], p: usize) -> usize
     requires { ⌜ kind (treeOf (now image)) p ≡ FlowSolution ⌝ }
     ensures { λ r. ⌜ (r ≡ child (treeOf (now (image .entry))) p IndexRange (text "PointRange")) × (r ≤ nodeCount (now (image .entry))) ⌝ }
 {
-    look_up(image, index, p, 2)
+    look_up(image, index, p, POINT_RANGE)
 }
 
 // Its PointList.
@@ -222,7 +241,7 @@ pub fn point_list(image: &[u8], index: &[u16], p: usize) -> usize
     requires { ⌜ kind (treeOf (now image)) p ≡ FlowSolution ⌝ }
     ensures { λ r. ⌜ (r ≡ child (treeOf (now (image .entry))) p IndexArray (text "PointList")) × (r ≤ nodeCount (now (image .entry))) ⌝ }
 {
-    look_up(image, index, p, 3)
+    look_up(image, index, p, POINT_LIST)
 }
 
 // The Rind of coordinates or of a flow solution.
@@ -231,5 +250,5 @@ pub fn rind(image: &[u8], index: &[u16], p: usize) -> usize
     requires { ⌜ (kind (treeOf (now image)) p ≡ GridCoordinates) ⊎ (kind (treeOf (now image)) p ≡ FlowSolution) ⌝ }
     ensures { λ r. ⌜ (r ≡ child (treeOf (now (image .entry))) p Rind (text "Rind")) × (r ≤ nodeCount (now (image .entry))) ⌝ }
 {
-    look_up(image, index, p, 0)
+    look_up(image, index, p, RIND)
 }

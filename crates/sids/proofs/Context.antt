@@ -11,15 +11,11 @@ use borrow.Author.Tests.{eqb-true, ne-eqb}
 use Rattle.model.specs.Lists.{among}
 use Rattle.model.specs.Rules.{check, Check, _then_}
 use Rattle.model.specs.Image.{Tree, treeOf, nodeCount, parent}
-use Rattle.model.specs.Given.{NodesTo, Accepted}
-use Rattle.model.specs.Records.{tableCheck}
-use Rattle.model.specs.Validation.{imageCheck, nodeCheck, nodeCheckAt}
+use Rattle.model.specs.Given.{NodesTo}
 use Rattle.model.specs.Containment.{role, validated, mayHold, containment, Base, Zone, Elements, Rind, GridCoordinates, FlowSolution, DataArray, Root}
 use Rattle.model.specs.Values.{placed, typeLawful, valueLawful, zoneAbove, sidsRules, sizedArray}
 use Rattle.model.proofs.Logic.{untrue, and-first, and-second}
 use Rattle.model.proofs.Parents.{parent-lower, lawful-at}
-use Rattle.model.proofs.Passed.{then-second, checkFrom-at}
-use Rattle.model.proofs.Accepted.{sids-rule}
 use Rattle.model.proofs.Staging.{check-append}
 use Rattle.model.proofs.Sections.{not-root}
 use Rattle.model.proofs.Above.{validated-above, earlier-rule, held-by}

@@ -1,22 +1,21 @@
 -- DataSize under a node: by a conforming PointRange, by a conforming PointList, by the zone.
 use Prim.Native.Nat.{ℕ, _≤_, _<_}
 use mathlib.Core.Path.{_≡_, refl, sym, ap, _∙_}
-use mathlib.Core.Bool.{Bool, true, false, _&&_, and-true}
+use mathlib.Core.Bool.{Bool, true, false, and-true}
 use mathlib.Core.List.{List, [], _∷_}
 use lib.Dec.{eqb}
 use lib.ListN.{length, getD}
-use borrow.Author.Tests.{lt-ltb, le-ltb, eqb-true, eqb-false}
+use borrow.Author.Tests.{lt-ltb, le-ltb, eqb-false}
 use Rattle.model.specs.Lists.{row}
 use Rattle.model.specs.Bytes.{text, same}
 use Rattle.model.specs.Image.{Tree, treeOf, nodeCount, node, parent, dimensions, I4, I8}
 use Rattle.model.specs.Containment.{role, found, GridCoordinates, FlowSolution, IndexRange, IndexArray}
-use Rattle.model.specs.Values.{typed, shaped, flat, size, typeLawful, valueLawful, conforming, indexDimension, zoneAbove, rangeShape, listShape, listCount}
+use Rattle.model.specs.Values.{typed, shaped, flat, size, typeLawful, valueLawful, conforming, zoneAbove, rangeShape, listShape, listCount}
 use Rattle.model.specs.Values.{pointRangeOf, pointListOf, points, sizesByZone, dataSizes}
-use Rattle.model.proofs.Logic.{untrue, and-first, and-second}
+use Rattle.model.proofs.Logic.{untrue, and-second}
 use Rattle.model.proofs.Reading.{rank-is}
-use Rattle.model.proofs.Conforming.{conforming-inside, conforming-type, conforming-value, conforming-parent, conforming-role}
+use Rattle.model.proofs.Conforming.{conforming-type, conforming-value, conforming-parent, conforming-role}
 use Rattle.labels.proofs.Fields.{same-not}
-use Rattle.types.specs.Given.{ZoneInBase}
 use Rattle.types.proofs.StoredNumbers.{flat-is, shaped-is}
 use Rattle.sids.specs.Given.{UnderZone, TypedRange}
 

@@ -7,14 +7,14 @@ use native.Mathlib.Omega.{arith}
 use native.Mathlib.Decide.{ℕ-discrete}
 use native.Mathlib.Nat.{one-mul, mul-one, mul-pos, mul-assoc, mul-le-mul-left, le-div-iff-mul-le, div-lt-iff-lt-mul}
 use lib.Dec.{T, eqb, leb, ltb}
-use borrow.Author.Tests.{leb-true, leb-false, ltb-true, ltb-false, le-leb, le-ltb, lt-leb, ne-eqb, not-true}
-use Rattle.model.specs.Lists.{row, everyFrom}
+use borrow.Author.Tests.{leb-true, leb-false, ltb-false, le-leb, le-ltb, lt-leb, ne-eqb, not-true}
+use Rattle.model.specs.Lists.{row}
 use Rattle.model.specs.Bytes.{half, negative, magnitude, below, distance}
-use Rattle.model.specs.Image.{Tree, treeOf, width, I4, I8}
+use Rattle.model.specs.Image.{Tree, treeOf, I4, I8}
 use Rattle.model.specs.Given.{Sound}
 use Rattle.model.specs.Records.{product}
 use Rattle.model.specs.Values.{typed, shaped, typeLawful, rangeShape, indexDimension, zoneAbove, directionLawful, pointRangeValue, indexRangeValue, valueLawful}
-use Rattle.model.specs.Values.{rangeBegin, rangeEnd, bounded, pointsIn, pointsFrom, points}
+use Rattle.model.specs.Values.{pointsIn, pointsFrom, points}
 use Rattle.model.proofs.Logic.{untrue, and-first, and-second, and-both}
 use Rattle.model.proofs.Walks.{every-at}
 use Rattle.words.specs.Width.{isWidth}

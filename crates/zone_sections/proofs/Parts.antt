@@ -25,7 +25,7 @@ use Rattle.model.proofs.LookedUp.{child-conforms}
 use Rattle.index.specs.Index.{kind}
 use Rattle.index.proofs.Marking.{kind-role}
 use Rattle.types.specs.Given.{HasNumber}
-use Rattle.types.proofs.StoredNumbers.{whole-wide, whole-four, has-pair, has-less}
+use Rattle.types.proofs.StoredNumbers.{whole-four, has-pair, has-less}
 use Rattle.types.proofs.Roles.{range-has as range-pair}
 use Rattle.zone_sections.specs.After.{AcceptedSection}
 use Rattle.model.proofs.Reading.{rank-is}

@@ -1,6 +1,5 @@
 -- What a flow solution looks up has a known label: it can be judged.
 use mathlib.Core.Path.{refl}
-use borrow.Author.Needs.{needs}
 use Rattle.model.specs.Bytes.{text}
 use Rattle.model.specs.Values.{pointRangeOf}
 use Rattle.sids.proofs.Found.{found-ready, conforming-by}

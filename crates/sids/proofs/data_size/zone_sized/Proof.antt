@@ -1,7 +1,7 @@
 -- The zone's sizes, direction by direction.
-use mathlib.Core.Path.{_≡_, ap, _∙_}
+use mathlib.Core.Path.{ap, _∙_}
 use borrow.Author.Needs.{needs}
-use Rattle.model.specs.Image.{treeOf, parent}
+use Rattle.model.specs.Image.{treeOf}
 use Rattle.model.specs.Values.{shaped, indexDimension}
 use Rattle.sids.proofs.Zones.{data-sizes-are}
 use Rattle.sids.proofs.data_size.zone_sized.Statement.{statement}

@@ -3,7 +3,6 @@ use Prim.Native.Nat.{ℕ, _+_, _-_, _≤_, _<_}
 use mathlib.Core.Path.{_≡_}
 use mathlib.Core.Bool.{cond}
 use native.Mathlib.Omega.{arith}
-use borrow.Author.Needs.{needs}
 use Rattle.model.specs.Bytes.{half, distance}
 use Rattle.sids.specs.Points.{lawfulBetween}
 use Rattle.sids.proofs.PointRanges.{Near, half-is, none-between, some-between}

@@ -1,5 +1,4 @@
 -- The parent's role, then the number of dimensions, then their sizes.
-use Prim.Native.Nat.{ℕ}
 use mathlib.Core.Path.{_≡_, ap, sym, _∙_}
 use mathlib.Core.Bool.{false, and-false}
 use mathlib.Core.List.{[], _∷_}
