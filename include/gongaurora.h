@@ -133,7 +133,7 @@ static inline const char *gongaurora_rule_text(uint64_t rule)
     case 22: return "The parent has a second child of a label that is allowed once.";
     case 23: return "A required child of the node is missing or not as it has to be.";
     case 24: return "The node's data type or dimensions are not those of its label.";
-    case 25: return "A value stored in the node is not permitted.";
+    case 25: return "A value stored in the node is not permitted, or it has both a PointRange and a PointList.";
     case 26: return "The array's dimensions are not its DataSize.";
     case 27: return "The section's element type is not supported.";
     case 28: return "The section's element range meets that of an earlier section of the zone.";
@@ -345,10 +345,11 @@ typedef struct gongaurora_sizes {
     uint64_t rule;
     uint64_t node;
     uint64_t directions; /* 1 to 3 */
-    uint64_t size[3];    /* 0 in a direction that the zone lacks */
+    uint64_t size[3];    /* 0 in a direction that the array lacks */
 } gongaurora_sizes;
 
-/* The DataSize of a DataArray_t under GridCoordinates_t or FlowSolution_t, rind included.
+/* The DataSize of a DataArray_t under GridCoordinates_t or FlowSolution_t, rind included. Under a FlowSolution_t with a
+ * PointRange or a PointList it is one direction, the number of points.
  * Refusals: validation's; 40: no such node, or no such array.
  * Cost: one validation: the image is validated again. */
 static inline gongaurora_sizes gongaurora_data_size(const uint8_t *image, size_t length, uint64_t node)

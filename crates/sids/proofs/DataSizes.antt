@@ -17,7 +17,8 @@ use Rattle.model.proofs.Reading.{rank-is}
 use Rattle.model.proofs.Conforming.{conforming-type, conforming-value, conforming-parent, conforming-role}
 use Rattle.labels.proofs.Fields.{same-not}
 use Rattle.types.proofs.StoredNumbers.{flat-is, shaped-is}
-use Rattle.sids.specs.Given.{UnderZone, TypedRange}
+use Rattle.sids.specs.Given.{UnderZone}
+use Rattle.points.specs.Given.{TypedRange}
 
 -- one size
 module _ (t : Tree) (i x : ℕ) where

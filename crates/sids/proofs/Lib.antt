@@ -1,5 +1,4 @@
 pub mod Zones
-pub mod PointRanges
 pub mod DataSizes
 pub mod Found
 pub mod Rinds

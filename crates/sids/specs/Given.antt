@@ -5,8 +5,8 @@ use mathlib.Core.Logic.{_⊎_}
 use mathlib.Core.Bool.{true}
 use mathlib.Core.List.{List}
 use Rattle.model.specs.Image.{treeOf, nodeCount, parent}
-use Rattle.model.specs.Containment.{role, Zone, GridCoordinates, FlowSolution, IndexRange}
-use Rattle.model.specs.Values.{typeLawful, valueLawful, zoneAbove}
+use Rattle.model.specs.Containment.{role, Zone, GridCoordinates, FlowSolution}
+use Rattle.model.specs.Values.{typeLawful, valueLawful}
 use Rattle.index.specs.Index.{kind}
 use Rattle.types.specs.Given.{ZoneInBase}
 
@@ -26,12 +26,3 @@ pub record UnderZone (b : List ℕ) (p : ℕ) : Type 0 where
 pub record Sized (b : List ℕ) (p : ℕ) : Type 0 where
   pub held : UnderZone b p
   pub kind-is : (kind (treeOf b) p ≡ GridCoordinates) ⊎ (kind (treeOf b) p ≡ FlowSolution)
-
--- a PointRange that meets 24, in a zone under such a base: its begins and ends can be read
-pub record TypedRange (b : List ℕ) (i : ℕ) : Type 0 where
-  pub inside : i < nodeCount b
-  pub above : parent (treeOf b) i < nodeCount b
-  pub based : ZoneInBase b (zoneAbove (treeOf b) i)
-  pub flow : role (treeOf b) (parent (treeOf b) i) ≡ FlowSolution
-  pub range : role (treeOf b) i ≡ IndexRange
-  pub type : typeLawful (treeOf b) i ≡ true

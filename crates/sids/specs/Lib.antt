@@ -1,4 +1,3 @@
 pub mod Given
 pub mod Sizes
-pub mod Points
 pub mod Groups

@@ -9,12 +9,12 @@ ghost use Rattle.model.specs.Given.{Sound};
 ghost use Rattle.model.specs.Containment.{Rind, FlowSolution};
 ghost use Rattle.model.specs.Values.{indexDimension, conforming, cellCentred, rindNumber, dataSize, shaped, valueLawful, points, sizesByZone, dataSizes};
 ghost use Rattle.index.specs.Index.{kind, Index};
-ghost use Rattle.sids.specs.Given.{UnderZone, Sized, TypedRange};
+ghost use Rattle.sids.specs.Given.{UnderZone, Sized};
+ghost use Rattle.points.specs.Given.{TypedRange};
 ghost use Rattle.sids.specs.Sizes.{direction, directions, innerSize};
 use super::children::conforming;
 use super::children::point_list_of;
 use super::children::point_range_of;
-use super::points::has_points;
 use super::zone::sizes_from;
 use labels::roles;
 
@@ -110,7 +110,7 @@ fn range_sized(image: &[u8], index: &[u16], range: usize, i: usize) -> bool
     if !types::flat(image, i) {
         return false;
     }
-    has_points(image, index, range, records::dimension(image, i, 0))
+    points::has_points(image, index, range, records::dimension(image, i, 0))
 }
 
 // Array i under a flow solution has the sizes of DataSize.

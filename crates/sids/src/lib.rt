@@ -1,10 +1,9 @@
-// Rules 20 to 26: zone sizes, permitted values, conforming children, point ranges, DataSize.
+// Rules 20 to 26: zone sizes, permitted values, conforming children, DataSize.
 mod children; // children.rt: conforming children
 mod data_size; // data_size.rt: DataSize
 mod required; // required.rt: containment and required children
 mod stages; // stages.rt: the rules in order
 mod permitted; // permitted.rt: permitted values
-mod points; // points.rt: point ranges and point lists
 mod zone; // zone.rt: a zone's sizes
 
 pub use children::connectivity_of;

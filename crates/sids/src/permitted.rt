@@ -5,8 +5,6 @@ ghost use Rattle.model.specs.Image.{treeOf};
 ghost use Rattle.model.specs.Values.{typeLawful, valueLawful};
 ghost use Rattle.index.specs.Index.{Index};
 ghost use Rattle.types.specs.Given.{NodeContext};
-use super::points::index_range_value;
-use super::points::not_both;
 use super::zone::zone_value;
 use labels::roles;
 
@@ -20,9 +18,9 @@ pub fn value_lawful(image: &[u8], index: &[u16], i: usize) -> bool
         roles::BASE => types::pair_within(image, i, 3),
         roles::ZONE => zone_value(image, index, i),
         roles::ZONE_TYPE => types::zone_type_value(image, i),
-        roles::FLOW_SOLUTION => not_both(image, index, i),
+        roles::FLOW_SOLUTION => points::not_both(image, index, i),
         roles::ELEMENTS => types::not_negative(image, i, 1),
-        roles::INDEX_RANGE => index_range_value(image, index, i),
+        roles::INDEX_RANGE => points::index_range_value(image, index, i),
         roles::RIND => types::rind_value(image, i),
         roles::GRID_LOCATION => types::location_value(image, i),
         _ => true,

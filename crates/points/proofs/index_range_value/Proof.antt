@@ -8,8 +8,8 @@ use Rattle.model.specs.Containment.{role}
 use Rattle.model.specs.Values.{rangeValue, indexRangeValue}
 use Rattle.types.specs.Given.{HeldContext}
 use Rattle.types.proofs.Roles.{range-has, held-context}
-use Rattle.sids.proofs.points.index_range_value.Statement.{statement}
-use Rattle.sids.proofs.points.index_range_value.Tie as tie
+use Rattle.points.proofs.index_range_value.Statement.{statement}
+use Rattle.points.proofs.index_range_value.Tie as tie
 
 -- the node above
 module _ (c : tie.After-parent-of) where

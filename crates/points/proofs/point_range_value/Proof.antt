@@ -4,9 +4,9 @@ use borrow.Author.Needs.{needs}
 use Rattle.model.specs.Image.{treeOf}
 use Rattle.model.specs.Values.{directionLawful, pointRangeValue}
 use Rattle.model.proofs.Loops.{EveryLeft, every-start, every-more, every-stop, every-done}
-use Rattle.sids.proofs.PointRanges.{unlawful, is-lawful}
-use Rattle.sids.proofs.points.point_range_value.Statement.{statement}
-use Rattle.sids.proofs.points.point_range_value.Tie as tie
+use Rattle.points.proofs.PointRanges.{unlawful, is-lawful}
+use Rattle.points.proofs.point_range_value.Statement.{statement}
+use Rattle.points.proofs.point_range_value.Tie as tie
 
 abbrev Inv-loop : tie.InvT-loop
 Inv-loop image index i n d₀ d = EveryLeft (directionLawful (treeOf image) i) n d (pointRangeValue (treeOf image) i)

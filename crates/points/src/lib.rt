@@ -11,8 +11,8 @@ ghost use Rattle.model.specs.Values.{indexDimension, zoneAbove, typeLawful, val
 ghost use Rattle.words.specs.Width.{isWidth};
 ghost use Rattle.index.specs.Index.{kind, Index};
 ghost use Rattle.types.specs.Given.{NodeContext};
-ghost use Rattle.sids.specs.Given.{TypedRange};
-ghost use Rattle.sids.specs.Points.{lawfulBetween};
+ghost use Rattle.points.specs.Given.{TypedRange};
+ghost use Rattle.points.specs.Between.{lawfulBetween};
 use labels::roles;
 
 // The distance of a signed number from the smallest one of its width.

@@ -7,9 +7,9 @@ use borrow.Author.Needs.{needs}
 use Rattle.model.specs.Image.{treeOf}
 use Rattle.model.specs.Values.{indexDimension, zoneAbove, directionLawful, bounded, pointsIn, rangeBegin, rangeEnd}
 use Rattle.types.specs.Given.{HasNumber}
-use Rattle.sids.proofs.PointRanges.{point-has}
-use Rattle.sids.proofs.points.points_in.Statement.{statement}
-use Rattle.sids.proofs.points.points_in.Tie as tie
+use Rattle.points.proofs.PointRanges.{point-has}
+use Rattle.points.proofs.points_in.Statement.{statement}
+use Rattle.points.proofs.points_in.Tie as tie
 
 -- the numbers of all directions can be read
 module _ (c : tie.After-width-at) where

@@ -1,8 +1,8 @@
 -- By the sign.
 use native.Mathlib.Omega.{arith}
-use Rattle.sids.proofs.PointRanges.{half-is, distance-low, distance-high}
-use Rattle.sids.proofs.points.distance.Statement.{statement}
-use Rattle.sids.proofs.points.distance.Tie as tie
+use Rattle.points.proofs.PointRanges.{half-is, distance-low, distance-high}
+use Rattle.points.proofs.distance.Statement.{statement}
+use Rattle.points.proofs.distance.Tie as tie
 
 add-result : tie.Need-add-result
 add-result c =

@@ -21,8 +21,8 @@ use Rattle.words.specs.Width.{isWidth}
 use Rattle.words.proofs.Signed.{eight}
 use Rattle.types.specs.Given.{HasNumber}
 use Rattle.types.proofs.StoredNumbers.{whole-wide, shaped-is, has-by}
-use Rattle.sids.specs.Given.{TypedRange}
-use Rattle.sids.specs.Points.{lawfulBetween}
+use Rattle.points.specs.Given.{TypedRange}
+use Rattle.points.specs.Between.{lawfulBetween}
 
 -- half of the patterns of 4 or 8 bytes
 pub half-is : (w : ℕ) → T (isWidth w) → (256 ^ w ≡ half w + half w) × ((2147483648 ≤ half w) × (half w ≤ 9223372036854775808))

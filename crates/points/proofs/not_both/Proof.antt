@@ -10,8 +10,8 @@ use borrow.Author.Tests.{eq-eqb, ne-eqb, lt-ltb, le-ltb}
 use Rattle.model.specs.Image.{treeOf}
 use Rattle.model.specs.Containment.{found}
 use Rattle.model.specs.Values.{notBoth}
-use Rattle.sids.proofs.points.not_both.Statement.{statement}
-use Rattle.sids.proofs.points.not_both.Tie as tie
+use Rattle.points.proofs.not_both.Statement.{statement}
+use Rattle.points.proofs.not_both.Tie as tie
 
 missing : (j n : ℕ) → j ≤ n → eqb j n ≡ not (ltb j n)
 missing j n h =

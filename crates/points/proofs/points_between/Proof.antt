@@ -4,10 +4,10 @@ use mathlib.Core.Path.{_≡_}
 use mathlib.Core.Bool.{cond}
 use native.Mathlib.Omega.{arith}
 use Rattle.model.specs.Bytes.{half, distance}
-use Rattle.sids.specs.Points.{lawfulBetween}
-use Rattle.sids.proofs.PointRanges.{Near, half-is, none-between, some-between}
-use Rattle.sids.proofs.points.points_between.Statement.{statement}
-use Rattle.sids.proofs.points.points_between.Tie as tie
+use Rattle.points.specs.Between.{lawfulBetween}
+use Rattle.points.proofs.PointRanges.{Near, half-is, none-between, some-between}
+use Rattle.points.proofs.points_between.Statement.{statement}
+use Rattle.points.proofs.points_between.Tie as tie
 
 -- both distances are known
 module _ (c : tie.After-distance2) where

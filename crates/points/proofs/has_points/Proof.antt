@@ -5,9 +5,9 @@ use native.Mathlib.Omega.{arith}
 use borrow.Author.Needs.{needs}
 use Rattle.model.specs.Image.{treeOf}
 use Rattle.model.specs.Values.{pointsIn}
-use Rattle.sids.proofs.PointRanges.{ProductTo, direction-lawful, points-are, product-start, product-more, product-room, product-stop, product-done}
-use Rattle.sids.proofs.points.has_points.Statement.{statement}
-use Rattle.sids.proofs.points.has_points.Tie as tie
+use Rattle.points.proofs.PointRanges.{ProductTo, direction-lawful, points-are, product-start, product-more, product-room, product-stop, product-done}
+use Rattle.points.proofs.has_points.Statement.{statement}
+use Rattle.points.proofs.has_points.Tie as tie
 
 abbrev Inv-loop : tie.InvT-loop
 Inv-loop image index i size n product₀ d₀ product d = ProductTo (treeOf image) i n d product
