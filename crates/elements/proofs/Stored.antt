@@ -14,7 +14,7 @@ use Rattle.model.specs.Image.{Tree, treeOf, nodeCount, node, name, parent, widt
 use Rattle.model.specs.Given.{Sound}
 use Rattle.model.specs.Records.{product}
 use Rattle.model.specs.Containment.{role, found, Elements, IndexRange, DataArray}
-use Rattle.model.specs.Values.{typed, shaped, flat, size, typeLawful, valueLawful, arrayType, sectionArrayType, indexArray, rangeShape, rangeValue, indexRangeValue, conforming, rangeOf}
+use Rattle.model.specs.Values.{typed, shaped, flat, size, typeLawful, valueLawful, arrayType, sectionArrayType, elementArray, rangeShape, rangeValue, indexRangeValue, conforming, rangeOf}
 use Rattle.model.specs.Values.{offsetsOf, connectivityOf}
 use Rattle.model.specs.Elements.{firstElement, lastElement}
 use Rattle.model.specs.Corner.{numberAt}
@@ -81,13 +81,13 @@ module _ (t : Tree) (j : ℕ) where
   unfolding valueLawful indexRangeValue row
   value-range e p = rw (e, p)
 
-  pub type-array : role t j ≡ DataArray → role t (parent t j) ≡ Elements → indexArray t j ≡ true → typeLawful t j ≡ (typed t j (I4 ∷ I8 ∷ []) && flat t j)
+  pub type-array : role t j ≡ DataArray → role t (parent t j) ≡ Elements → elementArray t j ≡ true → typeLawful t j ≡ (typed t j (I4 ∷ I8 ∷ []) && flat t j)
   unfolding typeLawful row arrayType sectionArrayType
   type-array e p n = rw (e, p, n)
 
 -- a conforming index array, and a conforming ElementRange
 module _ {b : List ℕ} (s : Sound b) (i : ℕ) where
-  index-stores : role (treeOf b) i ≡ Elements → (n : List ℕ) → ((j : ℕ) → spells (name (treeOf b) j) n ≡ true → indexArray (treeOf b) j ≡ true)
+  index-stores : role (treeOf b) i ≡ Elements → (n : List ℕ) → ((j : ℕ) → spells (name (treeOf b) j) n ≡ true → elementArray (treeOf b) j ≡ true)
       → found (treeOf b) (conforming (treeOf b) i DataArray n) ≡ true → Indexed b (conforming (treeOf b) i DataArray n)
   unfolding treeOf
   index-stores r n f h =
@@ -98,11 +98,11 @@ module _ {b : List ℕ} (s : Sound b) (i : ℕ) where
       stores-flat s j (conforming-inside t i DataArray n h) (sym e ∙ conforming-type t i DataArray n h)
 
   pub connectivity-stores : role (treeOf b) i ≡ Elements → found (treeOf b) (connectivityOf (treeOf b) i) ≡ true → Indexed b (connectivityOf (treeOf b) i)
-  unfolding connectivityOf indexArray
+  unfolding connectivityOf elementArray
   connectivity-stores r h = index-stores r (text "ElementConnectivity") (λ j e. or-left _ _ e) h
 
   pub offsets-stores : role (treeOf b) i ≡ Elements → found (treeOf b) (offsetsOf (treeOf b) i) ≡ true → Indexed b (offsetsOf (treeOf b) i)
-  unfolding offsetsOf indexArray
+  unfolding offsetsOf elementArray
   offsets-stores r h = index-stores r (text "ElementStartOffset") (λ j e. or-right (spells (name (treeOf b) j) (text "ElementConnectivity")) _ e) h
 
   pub range-ready : role (treeOf b) i ≡ Elements → found (treeOf b) (rangeOf (treeOf b) i) ≡ true → Ranged b i

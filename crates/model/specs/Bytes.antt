@@ -43,7 +43,7 @@ below w x y = cond (negative w x) (not (negative w y) || ltb x y) (not (negative
 unfoldable pub magnitude : ℕ → ℕ → ℕ
 magnitude w x = cond (negative w x) (2 * half w - x) x
 
--- its distance from the smallest number of w bytes: two numbers differ as their distances do
+-- its distance from the smallest number of w bytes: the difference of two numbers is that of their distances
 unfoldable pub distance : ℕ → ℕ → ℕ
 distance w x = cond (negative w x) (x - half w) (x + half w)
 

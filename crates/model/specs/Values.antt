@@ -11,7 +11,7 @@ use Rattle.model.specs.Image.{Tree, name, parent, dimensions, stored, da
 use Rattle.model.specs.Records.{sibling}
 use Rattle.model.specs.Containment.{LibraryVersion, Base, Zone, ZoneType, GridCoordinates, FlowSolution, Elements, IndexRange, Rind, GridLocation, DataArray, Descriptor, UserDefinedData, IndexArray, Root, role, mayHold, fixedNames, fixedName, onceOnly, child, found, orMissing}
 
--- the greatest size, rind number and element number
+-- the greatest size, rind number and element number, and the greatest magnitude in a PointRange
 abbrev pub maxNumber : ℕ
 maxNumber = 2147483647
 
@@ -109,7 +109,7 @@ rangeShape t i =
     row (role t (parent t i)) false
     (Elements has shaped t i (2 ∷ []) ∷ FlowSolution has shaped t i (indexDimension t (zoneAbove t i) ∷ 2 ∷ []) ∷ [])
 
--- IndexArray_t: a PointList under flow has dimensions [IndexDimension, count]
+-- IndexArray_t: a PointList under flow has dimensions [IndexDimension, count]; the count, and the test
 unfoldable pub listCount : Tree → ℕ → ℕ
 listCount t i = getD (dimensions t i) 1 0
 
@@ -123,10 +123,11 @@ rangeBegin t i d = number t i d
 unfoldable pub rangeEnd : Tree → ℕ → ℕ → ℕ
 rangeEnd t i d = number t i (indexDimension t (zoneAbove t i) + d)
 
--- both within ±2,147,483,647, and the begin at most the end
+-- within ±2,147,483,647
 unfoldable pub bounded : Tree → ℕ → ℕ → Bool
 bounded t i x = leb (magnitude (width t i) x) maxNumber
 
+-- both are, and the begin is at most the end
 unfoldable pub directionLawful : Tree → ℕ → ℕ → Bool
 directionLawful t i d =
     bounded t i (rangeBegin t i d) && bounded t i (rangeEnd t i d) && not (below (width t i) (rangeEnd t i d) (rangeBegin t i d))
@@ -138,7 +139,7 @@ pointRangeValue t i = everyFrom (directionLawful t i) (indexDimension t (zoneAbo
 unfoldable pub indexRangeValue : Tree → ℕ → Bool
 indexRangeValue t i = row (role t (parent t i)) true (Elements has rangeValue t i ∷ FlowSolution has pointRangeValue t i ∷ [])
 
--- the points of a PointRange: end − begin + 1 in a direction, their whole-number product in k directions from d on
+-- the points of a conforming PointRange: end − begin + 1 in direction d; the product in k directions from d on; in all directions
 unfoldable pub pointsIn : Tree → ℕ → ℕ → ℕ
 pointsIn t i d = distance (width t i) (rangeEnd t i d) - distance (width t i) (rangeBegin t i d) + 1
 
@@ -149,16 +150,16 @@ pointsFrom t i (suc k) d = pointsIn t i d * pointsFrom t i k (suc d)
 unfoldable pub points : Tree → ℕ → ℕ
 points t i = pointsFrom t i (indexDimension t (zoneAbove t i)) 0
 
--- FlowSolution_t: not both a PointRange and a PointList, conforming or not
+-- FlowSolution_t: not both a PointRange and a PointList, there by name and label, conforming or not
 unfoldable pub notBoth : Tree → ℕ → Bool
 notBoth t p = not (found t (child t p IndexRange (text "PointRange")) && found t (child t p IndexArray (text "PointList")))
 
 -- DataArray_t under a section: ElementConnectivity and ElementStartOffset I4 or I8 with one dimension, others anything but MT
-unfoldable pub indexArray : Tree → ℕ → Bool
-indexArray t i = spells (name t i) (text "ElementConnectivity") || spells (name t i) (text "ElementStartOffset")
+unfoldable pub elementArray : Tree → ℕ → Bool
+elementArray t i = spells (name t i) (text "ElementConnectivity") || spells (name t i) (text "ElementStartOffset")
 
 unfoldable pub sectionArrayType : Tree → ℕ → Bool
-sectionArrayType t i = cond (indexArray t i) (typed t i (I4 ∷ I8 ∷ []) && flat t i) (not (typed t i (MT ∷ [])))
+sectionArrayType t i = cond (elementArray t i) (typed t i (I4 ∷ I8 ∷ []) && flat t i) (not (typed t i (MT ∷ [])))
 
 -- DataArray_t: R4 or R8 under coordinates; I4, I8, R4, R8 under flow
 unfoldable pub arrayType : Tree → ℕ → Bool
@@ -265,7 +266,7 @@ dataSize t p d =
     + rindNumber t p (2 * d)
     + rindNumber t p (2 * d + 1)
 
--- in k directions from d on, and in all directions
+-- the zone's sizes in k directions from d on, and in all directions
 unfoldable pub dataSizesFrom : Tree → ℕ → ℕ → ℕ → List ℕ
 dataSizesFrom t p zero d = []
 dataSizesFrom t p (suc k) d = dataSize t p d ∷ dataSizesFrom t p k (suc d)
@@ -273,8 +274,8 @@ dataSizesFrom t p (suc k) d = dataSize t p d ∷ dataSizesFrom t p k (suc d)
 unfoldable pub sizesByZone : Tree → ℕ → List ℕ
 sizesByZone t p = dataSizesFrom t p (indexDimension t (parent t p)) 0
 
--- DataSize under node p: with a conforming PointRange or else a conforming PointList (under flow alone) one size, the number of its points,
--- and neither rind nor location is consulted; without them the zone's sizes
+-- DataSize under node p: with a conforming PointRange, else a conforming PointList, one size, the number of its points, and neither rind nor location is
+-- consulted; without them the zone's sizes. Only under flow does either conform.
 unfoldable pub dataSizes : Tree → ℕ → List ℕ
 dataSizes t p =
     cond (found t (pointRangeOf t p)) (points t (pointRangeOf t p) ∷ [])

@@ -11,7 +11,7 @@ use Rattle.model.specs.Lists.{row}
 use Rattle.model.specs.Bytes.{text}
 use Rattle.model.specs.Image.{treeOf, nodeCount, parent, node, wordCount, dimensions, width, number, I4, I8}
 use Rattle.model.specs.Containment.{role, sectionOf, child, found, Root, Elements, IndexRange, DataArray, UserDefinedData}
-use Rattle.model.specs.Values.{sidsRules, typed, shaped, flat, size, indexArray, typeLawful, conforming, rangeOf, offsetsOf, connectivityOf}
+use Rattle.model.specs.Values.{sidsRules, typed, shaped, flat, size, elementArray, typeLawful, conforming, rangeOf, offsetsOf, connectivityOf}
 use Rattle.model.specs.Elements.{elementType, firstElement, lastElement, connectivityLength}
 use Rattle.model.specs.Given.{Sound}
 use Rattle.model.specs.Sections.{dataStart, entry}
@@ -19,7 +19,7 @@ use Rattle.model.proofs.Logic.{and-first, and-second, and-both, or-left}
 use Rattle.model.proofs.Accepted.{sids-rule}
 use Rattle.model.proofs.Bounds.{node-placed}
 use Rattle.model.proofs.Conforming.{conforming-inside, conforming-type, conforming-parent, conforming-role, conforming-name}
-use Rattle.model.proofs.Arrays.{index-array}
+use Rattle.model.proofs.Arrays.{element-array}
 use Rattle.model.proofs.InZone.{InZone, parts, role-is, range-found, connectivity}
 use Rattle.model.proofs.LookedUp.{child-conforms}
 use Rattle.index.specs.Index.{kind}
@@ -108,13 +108,13 @@ module _ {b : List ℕ} {s : ℕ} (a : AcceptedSection b s) where
   connectivity-inside = connectivity in-zone .inside-table
 
   pub connectivity-flat : flat (treeOf b) (connectivityOf (treeOf b) s) ≡ true
-  unfolding connectivityOf indexArray found treeOf
+  unfolding connectivityOf elementArray found treeOf
   connectivity-flat =
       let n = text "ElementConnectivity" in
       let j = conforming (treeOf b) s DataArray n in
       let h : found (treeOf b) j ≡ true = lt-ltb j (nodeCount b) connectivity-inside in
       and-second (typed (treeOf b) j (I4 ∷ I8 ∷ [])) _
-      (index-array (treeOf b) s (role-is in-zone) n h (or-left _ _ (conforming-name (treeOf b) s DataArray n h)))
+      (element-array (treeOf b) s (role-is in-zone) n h (or-left _ _ (conforming-name (treeOf b) s DataArray n h)))
 
   -- the same, of the nodes that the look-ups answered
   module _ {r : ℕ} (e : r ≡ child (treeOf b) s IndexRange (text "ElementRange")) where
