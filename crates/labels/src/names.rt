@@ -7,7 +7,7 @@ ghost use Rattle.model.specs.Bytes.{spells};
 ghost use Rattle.model.specs.Image.{treeOf, nodeCount, name};
 ghost use Rattle.model.specs.Bounds.{Laid};
 ghost use Rattle.labels.specs.Padded.{fieldWord, knownNames};
-use super::known::rest_is;
+use super::known::rest_of_name;
 use records::Record;
 
 pub const ZONE_TYPE: usize = 1;
@@ -25,9 +25,6 @@ pub const ELEMENT_START_OFFSET: usize = 6;
 pub const POINT_RANGE: usize = 7;
 
 pub const POINT_LIST: usize = 8;
-
-// How many known labels stand before the names among the known texts.
-const LABELS: usize = 14;
 
 // The first eight bytes of name k.
 fn first_word(k: usize) -> u64
@@ -56,8 +53,8 @@ pub fn name_is(image: &[u8], i: usize, k: usize) -> bool
     if words::u64_at(image, at) != first_word(k) {
         return false;
     }
-    rest_is(
-        LABELS + k,
+    rest_of_name(
+        k,
         words::u64_at(image, at + 8),
         words::u64_at(image, at + 16),
         words::u64_at(image, at + 24),

@@ -46,15 +46,15 @@ module _ (k : tie.After-candidate) where
   absent e = (no-candidate b p (k .candidate .result) inside bytes begins e ∙ by-label, omega arith)
 
 -- the other words are read
-module _ (c : tie.After-rest-is) where
+module _ (c : tie.After-rest-of-label) where
   abbrev known : tie.After-candidate
   known = c .before .before .before .before .before
 
-  spelled : c .rest-is .result ≡ spells (take 32 (drop (p known) (b known))) (getD knownTexts (known .candidate .result) [])
+  spelled : c .rest-of-label .result ≡ spells (take 32 (drop (p known) (b known))) (getD knownTexts (known .candidate .result) [])
   spelled =
       let k = known .candidate .result in
       let h : k < 14 = omega arith in
-      rw (c .before .before .before .u64-at2 .ensures, c .before .before .u64-at3 .ensures, c .before .u64-at4 .ensures) at (c .rest-is .ensures)
+      rw (c .before .before .before .u64-at2 .ensures, c .before .before .u64-at3 .ensures, c .before .u64-at4 .ensures) at (c .rest-of-label .ensures)
       ∙ rest-spells (b known) (p known) k (inside known) (bytes known) (omega arith) (begins known .is h)
 
 returns-2 : tie.Need-returns-2
