@@ -38,7 +38,7 @@ points-between-requires : tie.Need-points-between-requires
 points-between-requires c κs =
     let d = c .before .before in
     let n = has d (start d .args .d) (omega arith) in
-    (rw (d .width-at .ensures .0) (n .wide), (c .before .number .ensures .1, c .number2 .ensures .1))
+    (rw (d .width-at .ensures .0) (n .wide), (search needs, search needs))
 
 returns : tie.Need-returns
 unfolding directionLawful bounded pointsIn rangeBegin rangeEnd
