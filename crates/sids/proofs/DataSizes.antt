@@ -1,7 +1,7 @@
 -- DataSize under a node: by a conforming PointRange, by a conforming PointList, by the zone.
 use Prim.Native.Nat.{ℕ, _≤_, _<_}
 use mathlib.Core.Path.{_≡_, refl, sym, ap, _∙_}
-use mathlib.Core.Bool.{Bool, true, false, and-true}
+use mathlib.Core.Bool.{Bool, true, false, and-true, and-false}
 use mathlib.Core.List.{List, [], _∷_}
 use lib.Dec.{eqb}
 use lib.ListN.{length, getD}
@@ -83,29 +83,25 @@ module _ (b : List ℕ) (p : ℕ) where
       sym (rank-is t j) ∙ ap length (shaped-is t j _ (and-second (eqb (role t (parent t j)) FlowSolution) _ (and-second (typed t j (I4 ∷ I8 ∷ [])) _ g)))
 
 -- under coordinates neither conforms
-module _ (t : Tree) (p : ℕ) (e : role t p ≡ GridCoordinates) where
-  no-range : found t (pointRangeOf t p) ≡ false
-  unfolding pointRangeOf typeLawful rangeShape row
-  no-range = by-test (found t (pointRangeOf t p)) refl
-    where
-      by-test : (c : Bool) → found t (pointRangeOf t p) ≡ c → c ≡ false
-      by-test true r =
-          let j = conforming t p IndexRange (text "PointRange") in
-          let g = rw (conforming-role t p IndexRange (text "PointRange") r) at (conforming-type t p IndexRange (text "PointRange") r) in
-          untrue (rw (conforming-parent t p IndexRange (text "PointRange") r, e) at (and-second (typed t j (I4 ∷ I8 ∷ [])) _ g))
-      by-test false r = refl
+module _ (t : Tree) (j : ℕ) (p : role t (parent t j) ≡ GridCoordinates) where
+  no-range : role t j ≡ IndexRange → typeLawful t j ≡ false
+  unfolding typeLawful rangeShape row
+  no-range r = rw (r, p) (and-false (typed t j (I4 ∷ I8 ∷ [])))
 
-  no-list : found t (pointListOf t p) ≡ false
-  unfolding pointListOf typeLawful listShape row
-  no-list = by-test (found t (pointListOf t p)) refl
+  no-list : role t j ≡ IndexArray → typeLawful t j ≡ false
+  unfolding typeLawful listShape row
+  no-list r = rw (r, p) (and-false (typed t j (I4 ∷ I8 ∷ [])))
+
+module _ (t : Tree) (p : ℕ) (e : role t p ≡ GridCoordinates) where
+  none-conforms : (r : ℕ) (n : List ℕ) → ((j : ℕ) → role t (parent t j) ≡ GridCoordinates → role t j ≡ r → typeLawful t j ≡ false)
+      → found t (conforming t p r n) ≡ false
+  none-conforms r n f = by-test (found t (conforming t p r n)) refl
     where
-      by-test : (c : Bool) → found t (pointListOf t p) ≡ c → c ≡ false
-      by-test true r =
-          let j = conforming t p IndexArray (text "PointList") in
-          let g = rw (conforming-role t p IndexArray (text "PointList") r) at (conforming-type t p IndexArray (text "PointList") r) in
-          untrue (rw (conforming-parent t p IndexArray (text "PointList") r, e) at (and-second (typed t j (I4 ∷ I8 ∷ [])) _ g))
-      by-test false r = refl
+      by-test : (c : Bool) → found t (conforming t p r n) ≡ c → c ≡ false
+      by-test true q =
+          untrue (sym (f _ (ap (role t) (conforming-parent t p r n q) ∙ e) (conforming-role t p r n q)) ∙ conforming-type t p r n q)
+      by-test false q = refl
 
   pub coordinate-sizes : dataSizes t p ≡ sizesByZone t p
-  unfolding dataSizes
-  coordinate-sizes = rw (no-range, no-list)
+  unfolding dataSizes pointRangeOf pointListOf
+  coordinate-sizes = rw (none-conforms IndexRange (text "PointRange") (no-range t), none-conforms IndexArray (text "PointList") (no-list t))
