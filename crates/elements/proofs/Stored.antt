@@ -14,7 +14,8 @@ use Rattle.model.specs.Image.{Tree, treeOf, nodeCount, node, name, parent, widt
 use Rattle.model.specs.Given.{Sound}
 use Rattle.model.specs.Records.{product}
 use Rattle.model.specs.Containment.{role, found, Elements, IndexRange, DataArray}
-use Rattle.model.specs.Values.{typed, shaped, flat, size, typeLawful, valueLawful, arrayType, sectionArrayType, elementArray, rangeShape, rangeValue, indexRangeValue, conforming, rangeOf}
+use Rattle.model.specs.Values.{typed, shaped, flat, size, typeLawful, valueLawful, arrayType, sectionArrayType, elementArray, conforming, rangeOf}
+use Rattle.model.specs.Values.{rangeShape, rangeValue, indexRangeValue}
 use Rattle.model.specs.Values.{offsetsOf, connectivityOf}
 use Rattle.model.specs.Elements.{firstElement, lastElement}
 use Rattle.model.specs.Corner.{numberAt}

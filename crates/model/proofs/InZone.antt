@@ -13,7 +13,8 @@ use Rattle.model.specs.Bytes.{numbers, text, spells, half, below}
 use Rattle.model.specs.Rules.{passed}
 use Rattle.model.specs.Image.{Tree, treeOf, nodeCount, node, name, width, number, I4, I8}
 use Rattle.model.specs.Containment.{role, Elements, IndexRange, DataArray, sectionOf, found}
-use Rattle.model.specs.Values.{sidsRules, size, typed, elementArray, complete, rangeValue, indexRangeValue, valueLawful, conforming, rangeOf, offsetsOf, connectivityOf}
+use Rattle.model.specs.Values.{sidsRules, size, typed, elementArray, complete, valueLawful, conforming, rangeOf, offsetsOf, connectivityOf}
+use Rattle.model.specs.Values.{rangeValue, indexRangeValue}
 use Rattle.model.specs.Elements.{nodesPer, hasOffsets, taken, elementType, firstElement, lastElement, elementCount, startOffset, connectivityLength}
 use Rattle.model.specs.Elements.{elementStart, elementRules, lengthsFit, startsAtZero, rises, allRise, endsAtLength}
 use Rattle.model.specs.Validation.{imageCheck}

@@ -86,7 +86,8 @@ module _ (w b e : ℕ) (m : 2147483647 < half w) (l : b < half w + half w) (k : 
   lawful n = by-sign (leb (half w) b) refl (leb (half w) e) refl (n .from) (n .to) (n .rising)
     where
       all : (x y : ℕ) {z : Bool} → x ≤ 2147483647 → y ≤ 2147483647 → z ≡ true → (leb x 2147483647 && leb y 2147483647 && z) ≡ true
-      all x y {z} p q r = and-both (leb x 2147483647 && leb y 2147483647) z (and-both (leb x 2147483647) (leb y 2147483647) (le-leb x 2147483647 p) (le-leb y 2147483647 q)) r
+      all x y {z} p q r =
+          and-both (leb x 2147483647 && leb y 2147483647) z (and-both (leb x 2147483647) (leb y 2147483647) (le-leb x 2147483647 p) (le-leb y 2147483647 q)) r
 
       by-sign : (x : Bool) → leb (half w) b ≡ x → (y : Bool) → leb (half w) e ≡ y → half w - 2147483647 ≤ cond x (b - half w) (b + half w)
           → cond y (e - half w) (e + half w) ≤ half w + 2147483647 → cond x (b - half w) (b + half w) ≤ cond y (e - half w) (e + half w)

@@ -135,7 +135,8 @@ module _ (b : List ℕ) (i : ℕ) (g : NodesTo b i) where
           flow = λ n e. flow-based n e;
         }
       where
-        flow-based : eqb (role (treeOf b) i) Root ≡ false → role (treeOf b) (parent (treeOf b) i) ≡ FlowSolution → ZoneInBase b (parent (treeOf b) (parent (treeOf b) i))
+        flow-based : eqb (role (treeOf b) i) Root ≡ false → role (treeOf b) (parent (treeOf b) i) ≡ FlowSolution
+            → ZoneInBase b (parent (treeOf b) (parent (treeOf b) i))
         flow-based n e = held (parent (treeOf b) i) (above i here (not-root (treeOf b) i (role (treeOf b) i) refl n) .upper) (rw e) .zone .based
 
         rind-based : role (treeOf b) i ≡ Rind → ZoneInBase b (parent (treeOf b) (parent (treeOf b) i))

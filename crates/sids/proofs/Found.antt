@@ -54,7 +54,8 @@ module _ (b : List ℕ) (i r : ℕ) (n : List ℕ) (h : child (treeOf b) i r n <
       let other : (x : ℕ) → not (eqb r x) ≡ true → r ≡ x → ⊥ = λ x g z. untrue (sym (not-true (eqb r x) g) ∙ eq-eqb r x z) in
       let root = not-true (eqb r Root) (and-second (ltb 0 r) _ (and-first (ltb 0 r && not (eqb r Root)) _ l)) in
       let foreign = not-true (eqb k UserDefinedData) (and-second (ltb 0 k) _ (and-first (ltb 0 k && not (eqb k UserDefinedData)) _ q)) in
-      let zoned : ZoneInBase b (parent (treeOf b) i) → ZoneInBase b (parent (treeOf b) (parent (treeOf b) j)) = λ x. subst (λ (p : ℕ). ZoneInBase b (parent (treeOf b) p)) (sym child-parent) x in
+      let zoned : ZoneInBase b (parent (treeOf b) i) → ZoneInBase b (parent (treeOf b) (parent (treeOf b) j))
+      = λ x. subst (λ (p : ℕ). ZoneInBase b (parent (treeOf b) p)) (sym child-parent) x in
       record {
         inside = h;
         is-validated = validated-child b s j i h (not-root (treeOf b) j r child-role root) child-parent (p .0) (rw (p .1) foreign) ∙ rw child-role known;

@@ -37,7 +37,8 @@ module _ (c : tie.After-points-in Inv-loop μ-loop) where
       let l = c .before .before in
       let p = start .pre .1 in
       points-are _ _ _ (c .points-in .ensures .0)
-      (direction-lawful (start .args .image .now) (start .args .i) (p .0) (p .1) (l .loop .d) (rw (← l .before .dimension-above .ensures .0) (c .before .loop-test .taken)))
+      (direction-lawful (start .args .image .now) (start .args .i) (p .0) (p .1) (l .loop .d)
+      (rw (← l .before .dimension-above .ensures .0) (c .before .loop-test .taken)))
 
 div-if1 : tie.Need-div-if1 Inv-loop μ-loop
 unfolding pointsIn
@@ -53,8 +54,8 @@ mul-product c =
     let d = c .before in
     let l = d .before .before in
     let s = start d .args in
-    let h = product-room (treeOf (s .image .now)) (s .i) (l .before .dimension-above .result) (l .loop .d) (l .loop .product) (l .loop .inv) {size = s .size} (are d)
-    (c .if1 .left) in
+    let h = product-room (treeOf (s .image .now)) (s .i) (l .before .dimension-above .result) (l .loop .d) (l .loop .product) (l .loop .inv)
+    {size = s .size} (are d) (c .if1 .left) in
     omega arith
 
 loop-again : tie.Need-loop-again Inv-loop μ-loop

@@ -21,7 +21,8 @@ module _ (c : tie.After-parent-of) where
 
 -- its role
 module _ (c : tie.After-role-of) where
-  above-is : c .role-of .result ≡ role (treeOf (start (c .before) .args .image .now)) (parent (treeOf (start (c .before) .args .image .now)) (start (c .before) .args .i))
+  above-is : c .role-of .result
+      ≡ role (treeOf (start (c .before) .args .image .now)) (parent (treeOf (start (c .before) .args .image .now)) (start (c .before) .args .i))
   above-is = rw (c .before .parent-of .ensures .0) at (c .role-of .ensures .0)
 
 role-of-requires : tie.Need-role-of-requires

@@ -81,5 +81,5 @@ returns-4 c =
 
 pub points-between-spec : {M : Type 1} → statement M
 points-between-spec =
-    tie.close (tie.spec (λ c κs. c .pre .0) (λ c κs. let p = c .before .pre in (p .0, p .1 .0)) (λ c κs. let p = c .before .before .pre in (p .0, p .1 .1)) sub-if1
-    returns add-if2 returns-2 returns-3 add-result returns-4)
+    tie.close (tie.spec (λ c κs. c .pre .0) (λ c κs. let p = c .before .pre in (p .0, p .1 .0)) (λ c κs. let p = c .before .before .pre in (p .0, p .1 .1))
+    sub-if1 returns add-if2 returns-2 returns-3 add-result returns-4)

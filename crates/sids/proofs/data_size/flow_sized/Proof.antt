@@ -82,4 +82,5 @@ returns-3 c =
 pub flow-sized-spec : {M : Type 1} → statement M
 flow-sized-spec =
     tie.close (tie.spec (search needs) (λ c κs. let q = c .before .before .before .pre in ((q .0 .0, q .0 .1 .held), q .1 .0)) range-sized-requires returns
-    (λ c κs. let q = start (c .before) .pre in ((q .0 .0, q .0 .1 .held), q .1 .0)) dimension-requires (λ c κs. search needs) returns-2 (λ c κs. search needs) returns-3)
+    (λ c κs. let q = start (c .before) .pre in ((q .0 .0, q .0 .1 .held), q .1 .0)) dimension-requires (λ c κs. search needs) returns-2
+    (λ c κs. search needs) returns-3)

@@ -25,4 +25,5 @@ returns-2 c =
 pub has-data-size-spec : {M : Type 1} → statement M
 has-data-size-spec =
     tie.close (tie.spec (λ c κs. let p = c .before .before .pre .0 in (p .0, p .1 .held .inside))
-    (λ c κs. let p = c .before .before .before .before .pre in (p .0, (sym (c .before .kind-of .ensures .0) ∙ c .if1 .taken, p .1))) returns (λ c κs. search needs) returns-2)
+    (λ c κs. let p = c .before .before .before .before .pre in (p .0, (sym (c .before .kind-of .ensures .0) ∙ c .if1 .taken, p .1))) returns
+    (λ c κs. search needs) returns-2)

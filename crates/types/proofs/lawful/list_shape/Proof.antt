@@ -24,7 +24,9 @@ module _ (c : tie.After-role-of) where
   above-is = rw (c .before .parent-of .ensures .0) at (c .role-of .ensures .0)
 
 role-of-requires : tie.Need-role-of-requires
-role-of-requires c κs = let p = c .before .before .before .pre in (rw (c .parent-of .ensures .0) ((p .0 .0, p .1 .above)), rw (c .parent-of .ensures .0) (p .1 .above-validated))
+role-of-requires c κs =
+    let p = c .before .before .before .pre in
+    rw (c .parent-of .ensures .0) ((p .0 .0, p .1 .above), p .1 .above-validated)
 
 returns : tie.Need-returns
 unfolding listShape
@@ -68,8 +70,10 @@ unfolding listShape listCount
 returns-3 c =
     let d = c .before .before in
     let k = known (d .before) in
-    rw (sym (above-is k) ∙ d .before .before .before .before .if1 .left) (rw (c .before .dimension-above .ensures .0, d .dimension .ensures) at (c .whole-shaped .ensures))
+    rw (sym (above-is k) ∙ d .before .before .before .before .if1 .left)
+    (rw (c .before .dimension-above .ensures .0, d .dimension .ensures) at (c .whole-shaped .ensures))
 
 pub list-shape-spec : {M : Type 1} → statement M
 list-shape-spec =
-    tie.close (tie.spec (search needs) role-of-requires returns (search needs) returns-2 dimension-requires dimension-above-requires (λ c κs. search needs) returns-3)
+    tie.close (tie.spec (search needs) role-of-requires returns (search needs) returns-2 dimension-requires dimension-above-requires
+    (λ c κs. search needs) returns-3)

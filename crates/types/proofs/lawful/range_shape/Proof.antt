@@ -24,7 +24,9 @@ module _ (c : tie.After-role-of) where
   above-role e = sym above-is ∙ e
 
 role-of-requires : tie.Need-role-of-requires
-role-of-requires c κs = let p = c .before .before .before .pre in (rw (c .parent-of .ensures .0) ((p .0 .0, p .1 .above)), rw (c .parent-of .ensures .0) (p .1 .above-validated))
+role-of-requires c κs =
+    let p = c .before .before .before .pre in
+    rw (c .parent-of .ensures .0) ((p .0 .0, p .1 .above), p .1 .above-validated)
 
 dimension-above-requires : tie.Need-dimension-above-requires
 dimension-above-requires c κs =
