@@ -40,9 +40,9 @@
 
 /* The version of this header and of the archive beside it. */
 #define GONGAURORA_VERSION_MAJOR 0
-#define GONGAURORA_VERSION_MINOR 2
+#define GONGAURORA_VERSION_MINOR 3
 #define GONGAURORA_VERSION_PATCH 0
-#define GONGAURORA_VERSION "0.2.0"
+#define GONGAURORA_VERSION "0.3.0"
 
 #ifdef __cplusplus
 extern "C" {
@@ -83,7 +83,7 @@ enum gongaurora_rule {
     GONGAURORA_RULE_SECOND_CHILD = 22,    /* a second child of a label allowed once */
     GONGAURORA_RULE_REQUIRED_CHILD = 23,  /* a required child is missing */
     GONGAURORA_RULE_LABEL_TYPE = 24,      /* data type or dimensions not the label's */
-    GONGAURORA_RULE_VALUE = 25,           /* a stored value that is not permitted */
+    GONGAURORA_RULE_VALUE = 25,           /* a stored value that is not permitted; a PointRange and a PointList */
     GONGAURORA_RULE_DATA_SIZE = 26,       /* array dimensions not DataSize */
     GONGAURORA_RULE_ELEMENT_TYPE = 27,    /* an element type that is not supported */
     GONGAURORA_RULE_RANGE_OVERLAP = 28,   /* the range meets that of an earlier section */
