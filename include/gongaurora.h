@@ -40,9 +40,9 @@
 
 /* The version of this header and of the archive beside it. */
 #define GONGAURORA_VERSION_MAJOR 0
-#define GONGAURORA_VERSION_MINOR 2
+#define GONGAURORA_VERSION_MINOR 3
 #define GONGAURORA_VERSION_PATCH 0
-#define GONGAURORA_VERSION "0.2.0"
+#define GONGAURORA_VERSION "0.3.0"
 
 #ifdef __cplusplus
 extern "C" {
@@ -83,7 +83,7 @@ enum gongaurora_rule {
     GONGAURORA_RULE_SECOND_CHILD = 22,    /* a second child of a label allowed once */
     GONGAURORA_RULE_REQUIRED_CHILD = 23,  /* a required child is missing */
     GONGAURORA_RULE_LABEL_TYPE = 24,      /* data type or dimensions not the label's */
-    GONGAURORA_RULE_VALUE = 25,           /* a stored value that is not permitted */
+    GONGAURORA_RULE_VALUE = 25,           /* a stored value that is not permitted; a PointRange and a PointList */
     GONGAURORA_RULE_DATA_SIZE = 26,       /* array dimensions not DataSize */
     GONGAURORA_RULE_ELEMENT_TYPE = 27,    /* an element type that is not supported */
     GONGAURORA_RULE_RANGE_OVERLAP = 28,   /* the range meets that of an earlier section */
@@ -133,7 +133,7 @@ static inline const char *gongaurora_rule_text(uint64_t rule)
     case 22: return "The parent has a second child of a label that is allowed once.";
     case 23: return "A required child of the node is missing or not as it has to be.";
     case 24: return "The node's data type or dimensions are not those of its label.";
-    case 25: return "A value stored in the node is not permitted.";
+    case 25: return "A value stored in the node is not permitted, or it has both a PointRange and a PointList.";
     case 26: return "The array's dimensions are not its DataSize.";
     case 27: return "The section's element type is not supported.";
     case 28: return "The section's element range meets that of an earlier section of the zone.";
@@ -345,10 +345,11 @@ typedef struct gongaurora_sizes {
     uint64_t rule;
     uint64_t node;
     uint64_t directions; /* 1 to 3 */
-    uint64_t size[3];    /* 0 in a direction that the zone lacks */
+    uint64_t size[3];    /* 0 in a direction that the array lacks */
 } gongaurora_sizes;
 
-/* The DataSize of a DataArray_t under GridCoordinates_t or FlowSolution_t, rind included.
+/* The DataSize of a DataArray_t under GridCoordinates_t or FlowSolution_t, rind included. Under a FlowSolution_t with a
+ * PointRange or a PointList it is one direction, the number of points.
  * Refusals: validation's; 40: no such node, or no such array.
  * Cost: one validation: the image is validated again. */
 static inline gongaurora_sizes gongaurora_data_size(const uint8_t *image, size_t length, uint64_t node)

@@ -143,6 +143,12 @@ static void check_arrays(const char *folder)
     CHECK(sizes.size[0] == 5 && sizes.size[1] == 5 && sizes.size[2] == 7);
     sizes = gongaurora_data_size(image, length, 5);
     CHECK(sizes.rule == GONGAURORA_RULE_NO_SUCH_NODE && sizes.directions == 0 && sizes.size[0] == 0);
+    load(folder, "wall.img");
+    sizes = gongaurora_data_size(image, length, 11);
+    CHECK(sizes.rule == 0 && sizes.directions == 1 && sizes.size[0] == 12 && sizes.size[1] == 0 && sizes.size[2] == 0);
+    sizes = gongaurora_data_size(image, length, 14);
+    CHECK(sizes.rule == 0 && sizes.directions == 1 && sizes.size[0] == 5 && sizes.size[1] == 0 && sizes.size[2] == 0);
+    load(folder, "structured_rind.img");
     value = gongaurora_array_value(image, length, 2, 1);
     CHECK(value.rule == 0 && value.node == 0 && value.kind == GONGAURORA_KIND_WHOLE && value.bits == 3);
     value = gongaurora_array_value(image, length, 12, 1);

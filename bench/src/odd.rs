@@ -121,6 +121,7 @@ fn of_nodes() -> Vec<Odd> {
             children_last(triangles(NGON_N, &up)),
         ),
         odd("4,070 arrays of a flow solution", "flow_arrays", flow_arrays(4_070)),
+        odd("4,070 arrays of a flow solution with a point range", "flow_arrays_range", flow_arrays_by_range(4_070)),
         odd("1,020 sections of a triangle, rising ranges", "triangles_rising", triangles(TRI_3, &up)),
         odd("1,020 sections of a triangle, falling ranges", "triangles_falling", triangles(TRI_3, &down)),
         Odd {
@@ -257,6 +258,16 @@ fn flow_arrays(count: usize) -> Image {
     image.add(flow, Node::text("GridLocation", "GridLocation_t", "CellCenter"));
     image.add(flow, Node::integers("Rind", "Rind_t", 4, &[6], &[0, 0, 0, 0, 0, 1]));
     add_zone_type(&mut image, zone, "Structured");
+    image
+}
+
+/// The same arrays, but sized by a range of points behind them.
+fn flow_arrays_by_range(count: usize) -> Image {
+    let mut image = flow_arrays(count);
+    let arrays = image.nodes.iter_mut().filter(|node| node.is_labelled("DataArray_t"));
+    arrays.for_each(|array| array.reshape(&[2]));
+    let flow = image.nodes.iter().position(|node| node.is_labelled("FlowSolution_t")).expect("a flow solution");
+    image.add(flow, Node::point_range(4, &[[1, 2], [1, 1], [1, 1]]));
     image
 }
 

@@ -61,6 +61,18 @@ impl Node {
         Node::integers(name, "DataArray_t", width, &[numbers.len() as u64], numbers)
     }
 
+    /// A PointRange from the begin and the end of each direction.
+    pub fn point_range(width: usize, directions: &[[i64; 2]]) -> Node {
+        let numbers: Vec<i64> = (0..2).flat_map(|k| directions.iter().map(move |direction| direction[k])).collect();
+        Node::integers("PointRange", "IndexRange_t", width, &[directions.len() as u64, 2], &numbers)
+    }
+
+    /// A PointList of points, each with an index for every direction.
+    pub fn point_list(width: usize, directions: usize, indices: &[i64]) -> Node {
+        let count = indices.len() / directions.max(1);
+        Node::integers("PointList", "IndexArray_t", width, &[directions as u64, count as u64], indices)
+    }
+
     /// Bytes of one value of its data type; 0 for a type that is none.
     pub fn width(&self) -> usize {
         DataType::named(self.data_type).map_or(0, DataType::width)

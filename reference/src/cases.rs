@@ -1,6 +1,8 @@
-//! The worked cases of document 01, "One tetrahedron, and near misses": (a) to (m) as images.
+//! The worked cases: of document 01, "One tetrahedron, and near misses", (a) to (m) as images; behind them those of
+//! points.
 
 use crate::build::{Image, Node};
+use crate::point_cases::point_cases;
 
 /// The nodes of a tetrahedron's four faces (001).
 const FACE_NODES: [i64; 12] = [1, 3, 2, 1, 2, 4, 2, 3, 4, 3, 1, 4];
@@ -89,12 +91,12 @@ pub fn rind_planes() -> Vec<u8> {
 /// The node of the array of case (m).
 pub const RIND_ARRAY: u64 = 7;
 
-/// All cases, each with its name; (j) has three.
+/// All cases, each with its name; (j) has three, and those of points begin with `p1_`.
 pub fn cases() -> Vec<(&'static str, Vec<u8>)> {
     let a = tetrahedron().to_bytes();
     let b = a[..31].to_vec();
     let d = Image::with_root("HDF5 MotherNode", "Root Node of HDF5 File").to_bytes();
-    vec![
+    let mut cases = vec![
         ("a", a),
         ("b", b),
         ("c", no_node()),
@@ -110,7 +112,9 @@ pub fn cases() -> Vec<(&'static str, Vec<u8>)> {
         ("k", tetrahedron_with(16, &[1, 2, 3, -3])),
         ("l", tetrahedron_with(16, &[1, 2, 3, 3])),
         ("m", rind_planes()),
-    ]
+    ];
+    cases.extend(point_cases());
+    cases
 }
 
 /// The image of one case.

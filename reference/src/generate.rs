@@ -1,10 +1,10 @@
-//! The seeded generator: each index of a run has a target, a lawful image or a rule to be broken, so that a run of a few
-//! hundred images meets every rule that can occur.
+//! The seeded generator: each index of a run has a target, a lawful image, a rule to be broken or a case of points, so
+//! that a run of a few hundred images meets every rule that can occur and every case.
 
 use std::collections::BTreeMap;
 
 use crate::build::Image;
-use crate::damage::{damages_of, flips, Damage, DAMAGES};
+use crate::damage::{damages_of, flips, point_case, Damage, DAMAGES};
 use crate::lawful::{chain, lawful, SizeClass};
 use crate::random::Random;
 use crate::validation::validate;
@@ -20,14 +20,22 @@ enum Target {
     Several,
     /// A lawful image that is as deep as may be.
     Deep,
+    /// A case of points (document 02, §1) of this number.
+    Points(usize),
 }
 
-/// How many indices make a round: each rule once, a lawful image after every second one, and five others.
-const ROUND: u64 = 32 + 18 + 5;
+/// How many indices make a round: each rule once, a lawful image after every second one, five others, and eleven cases
+/// of points, a third of their list.
+const ROUND: u64 = 32 + 18 + 5 + POINTS;
+const POINTS: u64 = 11;
 
-/// The target of an index.
+/// The target of an index: every sixth is a case of points, each case in its turn.
 fn target(index: u64) -> Target {
-    let place = (index % ROUND) as usize;
+    let (round, place) = (index / ROUND, index % ROUND);
+    if place % 6 == 5 {
+        return Target::Points((round * POINTS + place / 6) as usize);
+    }
+    let place = (place - place / 6) as usize;
     let paired = place / 3;
     match place {
         0..48 if place.is_multiple_of(3) => Target::Lawful,
@@ -35,7 +43,7 @@ fn target(index: u64) -> Target {
         48 | 49 => Target::Lawful,
         50..53 => Target::Flips,
         53 => Target::Several,
-        _ if (index / ROUND).is_multiple_of(4) => Target::Deep,
+        _ if round.is_multiple_of(4) => Target::Deep,
         _ => Target::Several,
     }
 }
@@ -56,6 +64,7 @@ pub fn image(seed: u64, index: u64, class: SizeClass) -> Vec<u8> {
             bytes
         }
         Target::Several => several(&mut random, class),
+        Target::Points(number) => points(&mut random, class, number),
     }
 }
 
@@ -71,6 +80,17 @@ fn breaking(random: &mut Random, class: SizeClass, rule: u32) -> Vec<u8> {
         }
     }
     bytes
+}
+
+/// An image with a case of points that keeps within the bounds of the class; a lawful one where none was found.
+fn points(random: &mut Random, class: SizeClass, number: usize) -> Vec<u8> {
+    for _ in 0..TRIES {
+        let mut image = lawful(random, class);
+        if point_case(&mut image, random, number).is_some() && class.holds(&image) {
+            return image.to_bytes();
+        }
+    }
+    lawful(random, class).to_bytes()
 }
 
 /// The bytes of an image after a damage.

@@ -1,4 +1,4 @@
-//! Known labels, the containment table (document 01: placing), and the names that labels are bound to.
+//! Known labels, the containment table (document 01: placing; document 02, §1), and the names that labels are bound to.
 
 use crate::text::{trimmed, Text};
 
@@ -16,12 +16,13 @@ pub enum Label {
     DataArray,
     GridLocation,
     IndexRange,
+    IndexArray,
     Descriptor,
     UserDefinedData,
 }
 
 /// Each known label with its text.
-pub const LABELS: [(Label, &str); 13] = [
+pub const LABELS: [(Label, &str); 14] = [
     (Label::CGNSLibraryVersion, "CGNSLibraryVersion_t"),
     (Label::CGNSBase, "CGNSBase_t"),
     (Label::Zone, "Zone_t"),
@@ -33,6 +34,7 @@ pub const LABELS: [(Label, &str); 13] = [
     (Label::DataArray, "DataArray_t"),
     (Label::GridLocation, "GridLocation_t"),
     (Label::IndexRange, "IndexRange_t"),
+    (Label::IndexArray, "IndexArray_t"),
     (Label::Descriptor, "Descriptor_t"),
     (Label::UserDefinedData, "UserDefinedData_t"),
 ];
@@ -62,7 +64,9 @@ pub fn may_hold(parent: Parent, child: Label) -> bool {
         Parent::Labelled(CGNSBase) => d || matches!(child, Zone),
         Parent::Labelled(Zone) => d || matches!(child, ZoneType | GridCoordinates | FlowSolution | Elements),
         Parent::Labelled(GridCoordinates) => d || matches!(child, Rind | DataArray),
-        Parent::Labelled(FlowSolution) => d || matches!(child, GridLocation | Rind | DataArray),
+        Parent::Labelled(FlowSolution) => {
+            d || matches!(child, GridLocation | Rind | DataArray | IndexRange | IndexArray)
+        }
         Parent::Labelled(Elements) => d || matches!(child, IndexRange | Rind | DataArray),
         Parent::Labelled(DataArray) => matches!(child, Descriptor),
         Parent::Labelled(_) => false,
@@ -70,13 +74,15 @@ pub fn may_hold(parent: Parent, child: Label) -> bool {
 }
 
 /// The fixed name of a label under a parent (rule 21), where it has one.
-pub fn fixed_name(_parent: Parent, label: Label) -> Option<&'static str> {
+pub fn fixed_name(parent: Parent, label: Label) -> Option<&'static str> {
     match label {
         Label::CGNSLibraryVersion => Some("CGNSLibraryVersion"),
         Label::ZoneType => Some("ZoneType"),
         Label::Rind => Some("Rind"),
         Label::GridLocation => Some("GridLocation"),
+        Label::IndexRange if parent == Parent::Labelled(Label::FlowSolution) => Some("PointRange"),
         Label::IndexRange => Some("ElementRange"),
+        Label::IndexArray => Some("PointList"),
         _ => None,
     }
 }

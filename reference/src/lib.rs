@@ -1,4 +1,5 @@
-//! The independent reference program: a validator and reader of CGNS node-table images, written from document 01 alone.
+//! The independent reference program: a validator and reader of CGNS node-table images, written from document 01 and
+//! §1 of document 02 alone.
 //! Every public call answers on every input; a refusal is a [`Rejection`].
 //!
 //! Data flow one way: bytes → header → records → table → tree → rules → calls.
@@ -18,6 +19,8 @@ pub mod labels;
 pub mod lawful;
 pub mod mesh;
 pub mod path;
+pub mod point_cases;
+pub mod points;
 pub mod queries;
 pub mod random;
 pub mod reader;

@@ -2,10 +2,12 @@
 
 use crate::answers::*;
 use crate::faces::face_count;
+use crate::labels::Label;
 use crate::path::path;
 use crate::random::Random;
 use crate::reader::{element_corners, section_entries, Section, ENTRY_LENGTH};
 use crate::table::{check_table, Table};
+use crate::tree::Tree;
 
 /// Queries of an image, each as `QUERY = ANSWER`; the same list for the same seed and image.
 pub fn queries(seed: u64, image: &[u8]) -> Vec<String> {
@@ -19,6 +21,20 @@ pub fn queries(seed: u64, image: &[u8]) -> Vec<String> {
     asker.lists(&nodes);
     asker.absurd_elements();
     asker.lines
+}
+
+/// The validated arrays of flow solutions that have a range or a list of points.
+fn arrays_beside_points(image: &[u8]) -> Vec<u64> {
+    let Ok(tree) = Table::read(image).map(Tree::new) else {
+        return Vec::new();
+    };
+    let has = |node, label| tree.children_labelled(node, label).next().is_some();
+    let beside_points = |&node: &usize| {
+        let flow = tree.parent_labelled(node, Label::FlowSolution);
+        tree.is_validated_as(node, Label::DataArray)
+            && flow.is_some_and(|flow| has(flow, Label::IndexRange) || has(flow, Label::IndexArray))
+    };
+    (0..tree.count()).filter(beside_points).map(|node| node as u64).collect()
 }
 
 struct Asker<'a> {
@@ -39,14 +55,19 @@ impl Asker<'_> {
         self.note("table".into(), table_line(self.image));
     }
 
-    /// The node numbers to be asked for: all of them, or 40 where there are many, and some past the end.
+    /// The node numbers to be asked for: all of them, or 40 and some arrays beside points where there are many, and some
+    /// past the end.
     fn nodes(&mut self) -> Vec<u64> {
         let count = check_table(self.image).unwrap_or(2);
         let mut nodes: Vec<u64> = (0..count).collect();
         if nodes.len() > 40 {
             self.random.shuffle(&mut nodes);
             nodes.truncate(40);
+            let mut beside_points = arrays_beside_points(self.image);
+            self.random.shuffle(&mut beside_points);
+            nodes.extend(beside_points.into_iter().take(6));
             nodes.sort_unstable();
+            nodes.dedup();
         }
         nodes.extend([count, count + 1, u64::from(u32::MAX), 1 << 32, u64::MAX]);
         nodes

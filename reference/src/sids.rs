@@ -1,9 +1,10 @@
-//! Rules 20 to 26 (document 01, "Placing and meaning"), each as one test that says whether it holds at a validated node.
+//! Rules 20 to 26 (document 01, "Placing and meaning"; document 02, §1), each as one test that says whether it holds at a validated node.
 //! A rule that does not concern a node holds there.
 
 use crate::bytes::Integers;
 use crate::data_type::DataType;
 use crate::labels::{fixed_name, may_hold, once_only, Label, Parent};
+use crate::points::{has_range_and_list, is_point_range, list_type_lawful, range_type_lawful, range_values_lawful};
 use crate::sizes::{data_size_of, index_dimension, is_structured, is_unstructured};
 use crate::sizes::{read_zone_sizes, ZoneSizes, MAX_NUMBER};
 use crate::tree::Tree;
@@ -66,7 +67,9 @@ pub fn type_lawful(tree: &Tree, node: usize) -> bool {
             let zone = tree.zone_above(node);
             data_type == DataType::I4 && zone.is_some_and(|zone| dimensions == [2 * index_dimension(tree, zone)])
         }
+        Label::IndexRange if is_point_range(tree, node) => range_type_lawful(tree, node),
         Label::IndexRange => data_type.is_integer() && dimensions == [2],
+        Label::IndexArray => list_type_lawful(tree, node),
         Label::DataArray => array_type_lawful(tree, node, data_type, dimensions),
     }
 }
@@ -102,7 +105,9 @@ pub fn values_lawful(tree: &Tree, node: usize) -> bool {
         Label::Zone => zone_lawful(tree, node),
         Label::Rind => numbers.all(|planes| planes >= 0),
         Label::Elements => numbers.get(1).is_some_and(|boundary| boundary >= 0),
+        Label::IndexRange if is_point_range(tree, node) => range_values_lawful(numbers),
         Label::IndexRange => range_of(numbers).is_some(),
+        Label::FlowSolution => !has_range_and_list(tree, node),
         _ => true,
     }
 }

@@ -1,8 +1,9 @@
 //! Sizes of the SIDS (001): CellDimension, IndexDimension, a zone's VertexSize, CellSize and VertexSizeBoundary, Rind,
-//! GridLocation, and from them DataSize.
+//! GridLocation, and from them or from a flow solution's points DataSize.
 
 use crate::bytes::Integers;
 use crate::labels::Label;
+use crate::points::point_count;
 use crate::tree::Tree;
 
 /// The greatest number that a zone or an element range may hold.
@@ -95,9 +96,19 @@ fn rind<'a>(tree: &Tree<'a>, node: usize) -> Integers<'a> {
     tree.conforming_child(node, "Rind", Label::Rind).map_or(Integers::NONE, |child| tree.table.integers(child))
 }
 
-/// DataSize of the arrays under a GridCoordinates_t or FlowSolution_t of a zone: VertexSize, or CellSize at cell
-/// centres, plus in each direction the two rind numbers of that direction.
+/// DataSize of one direction, of so many points. More than 64 bits hold is more than any array has, and so is the
+/// greatest number of 64 bits.
+fn one_direction(points: u128) -> DataSize {
+    DataSize { directions: 1, sizes: [u64::try_from(points).unwrap_or(u64::MAX), 0, 0] }
+}
+
+/// DataSize of the arrays under a GridCoordinates_t or FlowSolution_t of a zone: where a flow solution names points, one
+/// direction with their count; else VertexSize, or CellSize at cell centres, plus in each direction the two rind
+/// numbers of that direction.
 pub fn data_size_under(tree: &Tree, node: usize, zone: usize) -> DataSize {
+    if let Some(points) = point_count(tree, node) {
+        return one_direction(points);
+    }
     let zone_sizes = zone_sizes(tree, zone);
     let core = if at_cell_centers(tree, node) { zone_sizes.cell_size } else { zone_sizes.vertex_size };
     let rind = rind(tree, node);

@@ -68,12 +68,15 @@ impl<'a> Tree<'a> {
         self.children(node).iter().copied().filter(move |&child| self.label(child) == Some(label))
     }
 
+    /// The child of a node that has the name and the label, whether it conforms or not.
+    pub fn child(&self, node: usize, name: &str, label: Label) -> Option<usize> {
+        self.children_labelled(node, label).find(|&child| self.is_named(child, name))
+    }
+
     /// The conforming child (document 01: the looked-up child that counts): it has the name and the label and itself
     /// meets rules 24 and 25.
     pub fn conforming_child(&self, node: usize, name: &str, label: Label) -> Option<usize> {
-        self.children_labelled(node, label)
-            .find(|&child| self.is_named(child, name))
-            .filter(|&child| self.conforms(child))
+        self.child(node, name, label).filter(|&child| self.conforms(child))
     }
 
     /// Whether a node meets rules 24 and 25.

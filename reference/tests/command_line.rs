@@ -20,13 +20,14 @@ fn folder(name: &str) -> PathBuf {
 #[test]
 fn calls() {
     let place = folder("cases");
-    assert_eq!(run(&["cases", place.to_str().unwrap()]), "cases 15\n");
+    assert_eq!(run(&["cases", place.to_str().unwrap()]), "cases 26\n");
     let file = |name: &str| place.join(format!("{name}.img")).to_str().unwrap().to_string();
     let (a, l) = (file("a"), file("l"));
     assert_eq!(run(&["validate", &a]), "accept 17 0 1 2\n");
     assert_eq!(run(&["table", &file("i")]), "accept 17\n");
     assert_eq!(run(&["path", &a, "10"]), "/Base/Zone1/Faces/ElementRange\n");
     assert_eq!(run(&["sizes", &file("m"), "7"]), "sizes 3 17 33 11\n");
+    assert_eq!(run(&["sizes", &file("p1_wall"), "7"]), "sizes 1 12\n");
     let entries = "entries 2 9 22 1 4 1736 4 1756 4 12 13 23 5 5 1820 4 1828 4 4\n";
     assert_eq!(run(&["entries", &a, "3"]), entries);
     let corner = ["corner", &a, "9", "22", "1", "4", "1736", "4", "1756", "4", "12", "4", "1"];

@@ -1,13 +1,15 @@
-//! The generator: every rule that can occur is met, the same seed gives the same images, and every call ends properly on
-//! every image and keeps what an acceptance promises.
+//! The generator: every rule that can occur is met, cases of points are answered as they say, the same seed gives the same
+//! images, and every call ends properly on every image and keeps what an acceptance promises.
 
 use reference::build::Image;
-use reference::damage::DAMAGES;
+use reference::damage::{point_case, DAMAGES, POINT_CASES};
 use reference::generate::{image, Summary};
 use reference::lawful::{lawful, SizeClass};
+use reference::points::point_count;
 use reference::queries::queries;
 use reference::random::Random;
 use reference::table::Table;
+use reference::validation::validated_tree;
 use reference::{corner, face_count, face_usage, path, section_entries, validate, Section};
 
 #[test]
@@ -32,6 +34,55 @@ fn lawful_images_are_accepted() {
             assert!(validate(&image).is_ok(), "{index}: {:?}", validate(&image));
             assert!(image.len() <= bytes);
         }
+    }
+}
+
+#[test]
+fn cases_of_points_are_answered_as_they_say() {
+    for number in 0..4 * POINT_CASES.len() {
+        let mut made = 0;
+        for index in 0..2_000 {
+            let mut random = Random::new(number as u64, index);
+            let mut image = lawful(&mut random, SizeClass::Small);
+            if let Some(answer) = point_case(&mut image, &mut random, number) {
+                let verdict = validate(&image.to_bytes());
+                let name = POINT_CASES[number % POINT_CASES.len()].0;
+                assert!(answer.is(&verdict), "{name}, {index}: {answer:?} {verdict:?}");
+                made += 1;
+            }
+            if made == 20 {
+                break;
+            }
+        }
+        assert_eq!(made, 20, "{number}");
+    }
+}
+
+#[test]
+fn sizes_of_arrays_beside_points_are_asked_for() {
+    for (class, count) in [(SizeClass::Small, 1_000), (SizeClass::Medium, 60)] {
+        let (mut answered, mut structured) = (0, 0);
+        for index in 0..count {
+            let image = image(6, index, class);
+            let Ok(tree) = validated_tree(&image) else {
+                continue;
+            };
+            for line in queries(index, &image) {
+                let Some((node, sizes)) = line.strip_prefix("sizes ").and_then(|rest| rest.split_once(" = sizes "))
+                else {
+                    continue;
+                };
+                let node: usize = node.parse().unwrap();
+                let flow = tree.parent(node).unwrap();
+                if point_count(&tree, flow).is_some() {
+                    assert!(sizes.starts_with("1 "), "{line}");
+                    answered += 1;
+                    let zone = tree.parent(flow).unwrap();
+                    structured += usize::from(tree.table.dimensions(zone)[0] > 1);
+                }
+            }
+        }
+        assert!(answered > 30 && structured > 10, "{answered} {structured}");
     }
 }
 

@@ -1,13 +1,13 @@
-//! The worked cases (a) to (m) of document 01, with their face usage and sizes.
+//! The worked cases (a) to (m) of document 01, with their face usage and sizes, and those of points (document 02, §1).
 
 use reference::answers::validate_line;
 use reference::bytes::u32_at;
-use reference::cases::{case, RIND_ARRAY};
+use reference::cases::{case, cases, RIND_ARRAY};
 
 use reference::{check_table, data_size, face_usage, validate, Counts, Rejection};
 
 /// The cases with their verdicts.
-const VERDICTS: [(&str, &str); 15] = [
+const VERDICTS: [(&str, &str); 26] = [
     ("a", "accept 17 0 1 2"),
     ("b", "refuse 1 0"),
     ("c", "refuse 4 0"),
@@ -23,10 +23,22 @@ const VERDICTS: [(&str, &str); 15] = [
     ("k", "accept 17 0 1 2"),
     ("l", "accept 17 0 1 2"),
     ("m", "accept 8 0 1 0"),
+    ("p1_wall", "accept 8 0 1 0"),
+    ("p1_above", "refuse 25 7"),
+    ("p1_least", "refuse 25 7"),
+    ("p1_both", "refuse 25 5"),
+    ("p1_list", "accept 8 0 1 0"),
+    ("p1_zone_size", "refuse 26 7"),
+    ("p1_in_zone", "refuse 20 6"),
+    ("p1_range_name", "refuse 21 6"),
+    ("p1_list_name", "refuse 21 6"),
+    ("p1_product", "refuse 26 7"),
+    ("p1_great", "accept 7 0 1 0"),
 ];
 
 #[test]
 fn verdicts() {
+    assert_eq!(cases().len(), VERDICTS.len());
     for (name, verdict) in VERDICTS {
         assert_eq!(validate_line(&case(name)), verdict, "case ({name})");
     }
@@ -67,4 +79,13 @@ fn sizes_of_m() {
     let size = data_size(&case("m"), RIND_ARRAY).unwrap();
     assert_eq!(size.dimensions(), [17, 33, 11]);
     assert_eq!(size.directions, 3);
+}
+
+#[test]
+fn sizes_of_points() {
+    for (name, count) in [("p1_wall", 12), ("p1_list", 5)] {
+        let size = data_size(&case(name), 7).unwrap();
+        assert_eq!(size.dimensions(), [count]);
+        assert_eq!(size.directions, 1);
+    }
 }

@@ -85,14 +85,15 @@ module _ {b : List ℕ} (g : Sound b) (faces : Bool) (s : ℕ) (e : isRanged (tr
       let t = treeOf b in
       and-second (validatedAs t Elements s && (faces ⊃ (typeLawful t s && valueLawful t s && eqb (elementType t s) NGON))) _ e
 
+  role-is : role (treeOf b) s ≡ Elements
+  unfolding validatedAs
+  role-is = eqb-true _ _ (and-first (eqb (role (treeOf b) s) Elements) _ is-section)
+
   pub ranged : Ranged b s
-  ranged = range-ready g s range-found
+  ranged = range-ready g s role-is range-found
 
   pub zone-inside : s < nodeCount b → parent (treeOf b) s < nodeCount b
-  unfolding validatedAs
-  zone-inside h =
-      let t = treeOf b in
-      held-inside b g s h Elements (eqb-true _ _ (and-first (eqb (role t s) Elements) _ is-section)) (λ (z : _≡_ {A = ℕ} 7 14). absurd (omega arith))
+  zone-inside h = held-inside b g s h Elements role-is refl
 
   -- its range is a child of its own, which is no section
   own-child : (rangeOf (treeOf b) s < nodeCount b) × (parent (treeOf b) (rangeOf (treeOf b) s) ≡ s) × (isRanged (treeOf b) faces (rangeOf (treeOf b) s) ≡ false)

@@ -28,7 +28,7 @@ use Rattle.elements.proofs.Stored.{type-section, stores-pair, range-rea
 
 -- the root is no section
 no-root : (t : Tree) (s : ℕ) → role t s ≡ Elements → s ≡ 0 → ⊥
-no-root t s e = not-root t s Elements e (λ (z : _≡_ {A = ℕ} 7 14). absurd (omega arith))
+no-root t s e = not-root t s Elements e refl
 
 module _ (t : Tree) (s : ℕ) (e : role t s ≡ Elements) where
   placed-is : placed t s ≡ (mayHold (role t (parent t s)) Elements && unstructured t (parent t s))
@@ -78,7 +78,7 @@ section-ready {b} {s} g v e c =
       own = stores-pair (g .sound) s (g .inside) (whole-four t s (and-first (typed t s (I4 ∷ [])) _ own)) (and-second (typed t s (I4 ∷ [])) _ own);
       below = low;
       zone = zone-has b (g .sound) (parent t s) (omega arith) z (earlier-rule b s g 24 (parent t s) low vz);
-      ranged = range-ready (g .sound) s (and-first (found t (rangeOf t s)) _ full);
+      ranged = range-ready (g .sound) s e (and-first (found t (rangeOf t s)) _ full);
       connectivity = connectivity-stores (g .sound) s e (and-second (found t (rangeOf t s)) _ full);
       offsets = λ h. offsets-stores (g .sound) s e h;
     }

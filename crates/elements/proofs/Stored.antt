@@ -14,7 +14,8 @@ use Rattle.model.specs.Image.{Tree, treeOf, nodeCount, node, name, parent, widt
 use Rattle.model.specs.Given.{Sound}
 use Rattle.model.specs.Records.{product}
 use Rattle.model.specs.Containment.{role, found, Elements, IndexRange, DataArray}
-use Rattle.model.specs.Values.{typed, shaped, flat, size, typeLawful, valueLawful, arrayType, sectionArrayType, indexArray, rangeValue, conforming, rangeOf}
+use Rattle.model.specs.Values.{typed, shaped, flat, size, typeLawful, valueLawful, arrayType, sectionArrayType, elementArray, conforming, rangeOf}
+use Rattle.model.specs.Values.{rangeShape, rangeValue, indexRangeValue}
 use Rattle.model.specs.Values.{offsetsOf, connectivityOf}
 use Rattle.model.specs.Elements.{firstElement, lastElement}
 use Rattle.model.specs.Corner.{numberAt}
@@ -69,25 +70,25 @@ stores-pair {b} s j h w e = stores-by s j h w (2 ∷ []) (shaped-is (treeOf b) j
 
 -- rule 24 of an ElementRange, of a section, of an array under a section
 module _ (t : Tree) (j : ℕ) where
-  pub type-range : role t j ≡ IndexRange → typeLawful t j ≡ (typed t j (I4 ∷ I8 ∷ []) && shaped t j (2 ∷ []))
-  unfolding typeLawful row
-  type-range e = rw e
+  pub type-range : role t j ≡ IndexRange → role t (parent t j) ≡ Elements → typeLawful t j ≡ (typed t j (I4 ∷ I8 ∷ []) && shaped t j (2 ∷ []))
+  unfolding typeLawful rangeShape row
+  type-range e p = rw (e, p)
 
   pub type-section : role t j ≡ Elements → typeLawful t j ≡ (typed t j (I4 ∷ []) && shaped t j (2 ∷ []))
   unfolding typeLawful row
   type-section e = rw e
 
-  pub value-range : role t j ≡ IndexRange → valueLawful t j ≡ rangeValue t j
-  unfolding valueLawful row
-  value-range e = rw e
+  pub value-range : role t j ≡ IndexRange → role t (parent t j) ≡ Elements → valueLawful t j ≡ rangeValue t j
+  unfolding valueLawful indexRangeValue row
+  value-range e p = rw (e, p)
 
-  pub type-array : role t j ≡ DataArray → role t (parent t j) ≡ Elements → indexArray t j ≡ true → typeLawful t j ≡ (typed t j (I4 ∷ I8 ∷ []) && flat t j)
+  pub type-array : role t j ≡ DataArray → role t (parent t j) ≡ Elements → elementArray t j ≡ true → typeLawful t j ≡ (typed t j (I4 ∷ I8 ∷ []) && flat t j)
   unfolding typeLawful row arrayType sectionArrayType
   type-array e p n = rw (e, p, n)
 
 -- a conforming index array, and a conforming ElementRange
 module _ {b : List ℕ} (s : Sound b) (i : ℕ) where
-  index-stores : role (treeOf b) i ≡ Elements → (n : List ℕ) → ((j : ℕ) → spells (name (treeOf b) j) n ≡ true → indexArray (treeOf b) j ≡ true)
+  index-stores : role (treeOf b) i ≡ Elements → (n : List ℕ) → ((j : ℕ) → spells (name (treeOf b) j) n ≡ true → elementArray (treeOf b) j ≡ true)
       → found (treeOf b) (conforming (treeOf b) i DataArray n) ≡ true → Indexed b (conforming (treeOf b) i DataArray n)
   unfolding treeOf
   index-stores r n f h =
@@ -98,22 +99,23 @@ module _ {b : List ℕ} (s : Sound b) (i : ℕ) where
       stores-flat s j (conforming-inside t i DataArray n h) (sym e ∙ conforming-type t i DataArray n h)
 
   pub connectivity-stores : role (treeOf b) i ≡ Elements → found (treeOf b) (connectivityOf (treeOf b) i) ≡ true → Indexed b (connectivityOf (treeOf b) i)
-  unfolding connectivityOf indexArray
+  unfolding connectivityOf elementArray
   connectivity-stores r h = index-stores r (text "ElementConnectivity") (λ j e. or-left _ _ e) h
 
   pub offsets-stores : role (treeOf b) i ≡ Elements → found (treeOf b) (offsetsOf (treeOf b) i) ≡ true → Indexed b (offsetsOf (treeOf b) i)
-  unfolding offsetsOf indexArray
+  unfolding offsetsOf elementArray
   offsets-stores r h = index-stores r (text "ElementStartOffset") (λ j e. or-right (spells (name (treeOf b) j) (text "ElementConnectivity")) _ e) h
 
-  pub range-ready : found (treeOf b) (rangeOf (treeOf b) i) ≡ true → Ranged b i
+  pub range-ready : role (treeOf b) i ≡ Elements → found (treeOf b) (rangeOf (treeOf b) i) ≡ true → Ranged b i
   unfolding rangeOf rangeValue firstElement lastElement treeOf
-  range-ready h =
+  range-ready q h =
       let t = treeOf b in
       let n = text "ElementRange" in
       let j = conforming t i IndexRange n in
       let r = conforming-role t i IndexRange n h in
-      let e = sym (type-range t j r) ∙ conforming-type t i IndexRange n h in
-      let v = sym (value-range t j r) ∙ conforming-value t i IndexRange n h in
+      let p = ap (role t) (conforming-parent t i IndexRange n h) ∙ q in
+      let e = sym (type-range t j r p) ∙ conforming-type t i IndexRange n h in
+      let v = sym (value-range t j r p) ∙ conforming-value t i IndexRange n h in
       let low = and-first (leb 1 (number t j 0) && leb (number t j 0) (number t j 1)) _ v in
       record {
         range = stores-pair s j (conforming-inside t i IndexRange n h) (whole-wide t j (and-first (typed t j (I4 ∷ I8 ∷ [])) _ e))

@@ -48,7 +48,7 @@ module _ {b index : List ℕ} {s : ℕ} (n : Section b index s) where
   section-kind = kind-role (treeOf b) s (parts own-zone .is-validated) (role-is own-zone)
 
   section-ranged : Ranged b s
-  section-ranged = range-ready (n .accepted .sound) s (range-found own-zone)
+  section-ranged = range-ready (n .accepted .sound) s (role-is own-zone) (range-found own-zone)
 
   -- its range, as it is read
   module _ {r : ℕ} (q : r ≡ rangeOf (treeOf b) s) where
@@ -101,7 +101,7 @@ module _ {b : List ℕ} (a : Accepted b) (z : ℕ) where
     face-in-zone = in-zone s h (and-first (sectionOf (treeOf b) z s) _ (sym (face-section-is s h) ∙ e))
 
     pub face-ranged : Ranged b s
-    face-ranged = range-ready (a .sound) s (range-found face-in-zone)
+    face-ranged = range-ready (a .sound) s (role-is face-in-zone) (range-found face-in-zone)
 
     -- the faces that it brings
     pub faces-are : facesIn (treeOf b) z s ≡ elementCount (treeOf b) s

@@ -188,7 +188,7 @@ pub extern "C" fn gongaurora_export_array_value(
     )
 }
 
-// The DataSize of an array. The answer, five words: node, directions, and the size in i, j and k, 0 where the zone lacks the direction.
+// The DataSize of an array. The answer, five words: node, directions, and the size in i, j and k, 0 where the array lacks the direction.
 #[no_mangle]
 pub extern "C" fn gongaurora_export_data_size(image: &[u8], node: u64, answer: &mut [u8]) -> u64
     ensures { λ r. ⌜ r ≡ exportRule 5 (now (answer .entry)) (dataSizeAnswer (now (image .entry)) node) ⌝ }

@@ -19,19 +19,19 @@ use Rattle.labels.proofs.Arms.{each}
 use Rattle.index.specs.Keys.{keyRoles, slotKeys, keyAt, keyRole, keyName, isKey, hasRole, firstSlot, SlotOf}
 
 -- what holds of every slot of every kind holds of this one
-every-slot : (p : ℕ → ℕ → Bool) → everyFrom (λ (a : ℕ). everyFrom (p a) 4 0) 15 0 ≡ true → (above k : ℕ) → above < 15 → k < 4 → p above k ≡ true
-every-slot p e above k h l = each (p above) 4 (each (λ (a : ℕ). everyFrom (p a) 4 0) 15 e above h) k l
+every-slot : (p : ℕ → ℕ → Bool) → everyFrom (λ (a : ℕ). everyFrom (p a) 4 0) 16 0 ≡ true → (above k : ℕ) → above < 16 → k < 4 → p above k ≡ true
+every-slot p e above k h l = each (p above) 4 (each (λ (a : ℕ). everyFrom (p a) 4 0) 16 e above h) k l
 
-pub key-few : (above k : ℕ) → above < 15 → k < 4 → keyAt above k ≤ 7
+pub key-few : (above k : ℕ) → above < 16 → k < 4 → keyAt above k ≤ 9
 unfolding everyFrom keyAt row slotKeys
-key-few above k h l = leb-true (keyAt above k) 7 (every-slot (λ a i. leb (keyAt a i) 7) refl above k h l)
+key-few above k h l = leb-true (keyAt above k) 9 (every-slot (λ a i. leb (keyAt a i) 9) refl above k h l)
 
 -- a role that a node can have is that of a key
-pub some-key : (key : ℕ) {r : ℕ} → key ≤ 7 → getD keyRoles key 15 ≡ r → r < 15 → key < 7
+pub some-key : (key : ℕ) {r : ℕ} → key ≤ 9 → getD keyRoles key 16 ≡ r → r < 16 → key < 9
 unfolding keyRoles
 some-key key h e l =
-    elim (ℕ-discrete key 7) [
-      | yes q ↦ absurd (let f : _≡_ {A = ℕ} 15 _ = rw q at e in omega arith)
+    elim (ℕ-discrete key 9) [
+      | yes q ↦ absurd (let f : _≡_ {A = ℕ} 16 _ = rw q at e in omega arith)
       | no z ↦ omega (arith, z)
     ]
 
@@ -55,13 +55,13 @@ one-text (z ∷ s) (a ∷ x) (b ∷ y) c e =
 
 -- two slots of a node differ in their roles or in their names
 abbrev differ : ℕ → ℕ → ℕ → Bool
-differ a i k = eqb i k || (not (eqb (keyRole a i) (keyRole a k)) || (eqb (keyRole a i) 15 || clash (keyName a i) (keyName a k)))
+differ a i k = eqb i k || (not (eqb (keyRole a i) (keyRole a k)) || (eqb (keyRole a i) 16 || clash (keyName a i) (keyName a k)))
 
-all-differ : (a i k : ℕ) → a < 15 → i < 4 → k < 4 → differ a i k ≡ true
+all-differ : (a i k : ℕ) → a < 16 → i < 4 → k < 4 → differ a i k ≡ true
 unfolding everyFrom keyAt keyRole keyName row slotKeys keyRoles knownNames text
 all-differ a i k h l m = each (differ a i) 4 (every-slot (λ b n. everyFrom (differ b n) 4 0) refl a i h l) k m
 
-module _ (t : Tree) (above j : ℕ) {below : ℕ} (h : above < 15) (b : below ≡ role t j) (r : below < 15) where
+module _ (t : Tree) (above j : ℕ) {below : ℕ} (h : above < 16) (b : below ≡ role t j) (r : below < 16) where
   other-slot : (i k : ℕ) → i < 4 → k < 4 → (i ≡ k → ⊥) → isKey t above i j ≡ true → isKey t above k j ≡ false
   unfolding isKey
   other-slot i k l m z e =
@@ -70,8 +70,8 @@ module _ (t : Tree) (above j : ℕ) {below : ℕ} (h : above < 15) (b : below �
       elim (ℕ-discrete (role t j) (keyRole above k)) [
         | yes p ↦
             let n : keyRole above i ≡ keyRole above k = sym q ∙ p in
-            let o : keyRole above i ≡ 15 → ⊥ = λ y. absurd (omega arith) in
-            rw (one-text (name t j) (keyName above i) (keyName above k) (rw (ne-eqb i k z, eq-eqb _ _ n, ne-eqb (keyRole above i) 15 o) at
+            let o : keyRole above i ≡ 16 → ⊥ = λ y. absurd (omega arith) in
+            rw (one-text (name t j) (keyName above i) (keyName above k) (rw (ne-eqb i k z, eq-eqb _ _ n, ne-eqb (keyRole above i) 16 o) at
             (all-differ above i k h l m)) s) (and-false (eqb (role t j) (keyRole above k)))
         | no n ↦ rw (ne-eqb (role t j) (keyRole above k) n)
       ]
@@ -105,7 +105,7 @@ module _ (t : Tree) (above j : ℕ) {below : ℕ} (h : above < 15) (b : below �
       ]
 
 -- node j has the role `below`, and slot k a key of the role r
-module _ (t : Tree) (above k j : ℕ) {key r below : ℕ} (e : key ≡ keyAt above k) (f : r ≡ getD keyRoles key 15) (g : below ≡ role t j) where
+module _ (t : Tree) (above k j : ℕ) {key r below : ℕ} (e : key ≡ keyAt above k) (f : r ≡ getD keyRoles key 16) (g : below ≡ role t j) where
   pub key-off : (r ≡ below → ⊥) → false ≡ isKey t above k j
   unfolding isKey keyRole
   key-off z = rw (← e, ← f, ← g, ne-eqb below r (λ q. z (sym q)))

@@ -35,7 +35,7 @@ pub own-kind : (above role : ℕ) → (above ≡ 0 → ⊥) → (above ≡ UserD
 unfolding kindBelow
 own-kind above role e f = rw (ne-eqb above 0 e, ne-eqb above UserDefinedData f)
 
-pub kind-root : (t : Tree) → 14 ≡ kind t 0
+pub kind-root : (t : Tree) → 15 ≡ kind t 0
 unfolding kind role
 kind-root t = rw (← validated-root t 0 refl)
 
@@ -146,7 +146,7 @@ kind-parts t j {r} e h = by-test (validated t j) e
     by-test false q = absurd (omega arith)
 
 -- the roles of validated nodes are few
-pub role-few : {b index : List ℕ} → Index b index → (j : ℕ) → j < nodeCount b → validated (treeOf b) j ≡ true → role (treeOf b) j < 15
+pub role-few : {b index : List ℕ} → Index b index → (j : ℕ) → j < nodeCount b → validated (treeOf b) j ≡ true → role (treeOf b) j < 16
 role-few {b} x j h v = rw (← kind-role (treeOf b) j v refl, ← x .rows .kinds j h) (x .rows .few j h)
 
 -- a slot tells the model's look-up
@@ -215,7 +215,7 @@ no-children {b} j k v s h q =
     record { inside = λ y. absurd (omega arith); at = λ y. absurd (omega arith); before = λ i l m. rw (no-child b s j h i (omega arith)) }
 
 -- row j begun, after those before it: no node up to j is its child
-pub begin-row : {b index index′ : List ℕ} {j v : ℕ} → Sound b → Rows b index j j → RowBegun index j v index′ → j < nodeCount b → v ≡ kind (treeOf b) j → v < 15
+pub begin-row : {b index index′ : List ℕ} {j v : ℕ} → Sound b → Rows b index j j → RowBegun index j v index′ → j < nodeCount b → v ≡ kind (treeOf b) j → v < 16
     → Rows b index′ (j + 1) j
 begin-row {b} {index} {index′} {j} {v} s t r h e f =
     let z : 4096 * v / 4096 ≡ v = omega arith in

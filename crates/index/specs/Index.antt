@@ -47,7 +47,7 @@ pub record First (p : ℕ → Bool) (n v : ℕ) : Type 0 where
 pub record Rows (b index : List ℕ) (m n : ℕ) : Type 0 where
   pub long : 4 * nodeCount b ≤ length index
   pub kinds : (j : ℕ) → j < m → kindAt index j ≡ kind (treeOf b) j
-  pub few : (j : ℕ) → j < m → kindAt index j < 15
+  pub few : (j : ℕ) → j < m → kindAt index j < 16
   pub slots : (p k : ℕ) → p < m → k < 4 → First (isSlotChild (treeOf b) p k) n (slotAt index p k)
 
 -- a row that is begun: the kind, and no child yet; all others are as they were

@@ -8,28 +8,28 @@ use lib.ListN.{getD}
 use Rattle.model.specs.Lists.{Row, _has_, row, seekFrom}
 use Rattle.model.specs.Bytes.{spells}
 use Rattle.model.specs.Image.{Tree, name}
-use Rattle.model.specs.Containment.{Zone, ZoneType, GridCoordinates, FlowSolution, Elements, IndexRange, Rind, GridLocation, DataArray, role}
+use Rattle.model.specs.Containment.{Zone, ZoneType, GridCoordinates, FlowSolution, Elements, IndexRange, Rind, GridLocation, DataArray, IndexArray, role}
 use Rattle.labels.specs.Padded.{knownNames}
 
--- the keys are known names, by their place, with a role each; no node has the role 15
+-- the keys are known names, by their place, with a role each; no node has the role 16
 unfoldable pub keyRoles : List ℕ
-keyRoles = 15 ∷ ZoneType ∷ Rind ∷ GridLocation ∷ IndexRange ∷ DataArray ∷ DataArray ∷ []
+keyRoles = 16 ∷ ZoneType ∷ Rind ∷ GridLocation ∷ IndexRange ∷ DataArray ∷ DataArray ∷ IndexRange ∷ IndexArray ∷ []
 
 -- the keys of a node's slots, by what it is validated as
 unfoldable pub slotKeys : List (Row (List ℕ))
 slotKeys =
     Zone has (1 ∷ [])
     ∷ GridCoordinates has (2 ∷ [])
-    ∷ FlowSolution has (2 ∷ 3 ∷ [])
+    ∷ FlowSolution has (2 ∷ 3 ∷ 7 ∷ 8 ∷ [])
     ∷ Elements has (4 ∷ 5 ∷ 6 ∷ [])
     ∷ []
 
--- the key of slot k; 7 where the slot has none
+-- the key of slot k; 9 where the slot has none
 unfoldable pub keyAt : ℕ → ℕ → ℕ
-keyAt above k = getD (row above [] slotKeys) k 7
+keyAt above k = getD (row above [] slotKeys) k 9
 
 unfoldable pub keyRole : ℕ → ℕ → ℕ
-keyRole above k = getD keyRoles (keyAt above k) 15
+keyRole above k = getD keyRoles (keyAt above k) 16
 
 unfoldable pub keyName : ℕ → ℕ → List ℕ
 keyName above k = getD knownNames (keyAt above k) []

@@ -14,33 +14,33 @@ use labels::roles;
 pub const WIDTH: usize = 4;
 
 // No node has this role.
-const NO_ROLE: u64 = 15;
+const NO_ROLE: u64 = 16;
 
-// The keys of the four slots of a node, by its kind: a digit each, that of slot 0 rightmost. A key is a known name; 7 where a slot has none.
+// The keys of the four slots of a node, by its kind: a digit each, that of slot 0 rightmost. A key is a known name; 9 where a slot has none.
 fn slot_keys(above: u64) -> u64
-    requires { ⌜ above < 15 ⌝ }
+    requires { ⌜ above < 16 ⌝ }
     ensures { λ r. ⌜ Digits (keyAt above) 4 r ⌝ }
 {
     match above {
-        roles::ZONE => 0x7771,
-        roles::GRID_COORDINATES => 0x7772,
-        roles::FLOW_SOLUTION => 0x7732,
-        roles::ELEMENTS => 0x7654,
-        _ => 0x7777,
+        roles::ZONE => 0x9991,
+        roles::GRID_COORDINATES => 0x9992,
+        roles::FLOW_SOLUTION => 0x8732,
+        roles::ELEMENTS => 0x9654,
+        _ => 0x9999,
     }
 }
 
 fn key_at(above: u64, k: usize) -> usize
-    requires { ⌜ (above < 15) × (k < 4) ⌝ }
-    ensures { λ r. ⌜ (r ≡ keyAt above k) × (r ≤ 7) ⌝ }
+    requires { ⌜ (above < 16) × (k < 4) ⌝ }
+    ensures { λ r. ⌜ (r ≡ keyAt above k) × (r ≤ 9) ⌝ }
 {
     labels::digit(slot_keys(above), k as u64) as usize
 }
 
 // The role that goes with a key.
 fn key_role(key: usize) -> u64
-    requires { ⌜ key ≤ 7 ⌝ }
-    ensures { λ r. ⌜ r ≡ getD keyRoles key 15 ⌝ }
+    requires { ⌜ key ≤ 9 ⌝ }
+    ensures { λ r. ⌜ r ≡ getD keyRoles key 16 ⌝ }
 {
     match key {
         names::ZONE_TYPE => roles::ZONE_TYPE,
@@ -49,26 +49,28 @@ fn key_role(key: usize) -> u64
         names::ELEMENT_RANGE => roles::INDEX_RANGE,
         names::ELEMENT_CONNECTIVITY => roles::DATA_ARRAY,
         names::ELEMENT_START_OFFSET => roles::DATA_ARRAY,
+        names::POINT_RANGE => roles::INDEX_RANGE,
+        names::POINT_LIST => roles::INDEX_ARRAY,
         _ => NO_ROLE,
     }
 }
 
 // The first slot for a child, by the kind of the parent: a digit for each role of the child, role 0 rightmost; 4 where there is none.
 fn first_slots(above: u64) -> u64
-    requires { ⌜ above < 15 ⌝ }
-    ensures { λ r. ⌜ Digits (firstSlot above) 15 r ⌝ }
+    requires { ⌜ above < 16 ⌝ }
+    ensures { λ r. ⌜ Digits (firstSlot above) 16 r ⌝ }
 {
     match above {
-        roles::ZONE => 0x444_4444_4440_4444,
-        roles::GRID_COORDINATES => 0x444_4404_4444_4444,
-        roles::FLOW_SOLUTION => 0x444_4104_4444_4444,
-        roles::ELEMENTS => 0x444_1440_4444_4444,
-        _ => 0x444_4444_4444_4444,
+        roles::ZONE => 0x4444_4444_4440_4444,
+        roles::GRID_COORDINATES => 0x4444_4404_4444_4444,
+        roles::FLOW_SOLUTION => 0x4344_4102_4444_4444,
+        roles::ELEMENTS => 0x4444_1440_4444_4444,
+        _ => 0x4444_4444_4444_4444,
     }
 }
 
 fn first_slot(above: u64, below: u64) -> usize
-    requires { ⌜ (above < 15) × (below < 15) ⌝ }
+    requires { ⌜ (above < 16) × (below < 16) ⌝ }
     ensures { λ r. ⌜ r ≡ firstSlot above below ⌝ }
 {
     labels::digit(first_slots(above), below) as usize
@@ -76,8 +78,8 @@ fn first_slot(above: u64, below: u64) -> usize
 
 // Is node j, of this role, what slot k is for, under a parent of this kind?
 fn is_key(image: &[u8], above: u64, below: u64, k: usize, j: usize) -> bool
-    requires { ⌜ (Laid (now image) × (j < nodeCount (now image))) × ((above < 15) × (k < 4)) ⌝ }
-    requires { ⌜ (below ≡ role (treeOf (now image)) j) × (below < 15) ⌝ }
+    requires { ⌜ (Laid (now image) × (j < nodeCount (now image))) × ((above < 16) × (k < 4)) ⌝ }
+    requires { ⌜ (below ≡ role (treeOf (now image)) j) × (below < 16) ⌝ }
     ensures { λ r. ⌜ r ≡ isKey (treeOf (now (image .entry))) above k j ⌝ }
 {
     let key = key_at(above, k);
@@ -89,8 +91,8 @@ fn is_key(image: &[u8], above: u64, below: u64, k: usize, j: usize) -> bool
 
 // The slot that node j, of this role, is for, under a parent of this kind; 4 where it is for none. Few nodes come to a comparison of names.
 pub fn slot_of(image: &[u8], above: u64, below: u64, j: usize) -> usize
-    requires { ⌜ (Laid (now image) × (j < nodeCount (now image))) × (above < 15) ⌝ }
-    requires { ⌜ (below ≡ role (treeOf (now image)) j) × (below < 15) ⌝ }
+    requires { ⌜ (Laid (now image) × (j < nodeCount (now image))) × (above < 16) ⌝ }
+    requires { ⌜ (below ≡ role (treeOf (now image)) j) × (below < 16) ⌝ }
     ensures { λ r. ⌜ SlotOf (treeOf (now (image .entry))) above j r ⌝ }
 {
     let mut k = first_slot(above, below);

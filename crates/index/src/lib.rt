@@ -10,6 +10,8 @@ pub use tables::is_zone;
 pub use tables::kind_of;
 pub use tables::location;
 pub use tables::offsets;
+pub use tables::point_list;
+pub use tables::point_range;
 pub use tables::range;
 pub use tables::rind;
 pub use tables::role_of;

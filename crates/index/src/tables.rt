@@ -8,7 +8,7 @@ ghost use Rattle.model.specs.Image.{treeOf, nodeCount};
 ghost use Rattle.model.specs.Given.{Sound};
 ghost use Rattle.model.specs.Bytes.{text};
 ghost use Rattle.model.specs.Containment.{role, validated, validatedAs, isZone, sectionOf, child};
-ghost use Rattle.model.specs.Containment.{Zone, ZoneType, GridCoordinates, FlowSolution, Elements, IndexRange, Rind, GridLocation, DataArray};
+ghost use Rattle.model.specs.Containment.{Zone, ZoneType, GridCoordinates, FlowSolution, Elements, IndexRange, Rind, GridLocation, DataArray, IndexArray};
 ghost use Rattle.index.specs.Index.{kind, kindBelow, kindAt, putAt, slotChild, Rows, RowBegun, Index};
 use super::keys::WIDTH;
 use super::keys::slot_of;
@@ -20,10 +20,29 @@ pub const SIZE: usize = 16384;
 // A kind is so many times its number; node numbers are below.
 const KIND: u16 = 4096;
 
+// The slots of a zone.
+const ZONE_TYPE: usize = 0;
+
+// Those of coordinates and of a flow solution.
+const RIND: usize = 0;
+
+const LOCATION: usize = 1;
+
+const POINT_RANGE: usize = 2;
+
+const POINT_LIST: usize = 3;
+
+// Those of a section.
+const RANGE: usize = 0;
+
+const CONNECTIVITY: usize = 1;
+
+const OFFSETS: usize = 2;
+
 // What a node is validated as, by its parent's kind and its own role.
 fn kind_below(above: u64, role: u64) -> u64
-    requires { ⌜ role < 15 ⌝ }
-    ensures { λ r. ⌜ (r ≡ kindBelow above role) × (r < 15) ⌝ }
+    requires { ⌜ role < 16 ⌝ }
+    ensures { λ r. ⌜ (r ≡ kindBelow above role) × (r < 16) ⌝ }
 {
     if above == 0 {
         return 0;
@@ -44,7 +63,7 @@ fn row_kind(index: &[u16], j: usize) -> u64
 
 // Begins row j: the kind, and no child.
 fn begin_row(index: &mut [u16], j: usize, kind: u64)
-    requires { ⌜ ((j < 4096) × (4 * j + 4 ≤ length (now index))) × (kind < 15) ⌝ }
+    requires { ⌜ ((j < 4096) × (4 * j + 4 ≤ length (now index))) × (kind < 16) ⌝ }
     ensures { λ r. ⌜ RowBegun (now (index .entry)) j kind (now (index .exit)) ⌝ }
 {
     index[WIDTH * j] = KIND * kind as u16;
@@ -97,7 +116,7 @@ pub fn build(image: &[u8], index: &mut [u16])
 // The kind of node i: its role where it is validated, else 0.
 pub fn kind_of(image: &[u8], index: &[u16], i: usize) -> u64
     requires { ⌜ Index (now image) (now index) × (i < nodeCount (now image)) ⌝ }
-    ensures { λ r. ⌜ (r ≡ kind (treeOf (now (image .entry))) i) × (r < 15) ⌝ }
+    ensures { λ r. ⌜ (r ≡ kind (treeOf (now (image .entry))) i) × (r < 16) ⌝ }
 {
     row_kind(index, i)
 }
@@ -106,7 +125,7 @@ pub fn kind_of(image: &[u8], index: &[u16], i: usize) -> u64
 pub fn role_of(image: &[u8], index: &[u16], i: usize) -> u64
     requires { ⌜ Index (now image) (now index) × (i < nodeCount (now image)) ⌝ }
     requires { ⌜ validated (treeOf (now image)) i ≡ true ⌝ }
-    ensures { λ r. ⌜ (r ≡ role (treeOf (now (image .entry))) i) × (r < 15) ⌝ }
+    ensures { λ r. ⌜ (r ≡ role (treeOf (now (image .entry))) i) × (r < 16) ⌝ }
 {
     kind_of(image, index, i)
 }
@@ -168,7 +187,7 @@ pub fn zone_type(image: &[u8], index: &[u16], p: usize) -> usize
     requires { ⌜ kind (treeOf (now image)) p ≡ Zone ⌝ }
     ensures { λ r. ⌜ (r ≡ child (treeOf (now (image .entry))) p ZoneType (text "ZoneType")) × (r ≤ nodeCount (now (image .entry))) ⌝ }
 {
-    look_up(image, index, p, 0)
+    look_up(image, index, p, ZONE_TYPE)
 }
 
 // The ElementRange of a section.
@@ -177,7 +196,7 @@ pub fn range(image: &[u8], index: &[u16], p: usize) -> usize
     requires { ⌜ kind (treeOf (now image)) p ≡ Elements ⌝ }
     ensures { λ r. ⌜ (r ≡ child (treeOf (now (image .entry))) p IndexRange (text "ElementRange")) × (r ≤ nodeCount (now (image .entry))) ⌝ }
 {
-    look_up(image, index, p, 0)
+    look_up(image, index, p, RANGE)
 }
 
 // The ElementConnectivity of a section.
@@ -186,7 +205,7 @@ pub fn connectivity(image: &[u8], index: &[u16], p: usize) -> usize
     requires { ⌜ kind (treeOf (now image)) p ≡ Elements ⌝ }
     ensures { λ r. ⌜ (r ≡ child (treeOf (now (image .entry))) p DataArray (text "ElementConnectivity")) × (r ≤ nodeCount (now (image .entry))) ⌝ }
 {
-    look_up(image, index, p, 1)
+    look_up(image, index, p, CONNECTIVITY)
 }
 
 // The ElementStartOffset of a section.
@@ -195,7 +214,7 @@ pub fn offsets(image: &[u8], index: &[u16], p: usize) -> usize
     requires { ⌜ kind (treeOf (now image)) p ≡ Elements ⌝ }
     ensures { λ r. ⌜ (r ≡ child (treeOf (now (image .entry))) p DataArray (text "ElementStartOffset")) × (r ≤ nodeCount (now (image .entry))) ⌝ }
 {
-    look_up(image, index, p, 2)
+    look_up(image, index, p, OFFSETS)
 }
 
 // The GridLocation of a flow solution.
@@ -204,7 +223,25 @@ pub fn location(image: &[u8], index: &[u16], p: usize) -> usize
     requires { ⌜ kind (treeOf (now image)) p ≡ FlowSolution ⌝ }
     ensures { λ r. ⌜ (r ≡ child (treeOf (now (image .entry))) p GridLocation (text "GridLocation")) × (r ≤ nodeCount (now (image .entry))) ⌝ }
 {
-    look_up(image, index, p, 1)
+    look_up(image, index, p, LOCATION)
+}
+
+// The PointRange of a flow solution.
+pub fn point_range(image: &[u8], index: &[u16], p: usize) -> usize
+    requires { ⌜ Index (now image) (now index) × (p < nodeCount (now image)) ⌝ }
+    requires { ⌜ kind (treeOf (now image)) p ≡ FlowSolution ⌝ }
+    ensures { λ r. ⌜ (r ≡ child (treeOf (now (image .entry))) p IndexRange (text "PointRange")) × (r ≤ nodeCount (now (image .entry))) ⌝ }
+{
+    look_up(image, index, p, POINT_RANGE)
+}
+
+// Its PointList.
+pub fn point_list(image: &[u8], index: &[u16], p: usize) -> usize
+    requires { ⌜ Index (now image) (now index) × (p < nodeCount (now image)) ⌝ }
+    requires { ⌜ kind (treeOf (now image)) p ≡ FlowSolution ⌝ }
+    ensures { λ r. ⌜ (r ≡ child (treeOf (now (image .entry))) p IndexArray (text "PointList")) × (r ≤ nodeCount (now (image .entry))) ⌝ }
+{
+    look_up(image, index, p, POINT_LIST)
 }
 
 // The Rind of coordinates or of a flow solution.
@@ -213,5 +250,5 @@ pub fn rind(image: &[u8], index: &[u16], p: usize) -> usize
     requires { ⌜ (kind (treeOf (now image)) p ≡ GridCoordinates) ⊎ (kind (treeOf (now image)) p ≡ FlowSolution) ⌝ }
     ensures { λ r. ⌜ (r ≡ child (treeOf (now (image .entry))) p Rind (text "Rind")) × (r ≤ nodeCount (now (image .entry))) ⌝ }
 {
-    look_up(image, index, p, 0)
+    look_up(image, index, p, RIND)
 }

@@ -38,7 +38,7 @@ row-is f n r e = record { at = λ k h. eqb-true _ _ (each (λ (i : ℕ). eqb (r 
 pub row-of : (f : ℕ → ℕ → ℕ) (n a r : ℕ) {above : ℕ} → isRow (f a) n r ≡ true → above ≡ a → Digits (f above) n r
 row-of f n a r e q = rw q (row-is (f a) n r e)
 
-pub row-rest : (f : ℕ → ℕ → ℕ) (n r : ℕ) (keys : List ℕ) {above : ℕ} → everyFrom (λ (a : ℕ). among a keys || isRow (f a) n r) 15 0 ≡ true → above < 15
+pub row-rest : (f : ℕ → ℕ → ℕ) (n r : ℕ) (keys : List ℕ) {above : ℕ} → everyFrom (λ (a : ℕ). among a keys || isRow (f a) n r) 16 0 ≡ true → above < 16
     → Beyond keys above
     → Digits (f above) n r
-row-rest f n r keys {above} e h a = row-is (f above) n r (last-of keys (λ (i : ℕ). isRow (f i) n r) 15 e h a)
+row-rest f n r keys {above} e h a = row-is (f above) n r (last-of keys (λ (i : ℕ). isRow (f i) n r) 16 e h a)

@@ -18,14 +18,14 @@ use Rattle.labels.specs.Padded.{knownNames}
 use Rattle.labels.specs.Cells.{cellOf}
 use Rattle.labels.proofs.Arms.{each}
 
-module _ (above below : ℕ) (h : above < 15) (l : below < 15) where
+module _ (above below : ℕ) (h : above < 16) (l : below < 16) where
   -- what holds in every cell holds in this one
-  every-cell : (p : ℕ → ℕ → Bool) → everyFrom (λ (a : ℕ). everyFrom (p a) 15 0) 15 0 ≡ true → p above below ≡ true
-  every-cell p e = each (p above) 15 (each (λ (a : ℕ). everyFrom (p a) 15 0) 15 e above h) below l
+  every-cell : (p : ℕ → ℕ → Bool) → everyFrom (λ (a : ℕ). everyFrom (p a) 16 0) 16 0 ≡ true → p above below ≡ true
+  every-cell p e = each (p above) 16 (each (λ (a : ℕ). everyFrom (p a) 16 0) 16 e above h) below l
 
-  pub cell-small : cellOf above below ≤ 6
+  pub cell-small : cellOf above below ≤ 10
   unfolding everyFrom cellOf mayHold among row containment placeFrom fixedName fixedNames knownNames spells blank text
-  cell-small = leb-true (cellOf above below) 6 (every-cell (λ (a c : ℕ). leb (cellOf a c) 6) refl)
+  cell-small = leb-true (cellOf above below) 10 (every-cell (λ (a c : ℕ). leb (cellOf a c) 10) refl)
 
 -- a cell that is not 0
 pub cell-held : (above below : ℕ) → ltb 0 (cellOf above below) ≡ mayHold above below
@@ -37,7 +37,7 @@ cell-held above below = by-test (mayHold above below) (placeFrom 1 (fixedName ab
     by-test false n = refl
 
 -- the fixed name that a cell tells
-fixed-cell : (above below : ℕ) → above < 15 → below < 15 → fixedName above below [] fixedNames ≡ getD ([] ∷ knownNames) (cellOf above below - 1) []
+fixed-cell : (above below : ℕ) → above < 16 → below < 16 → fixedName above below [] fixedNames ≡ getD ([] ∷ knownNames) (cellOf above below - 1) []
 unfolding everyFrom same cellOf mayHold among row containment placeFrom fixedName fixedNames knownNames spells blank text
 fixed-cell above below h l =
     same-is _ _ (every-cell above below h l (λ (a c : ℕ). same (fixedName a c [] fixedNames) (getD ([] ∷ knownNames) (cellOf a c - 1) [])) refl)
@@ -86,17 +86,21 @@ unfolding spells blank
 spells-self [] = refl
 spells-self (x ∷ s) = rw (eq-eqb x x refl) (spells-self s)
 
-some-text : (m : ℕ) (d : List ℕ) → m < 5 → orElse d (getD knownNames m []) ≡ getD knownNames m []
+some-text : (m : ℕ) (d : List ℕ) → m < 9 → orElse d (getD knownNames m []) ≡ getD knownNames m []
 unfolding knownNames text
 some-text zero d h = refl
 some-text (suc zero) d h = refl
 some-text (suc (suc zero)) d h = refl
 some-text (suc (suc (suc zero))) d h = refl
 some-text (suc (suc (suc (suc zero)))) d h = refl
-some-text (suc (suc (suc (suc (suc m))))) d h = absurd (omega arith)
+some-text (suc (suc (suc (suc (suc zero))))) d h = refl
+some-text (suc (suc (suc (suc (suc (suc zero)))))) d h = refl
+some-text (suc (suc (suc (suc (suc (suc (suc zero))))))) d h = refl
+some-text (suc (suc (suc (suc (suc (suc (suc (suc zero)))))))) d h = refl
+some-text (suc (suc (suc (suc (suc (suc (suc (suc (suc m))))))))) d h = absurd (omega arith)
 
 -- a field against the fixed name that its cell k tells
-module _ (above below : ℕ) {k : ℕ} (e : k ≡ cellOf above below) (h : above < 15) (l : below < 15) (d : List ℕ) where
+module _ (above below : ℕ) {k : ℕ} (e : k ≡ cellOf above below) (h : above < 16) (l : below < 16) (d : List ℕ) where
   by-cell : fixedName above below d fixedNames ≡ orElse d (getD ([] ∷ knownNames) (k - 1) [])
   unfolding fixedNames text
   by-cell = rw e (fixed-or above below d fixedNames refl ∙ ap (orElse d) (fixed-cell above below h l))
@@ -104,7 +108,7 @@ module _ (above below : ℕ) {k : ℕ} (e : k ≡ cellOf above below) (h : above
   pub name-free : k ≤ 1 → true ≡ spells d (fixedName above below d fixedNames)
   name-free m = let z : k - 1 ≡ 0 = omega arith in spells-self d ∙ ap (spells d) (sym (by-cell ∙ rw z))
 
-  pub name-place : 1 < k → k - 1 - 1 < 5
+  pub name-place : 1 < k → k - 1 - 1 < 9
   name-place m = let s = cell-small above below h l in omega arith
 
   pub name-fixed : 1 < k → spells d (getD knownNames (k - 1 - 1) []) ≡ spells d (fixedName above below d fixedNames)
@@ -118,7 +122,7 @@ module _ (b : List ℕ) (i : ℕ) where
   pub named-root : i ≡ 0 → true ≡ named (treeOf b) i
   unfolding named role fixedNames
   named-root z =
-      let t = treeOf b in rw z (spells-self (name t 0) ∙ ap (spells (name t 0)) (sym (fixed-none (role t (parent t 0)) 14 (name t 0) fixedNames refl)))
+      let t = treeOf b in rw z (spells-self (name t 0) ∙ ap (spells (name t 0)) (sym (fixed-none (role t (parent t 0)) 15 (name t 0) fixedNames refl)))
 
   -- q is the role of the parent, and r that of node i
   pub named-is : {q r : ℕ} → q ≡ role (treeOf b) (parent (treeOf b) i) → r ≡ role (treeOf b) i

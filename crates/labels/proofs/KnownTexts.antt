@@ -20,28 +20,28 @@ use Rattle.words.proofs.Same.{Bytes, Same, same-start}
 use Rattle.labels.proofs.Arms.{each}
 use Rattle.labels.proofs.Tables.{allBytes, spelling-more, spelling-stop, spelling-last, placing-past, placing-stop, placing-done}
 
-pub known-length : length knownLabels ≡ 13
+pub known-length : length knownLabels ≡ 14
 unfolding knownLabels
 known-length = refl
 
-pub known-short : (k : ℕ) → k < 20 → length (getD knownTexts k []) ≤ 32
+pub known-short : (k : ℕ) → k < 23 → length (getD knownTexts k []) ≤ 32
 unfolding everyFrom knownTexts knownNames knownLabels text
-known-short k h = leb-true (length (getD knownTexts k [])) 32 (each (λ (j : ℕ). leb (length (getD knownTexts j [])) 32) 20 refl k h)
+known-short k h = leb-true (length (getD knownTexts k [])) 32 (each (λ (j : ℕ). leb (length (getD knownTexts j [])) 32) 23 refl k h)
 
-pub known-bytes : (k : ℕ) → k < 20 → allBytes (getD knownTexts k []) ≡ true
+pub known-bytes : (k : ℕ) → k < 23 → allBytes (getD knownTexts k []) ≡ true
 unfolding everyFrom knownTexts knownNames knownLabels text
-known-bytes k h = each (λ (j : ℕ). allBytes (getD knownTexts j [])) 20 refl k h
+known-bytes k h = each (λ (j : ℕ). allBytes (getD knownTexts j [])) 23 refl k h
 
 -- the labels come first, then the names
-label-text : (k : ℕ) → k < 13 → getD knownTexts k [] ≡ getD knownLabels k []
+label-text : (k : ℕ) → k < 14 → getD knownTexts k [] ≡ getD knownLabels k []
 unfolding everyFrom same knownTexts knownNames knownLabels text
-label-text k h = same-is _ _ (each (λ (j : ℕ). same (getD knownTexts j []) (getD knownLabels j [])) 13 refl k h)
+label-text k h = same-is _ _ (each (λ (j : ℕ). same (getD knownTexts j []) (getD knownLabels j [])) 14 refl k h)
 
-pub name-text : (k : ℕ) → k < 7 → getD knownTexts (13 + k) [] ≡ getD knownNames k []
+pub name-text : (k : ℕ) → k < 9 → getD knownTexts (14 + k) [] ≡ getD knownNames k []
 unfolding everyFrom same knownTexts knownNames knownLabels text
-name-text k h = same-is _ _ (each (λ (j : ℕ). same (getD knownTexts (13 + j) []) (getD knownNames j [])) 7 refl k h)
+name-text k h = same-is _ _ (each (λ (j : ℕ). same (getD knownTexts (14 + j) []) (getD knownNames j [])) 9 refl k h)
 
-pub role-root : (b : List ℕ) (i : ℕ) → i ≡ 0 → 14 ≡ role (treeOf b) i
+pub role-root : (b : List ℕ) (i : ℕ) → i ≡ 0 → 15 ≡ role (treeOf b) i
 unfolding role
 role-root b i e = rw e
 
@@ -58,20 +58,20 @@ abbrev blanks : ℕ
 blanks = 0x2020202020202020
 
 -- all fourth words are blanks
-pub fourth-blank : (k : ℕ) → k < 20 → blanks ≡ textWord 3 k
+pub fourth-blank : (k : ℕ) → k < 23 → blanks ≡ textWord 3 k
 unfolding everyFrom fieldWord le knownTexts knownNames knownLabels text
-fourth-blank k h = eqb-true _ _ (each (λ (n : ℕ). eqb blanks (textWord 3 n)) 20 refl k h)
+fourth-blank k h = eqb-true _ _ (each (λ (n : ℕ). eqb blanks (textWord 3 n)) 23 refl k h)
 
 -- the first words of labels are all different
-first-apart : (j k : ℕ) → j < 13 → k < 13 → textWord 0 j ≡ textWord 0 k → j ≡ k
+first-apart : (j k : ℕ) → j < 14 → k < 14 → textWord 0 j ≡ textWord 0 k → j ≡ k
 unfolding everyFrom fieldWord le knownTexts knownNames knownLabels text
 first-apart j k h l e =
     let apart : ℕ → ℕ → Bool = λ (m : ℕ) (n : ℕ). not (eqb (textWord 0 m) (textWord 0 n)) || eqb m n in
-    let g = each (apart j) 13 (each (λ (m : ℕ). everyFrom (apart m) 13 0) 13 refl j h) k l in
+    let g = each (apart j) 14 (each (λ (m : ℕ). everyFrom (apart m) 14 0) 14 refl j h) k l in
     eqb-true j k (rw (eq-eqb (textWord 0 j) (textWord 0 k) e) at g)
 
 -- an arm of the match on first words
-pub begins-with : (n : ℕ) {word : ℕ} → n < 13 → word ≡ textWord 0 n → Begins word n
+pub begins-with : (n : ℕ) {word : ℕ} → n < 14 → word ≡ textWord 0 n → Begins word n
 begins-with n h e =
     record { inside = omega arith; is = λ l. e; only = λ k l f. first-apart k n l h (sym f ∙ e) }
 
@@ -88,12 +88,12 @@ other (suc n) k a h e =
       | no z ↦ other n k (a .0) (omega (arith, z)) e
     ]
 
-pub begins-none : {word : ℕ} → Others 13 word → Begins word 13
+pub begins-none : {word : ℕ} → Others 14 word → Begins word 14
 begins-none a =
-    record { inside = omega arith; is = λ h. absurd (omega arith); only = λ k h e. absurd (other 13 k a h e) }
+    record { inside = omega arith; is = λ h. absurd (omega arith); only = λ k h e. absurd (other 14 k a h e) }
 
 -- the field at p begins as text k does: word by word
-module _ (b : List ℕ) (p k : ℕ) (h : p + 32 ≤ length b) (f : Bytes b) (l : k < 20) (e : le 8 (drop p b) ≡ textWord 0 k) where
+module _ (b : List ℕ) (p k : ℕ) (h : p + 32 ≤ length b) (f : Bytes b) (l : k < 23) (e : le 8 (drop p b) ≡ textWord 0 k) where
   one : Same 32 b p (pad 32 (getD knownTexts k [])) 0 (8 * 1)
   one = spelling-more _ 0 (same-start _ _ _ _ _) h f (known-bytes k l) (omega arith) (ap (λ (n : ℕ). le 8 (drop n b)) (add-zero p) ∙ e)
 
@@ -116,7 +116,7 @@ module _ (b : List ℕ) (p k : ℕ) (h : p + 32 ≤ length b) (f : Bytes b) (l :
               (known-short k l)
 
 -- another first word
-pub first-off : (b : List ℕ) (p k : ℕ) → p + 32 ≤ length b → Bytes b → k < 20 → (le 8 (drop p b) ≡ textWord 0 k → ⊥)
+pub first-off : (b : List ℕ) (p k : ℕ) → p + 32 ≤ length b → Bytes b → k < 23 → (le 8 (drop p b) ≡ textWord 0 k → ⊥)
     → false ≡ spells (take 32 (drop p b)) (getD knownTexts k [])
 first-off b p k h f l z =
     spelling-stop (getD knownTexts k []) 0 (same-start _ _ _ _ _) h f (known-bytes k l) (omega arith) (known-short k l)
@@ -124,19 +124,19 @@ first-off b p k h f l z =
 
 -- the field at p, whose first word only label r may begin with
 module _ (b : List ℕ) (p r : ℕ) (h : p + 32 ≤ length b) (f : Bytes b) (o : Begins (le 8 (drop p b)) r) where
-  not-begun : (k : ℕ) → k < 13 → (k ≡ r → ⊥) → spells (take 32 (drop p b)) (getD knownTexts k []) ≡ false
+  not-begun : (k : ℕ) → k < 14 → (k ≡ r → ⊥) → spells (take 32 (drop p b)) (getD knownTexts k []) ≡ false
   not-begun k l z = sym (first-off b p k h f (omega arith) (λ e. z (o .only k l e)))
 
-  pub is-candidate : r < 13 → spells (take 32 (drop p b)) (getD knownTexts r []) ≡ true → r + 1 ≡ placeFrom 1 (take 32 (drop p b)) knownLabels
+  pub is-candidate : r < 14 → spells (take 32 (drop p b)) (getD knownTexts r []) ≡ true → r + 1 ≡ placeFrom 1 (take 32 (drop p b)) knownLabels
   is-candidate l e =
       let n = known-length in
       placing-stop (placing-past r (omega arith) (λ j k. rw (← label-text j (omega arith)) (not-begun j (omega arith) (λ z. absurd (omega arith)))))
       (omega arith) (rw (← label-text r l) e)
 
-  pub no-candidate : (r < 13 → spells (take 32 (drop p b)) (getD knownTexts r []) ≡ false) → 0 ≡ placeFrom 1 (take 32 (drop p b)) knownLabels
+  pub no-candidate : (r < 14 → spells (take 32 (drop p b)) (getD knownTexts r []) ≡ false) → 0 ≡ placeFrom 1 (take 32 (drop p b)) knownLabels
   no-candidate e =
       let n = known-length in
-      placing-done (placing-past 13 (omega arith) (λ j k. rw (← label-text j k) (elim (ℕ-discrete j r) [
+      placing-done (placing-past 14 (omega arith) (λ j k. rw (← label-text j k) (elim (ℕ-discrete j r) [
         | yes q ↦ rw (sym q) at (e (omega arith))
         | no z ↦ not-begun j k z
       ]))) (omega arith)

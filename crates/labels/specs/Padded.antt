@@ -28,6 +28,8 @@ knownNames =
     ∷ text "ElementRange"
     ∷ text "ElementConnectivity"
     ∷ text "ElementStartOffset"
+    ∷ text "PointRange"
+    ∷ text "PointList"
     ∷ []
 
 -- the known labels, and after them the known names
@@ -39,8 +41,8 @@ abbrev pub restIs : ℕ → ℕ → ℕ → ℕ → Bool
 restIs k second third fourth =
     eqb second (fieldWord (getD knownTexts k []) 1) && (eqb third (fieldWord (getD knownTexts k []) 2) && eqb fourth (fieldWord (getD knownTexts k []) 3))
 
--- known label r, counted from 0, begins with this word, and no other does; 13 where none does
+-- known label r, counted from 0, begins with this word, and no other does; 14 where none does
 pub record Begins (word r : ℕ) : Type 0 where
-  pub inside : r ≤ 13
-  pub is : r < 13 → word ≡ fieldWord (getD knownTexts r []) 0
-  pub only : (k : ℕ) → k < 13 → word ≡ fieldWord (getD knownTexts k []) 0 → k ≡ r
+  pub inside : r ≤ 14
+  pub is : r < 14 → word ≡ fieldWord (getD knownTexts r []) 0
+  pub only : (k : ℕ) → k < 14 → word ≡ fieldWord (getD knownTexts k []) 0 → k ≡ r

@@ -15,16 +15,16 @@ const NO_FIXED_NAME: u64 = 1;
 
 // The table's row for a parent of this role: a hexadecimal digit for each role of a child, role 0 rightmost.
 fn row(above: u64) -> u64
-    requires { ⌜ above < 15 ⌝ }
-    ensures { λ r. ⌜ Digits (cellOf above) 15 r ⌝ }
+    requires { ⌜ above < 16 ⌝ }
+    ensures { λ r. ⌜ Digits (cellOf above) 16 r ⌝ }
 {
     match above {
-        roles::BASE => 0x011_0000_0000_1000,
-        roles::ZONE => 0x011_0000_1113_0000,
-        roles::GRID_COORDINATES => 0x011_1040_0000_0000,
-        roles::FLOW_SOLUTION => 0x011_1540_0000_0000,
-        roles::ELEMENTS => 0x011_1046_0000_0000,
-        roles::DATA_ARRAY => 0x001_0000_0000_0000,
+        roles::BASE => 0x0011_0000_0000_1000,
+        roles::ZONE => 0x0011_0000_1113_0000,
+        roles::GRID_COORDINATES => 0x0011_1040_0000_0000,
+        roles::FLOW_SOLUTION => 0x0a11_1549_0000_0000,
+        roles::ELEMENTS => 0x0011_1046_0000_0000,
+        roles::DATA_ARRAY => 0x0001_0000_0000_0000,
         roles::ROOT => 0x120,
         _ => 0,
     }
@@ -32,7 +32,7 @@ fn row(above: u64) -> u64
 
 // The table's cell for a child of one role under a parent of another.
 fn cell(above: u64, below: u64) -> u64
-    requires { ⌜ (above < 15) × (below < 15) ⌝ }
+    requires { ⌜ (above < 16) × (below < 16) ⌝ }
     ensures { λ r. ⌜ r ≡ cellOf above below ⌝ }
 {
     digit(row(above), below)
@@ -40,7 +40,7 @@ fn cell(above: u64, below: u64) -> u64
 
 // Does the placing table have a label under a parent? Both are roles.
 pub fn may_hold(above: u64, below: u64) -> bool
-    requires { ⌜ (above < 15) × (below < 15) ⌝ }
+    requires { ⌜ (above < 16) × (below < 16) ⌝ }
     ensures { λ r. ⌜ r ≡ mayHold above below ⌝ }
 {
     0 < cell(above, below)
@@ -50,7 +50,7 @@ pub fn may_hold(above: u64, below: u64) -> bool
 pub fn named(image: &[u8], above: u64, below: u64, i: usize) -> bool
     requires { ⌜ Laid (now image) × (i < nodeCount (now image)) ⌝ }
     requires { ⌜ (above ≡ role (treeOf (now image)) (parent (treeOf (now image)) i)) × (below ≡ role (treeOf (now image)) i) ⌝ }
-    requires { ⌜ (above < 15) × (below < 15) ⌝ }
+    requires { ⌜ (above < 16) × (below < 16) ⌝ }
     ensures { λ r. ⌜ r ≡ named (treeOf (now (image .entry))) i ⌝ }
 {
     let k = cell(above, below);

@@ -7,7 +7,7 @@ ghost use Rattle.model.specs.Bytes.{spells};
 ghost use Rattle.model.specs.Image.{treeOf, nodeCount, name};
 ghost use Rattle.model.specs.Bounds.{Laid};
 ghost use Rattle.labels.specs.Padded.{fieldWord, knownNames};
-use super::known::rest_is;
+use super::known::rest_of_name;
 use records::Record;
 
 pub const ZONE_TYPE: usize = 1;
@@ -22,12 +22,13 @@ pub const ELEMENT_CONNECTIVITY: usize = 5;
 
 pub const ELEMENT_START_OFFSET: usize = 6;
 
-// How many known labels stand before the names among the known texts.
-const LABELS: usize = 13;
+pub const POINT_RANGE: usize = 7;
+
+pub const POINT_LIST: usize = 8;
 
 // The first eight bytes of name k.
 fn first_word(k: usize) -> u64
-    requires { ⌜ k < 7 ⌝ }
+    requires { ⌜ k < 9 ⌝ }
     ensures { λ r. ⌜ r ≡ fieldWord (getD knownNames k []) 0 ⌝ }
 {
     match k {
@@ -37,21 +38,23 @@ fn first_word(k: usize) -> u64
         3 => 0x6163_6f4c_6469_7247, // GridLoca
         4 => 0x5274_6e65_6d65_6c45, // ElementR
         5 => 0x4374_6e65_6d65_6c45, // ElementC
-        _ => 0x5374_6e65_6d65_6c45, // ElementS
+        6 => 0x5374_6e65_6d65_6c45, // ElementS
+        7 => 0x6e61_5274_6e69_6f50, // PointRan
+        _ => 0x7369_4c74_6e69_6f50, // PointLis
     }
 }
 
 // Does node i have the known name k, counted from 0?
 pub fn name_is(image: &[u8], i: usize, k: usize) -> bool
-    requires { ⌜ (Laid (now image) × (i < nodeCount (now image))) × (k < 7) ⌝ }
+    requires { ⌜ (Laid (now image) × (i < nodeCount (now image))) × (k < 9) ⌝ }
     ensures { λ r. ⌜ r ≡ spells (name (treeOf (now (image .entry))) i) (getD knownNames k []) ⌝ }
 {
     let at = Record::at(i) + Record::NAME;
     if words::u64_at(image, at) != first_word(k) {
         return false;
     }
-    rest_is(
-        LABELS + k,
+    rest_of_name(
+        k,
         words::u64_at(image, at + 8),
         words::u64_at(image, at + 16),
         words::u64_at(image, at + 24),

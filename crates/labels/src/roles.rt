@@ -1,11 +1,11 @@
-// What a node is validated as: the place of its label among the known ones, 14 for the root.
+// What a node is validated as: the place of its label among the known ones, 15 for the root.
 ghost use mathlib.Core.Path.{_≡_};
 ghost use Prim.Native.Nat.{_<_};
 ghost use Rattle.model.specs.Image.{treeOf, nodeCount};
 ghost use Rattle.model.specs.Bounds.{Laid};
 ghost use Rattle.model.specs.Containment.{role};
 ghost use Rattle.labels.specs.Padded.{Begins};
-use super::known::rest_is;
+use super::known::rest_of_label;
 use records::Record;
 
 pub const LIBRARY_VERSION: u64 = 1;
@@ -34,9 +34,11 @@ pub const DESCRIPTOR: u64 = 12;
 
 pub const USER_DEFINED_DATA: u64 = 13;
 
-pub const ROOT: u64 = 14;
+pub const INDEX_ARRAY: u64 = 14;
 
-// The one known label that may begin with these eight bytes, counted from 0; 13 where none does. The first words of labels are all different.
+pub const ROOT: u64 = 15;
+
+// The one known label that may begin with these eight bytes, counted from 0; 14 where none does. The first words of labels are all different.
 fn candidate(word: u64) -> usize
     ensures { λ r. ⌜ Begins word r ⌝ }
 {
@@ -54,25 +56,26 @@ fn candidate(word: u64) -> usize
         0x6172_7241_6174_6144 => 10, // DataArra
         0x7470_6972_6373_6544 => 11, // Descript
         0x6966_6544_7265_7355 => 12, // UserDefi
-        _ => 13,
+        0x7272_4178_6564_6e49 => 13, // IndexArr
+        _ => 14,
     }
 }
 
-// The role of node i: 1 to 13 for a known label, 0 for any other, 14 for the root whatever its label.
+// The role of node i: 1 to 14 for a known label, 0 for any other, 15 for the root whatever its label.
 pub fn role_of(image: &[u8], i: usize) -> u64
     requires { ⌜ Laid (now image) × (i < nodeCount (now image)) ⌝ }
-    ensures { λ r. ⌜ (r ≡ role (treeOf (now (image .entry))) i) × (r < 15) ⌝ }
+    ensures { λ r. ⌜ (r ≡ role (treeOf (now (image .entry))) i) × (r < 16) ⌝ }
 {
     if i == 0 {
         return ROOT;
     }
     let at = Record::at(i) + Record::LABEL;
     let k = candidate(words::u64_at(image, at));
-    if k < 13 {
+    if k < 14 {
         let second = words::u64_at(image, at + 8);
         let third = words::u64_at(image, at + 16);
         let fourth = words::u64_at(image, at + 24);
-        if rest_is(k, second, third, fourth) {
+        if rest_of_label(k, second, third, fourth) {
             return k as u64 + 1;
         }
     }

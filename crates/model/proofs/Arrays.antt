@@ -13,7 +13,7 @@ use Rattle.model.specs.Rules.{passed}
 use Rattle.model.specs.Image.{Tree, treeOf, nodeCount, dataOffset, node, dimensions, dataType, width, widths, number, I4, I8}
 use Rattle.model.specs.Records.{tableCheck, recordRules, product, dataSizeLawful}
 use Rattle.model.specs.Containment.{role, Elements, DataArray, found}
-use Rattle.model.specs.Values.{typed, flat, size, typeLawful, arrayType, sectionArrayType, indexArray, conforming}
+use Rattle.model.specs.Values.{typed, flat, size, typeLawful, arrayType, sectionArrayType, elementArray, conforming}
 use Rattle.model.specs.Sections.{dataStart}
 use Rattle.model.specs.Corner.{widthLawful, inside, numberAt}
 use Rattle.model.proofs.Logic.{untrue, and-second, and-both, or-cases}
@@ -105,7 +105,7 @@ module _ (t : Tree) (s : ℕ) (e : role t s ≡ Elements) (n : List ℕ) (h : fo
   section-array =
       rw (conforming-parent t s DataArray n h, e) at (rw (conforming-role t s DataArray n h) at (conforming-type t s DataArray n h))
 
-  pub index-array : indexArray t (conforming t s DataArray n) ≡ true
+  pub element-array : elementArray t (conforming t s DataArray n) ≡ true
       → (typed t (conforming t s DataArray n) (I4 ∷ I8 ∷ []) && flat t (conforming t s DataArray n)) ≡ true
   unfolding sectionArrayType
-  index-array i = rw i at section-array
+  element-array i = rw i at section-array

@@ -1,5 +1,5 @@
--- Document 01, "One tetrahedron, and near misses": cases (a) to (m) as one list with one claim, by computation.
-use Prim.Native.Nat.{ℕ}
+-- Document 01, "One tetrahedron, and near misses": cases (a) to (m), then those of document 02 by its sections, as one list with one claim, by computation.
+use Prim.Native.Nat.{ℕ, _*_}
 use Prim.Native.String.{String}
 use mathlib.Core.Path.{_≡_, refl}
 use mathlib.Core.List.{List, [], _∷_}
@@ -73,6 +73,38 @@ layered =
     ∷ plan "CoordinateX" "DataArray_t" "R4" (17 ∷ 33 ∷ 11 ∷ []) 4 (replicate 24684 0)
     ∷ [])
 
+-- §1: a flow solution, node 4, with these children, in a zone of 5 × 4 × 3 vertices or of 9 vertices and 4 cells
+abbrev flow : Plan → Plan → List Plan → List ℕ
+flow zone type children =
+    image
+    (rootPlan
+    ∷ integers "Base" "CGNSBase_t" (3 ∷ 3 ∷ []) 0
+    ∷ zone
+    ∷ type
+    ∷ plan "Wall" "FlowSolution_t" "MT" [] 2 []
+    ∷ children)
+
+abbrev inBlock : List Plan → List ℕ
+inBlock =
+    flow (plan "Zone" "Zone_t" "I4" (3 ∷ 3 ∷ []) 1 (allBytes 4 (5 ∷ 4 ∷ 3 ∷ 4 ∷ 3 ∷ 2 ∷ 0 ∷ 0 ∷ 0 ∷ [])))
+    (plan "ZoneType" "ZoneType_t" "C1" (10 ∷ []) 2 (text "Structured"))
+
+abbrev inMesh : List Plan → List ℕ
+inMesh =
+    flow (plan "Zone" "Zone_t" "I8" (1 ∷ 3 ∷ []) 1 (allBytes 8 (9 ∷ 4 ∷ 0 ∷ [])))
+    (plan "ZoneType" "ZoneType_t" "C1" (12 ∷ []) 2 (text "Unstructured"))
+
+-- over all begins, then all ends
+abbrev pointRange : List ℕ → Plan
+pointRange bounds = plan "PointRange" "IndexRange_t" "I4" (3 ∷ 2 ∷ []) 4 (allBytes 4 bounds)
+
+-- no rule looks at its values
+abbrev pointList : ℕ → ℕ → ℕ → Plan
+pointList n count up = plan "PointList" "IndexArray_t" "I8" (n ∷ count ∷ []) up (replicate (8 * (n * count)) 255)
+
+abbrev pressure : List ℕ → ℕ → Plan
+pressure sizes n = plan "Pressure" "DataArray_t" "R4" sizes 4 (replicate (4 * n) 0)
+
 -- what a case says of an image
 pub data Case : Type 0 where
   -- the header's words
@@ -135,23 +167,55 @@ cases =
     -- (m) 17 × 33 × 9 with a rind
     ∷ (layered accepts record { validated = 7; skipped = 0; zones = 1; sections = 0 })
     ∷ (layered sizes 6 is record { directions = 3; i = 17; j = 33; k = 11 })
+    -- §1 a wall of 4 × 3 points by a range
+    ∷ (inBlock (pointRange (1 ∷ 1 ∷ 1 ∷ 4 ∷ 3 ∷ 1 ∷ []) ∷ pressure (12 ∷ []) 12 ∷ []) accepts record { validated = 7; skipped = 0; zones = 1; sections = 0 })
+    ∷ (inBlock (pointRange (1 ∷ 1 ∷ 1 ∷ 4 ∷ 3 ∷ 1 ∷ []) ∷ pressure (12 ∷ []) 12 ∷ []) sizes 6 is record { directions = 1; i = 12; j = 0; k = 0 })
+    -- points −1..0 × 1..4 × 3..3; rind and location are not consulted
+    ∷ (inBlock
+    (integers "Rind" "Rind_t" (1 ∷ 1 ∷ 1 ∷ 1 ∷ 1 ∷ 1 ∷ []) 4
+    ∷ plan "GridLocation" "GridLocation_t" "C1" (10 ∷ []) 4 (text "CellCenter")
+    ∷ pressure (8 ∷ []) 8
+    ∷ pointRange (minus 1 ∷ 1 ∷ 3 ∷ 0 ∷ 4 ∷ 3 ∷ [])
+    ∷ [])
+    sizes 7 is record { directions = 1; i = 8; j = 0; k = 0 })
+    -- a begin above its end: 25 at the range, and its arrays have the zone's sizes
+    ∷ (inBlock (pressure (5 ∷ 4 ∷ 3 ∷ []) 60 ∷ pointRange (4 ∷ 1 ∷ 1 ∷ 1 ∷ 3 ∷ 1 ∷ []) ∷ []) refuses 25 at 6)
+    ∷ (inBlock (pressure (12 ∷ []) 12 ∷ pointRange (4 ∷ 1 ∷ 1 ∷ 1 ∷ 3 ∷ 1 ∷ []) ∷ []) refuses 26 at 5)
+    -- −2147483648; 2^32 + 1 to 2^32 + 3 in 8 bytes
+    ∷ (inBlock (pointRange (minus 2147483648 ∷ 1 ∷ 1 ∷ 1 ∷ 1 ∷ 1 ∷ []) ∷ []) refuses 25 at 5)
+    ∷ (inMesh (plan "PointRange" "IndexRange_t" "I8" (1 ∷ 2 ∷ []) 4 (allBytes 8 (4294967297 ∷ 4294967299 ∷ [])) ∷ []) refuses 25 at 5)
+    -- both; both, and neither conforms
+    ∷ (inBlock (pointRange (1 ∷ 1 ∷ 1 ∷ 1 ∷ 1 ∷ 1 ∷ []) ∷ pointList 3 1 4 ∷ []) refuses 25 at 4)
+    ∷ (inMesh (pointRange (1 ∷ 1 ∷ 1 ∷ 1 ∷ 1 ∷ 1 ∷ []) ∷ pointList 3 1 4 ∷ []) refuses 25 at 4)
+    -- a list of 5 points, in a mesh and in a block
+    ∷ (inMesh (pointList 1 5 4 ∷ pressure (5 ∷ []) 5 ∷ []) accepts record { validated = 7; skipped = 0; zones = 1; sections = 0 })
+    ∷ (inMesh (pointList 1 5 4 ∷ pressure (5 ∷ []) 5 ∷ []) sizes 6 is record { directions = 1; i = 5; j = 0; k = 0 })
+    ∷ (inBlock (pointList 3 5 4 ∷ pressure (5 ∷ []) 5 ∷ []) sizes 6 is record { directions = 1; i = 5; j = 0; k = 0 })
+    -- a list under a zone, under coordinates after an array of its size, under a UserDefinedData_t; a Descriptor_t under a range; the names crossed
+    ∷ (inMesh (pointList 1 5 2 ∷ []) refuses 20 at 5)
+    ∷ (inMesh
+    (plan "Grid" "GridCoordinates_t" "MT" [] 2 []
+    ∷ plan "CoordinateX" "DataArray_t" "R4" (5 ∷ []) 5 (replicate 20 0)
+    ∷ pointList 1 5 5
+    ∷ [])
+    refuses 26 at 6)
+    ∷ (inMesh (plan "Own" "UserDefinedData_t" "MT" [] 4 [] ∷ pointList 1 5 5 ∷ [])
+    accepts record { validated = 6; skipped = 1; zones = 1; sections = 0 })
+    ∷ (inBlock (pointRange (1 ∷ 1 ∷ 1 ∷ 1 ∷ 1 ∷ 1 ∷ []) ∷ plan "Note" "Descriptor_t" "C1" (1 ∷ []) 5 (65 ∷ []) ∷ []) refuses 20 at 6)
+    ∷ (inMesh (plan "PointList" "IndexRange_t" "I4" (1 ∷ 2 ∷ []) 4 (allBytes 4 (1 ∷ 1 ∷ [])) ∷ []) refuses 21 at 5)
+    -- 769546 × 494770 × 48448661 = 2^64 + 4 points: an array of 4; no array
+    ∷ (inBlock (pointRange (1 ∷ 1 ∷ 1 ∷ 769546 ∷ 494770 ∷ 48448661 ∷ []) ∷ pressure (4 ∷ []) 4 ∷ []) refuses 26 at 6)
+    ∷ (inBlock (pointRange (1 ∷ 1 ∷ 1 ∷ 769546 ∷ 494770 ∷ 48448661 ∷ []) ∷ []) accepts record { validated = 6; skipped = 0; zones = 1; sections = 0 })
     ∷ []
+
+infixr 5 _also_
+_also_ : {A B : Type 0} → A → B → A × B
+a also b = (a, b)
 
 pub all-right : Right cases
 unfolding computed
-all-right = (
-  refl,
-  (
-    refl,
-    (
-      refl,
-      (
-        refl,
-        (
-          refl,
-          (refl, (refl, (refl, (refl, (refl, (refl, (refl, (refl, (refl, ((refl, refl), (refl, ((refl, refl), (refl, (refl, tt)))))))))))))),
-        ),
-      ),
-    ),
-  ),
-)
+all-right =
+    refl also refl also refl also refl also refl also refl also refl also refl also refl also refl also refl also refl also refl also refl
+    also (refl, refl) also refl also (refl, refl) also refl also refl
+    also refl also refl also refl also refl also refl also refl also refl also refl also refl also refl
+    also refl also refl also refl also refl also refl also refl also refl also refl also refl also tt

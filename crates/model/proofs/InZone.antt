@@ -13,7 +13,8 @@ use Rattle.model.specs.Bytes.{numbers, text, spells, half, below}
 use Rattle.model.specs.Rules.{passed}
 use Rattle.model.specs.Image.{Tree, treeOf, nodeCount, node, name, width, number, I4, I8}
 use Rattle.model.specs.Containment.{role, Elements, IndexRange, DataArray, sectionOf, found}
-use Rattle.model.specs.Values.{sidsRules, size, typed, indexArray, complete, rangeValue, valueLawful, conforming, rangeOf, offsetsOf, connectivityOf}
+use Rattle.model.specs.Values.{sidsRules, size, typed, elementArray, complete, valueLawful, conforming, rangeOf, offsetsOf, connectivityOf}
+use Rattle.model.specs.Values.{rangeValue, indexRangeValue}
 use Rattle.model.specs.Elements.{nodesPer, hasOffsets, taken, elementType, firstElement, lastElement, elementCount, startOffset, connectivityLength}
 use Rattle.model.specs.Elements.{elementStart, elementRules, lengthsFit, startsAtZero, rises, allRise, endsAtLength}
 use Rattle.model.specs.Validation.{imageCheck}
@@ -21,9 +22,9 @@ use Rattle.model.proofs.Logic.{untrue, and-first, and-second, or-left, 
 use Rattle.model.proofs.Walks.{every-at}
 use Rattle.model.proofs.Passed.{Claim}
 use Rattle.model.proofs.Accepted.{table-passed, sids-rule, element-rule}
-use Rattle.model.proofs.Conforming.{IsSection, section-is, conforming-inside, conforming-value, conforming-role, conforming-name}
+use Rattle.model.proofs.Conforming.{IsSection, section-is, conforming-inside, conforming-value, conforming-parent, conforming-role, conforming-name}
 use Rattle.model.proofs.TwosComplement.{rise-small, rise-next, rise-last}
-use Rattle.model.proofs.Arrays.{Indices, indices, index-array}
+use Rattle.model.proofs.Arrays.{Indices, indices, element-array}
 use Rattle.model.proofs.Absent.{absent-size}
 
 -- a node of some numbers is there
@@ -71,10 +72,11 @@ module _ {b : List ℕ} {z s : ℕ} (a : InZone b z s) where
 
   -- 25: 1 ≤ first ≤ last ≤ 2,147,483,647
   range-lawful : rangeValue (treeOf b) (rangeOf (treeOf b) s) ≡ true
-  unfolding valueLawful row rangeOf
+  unfolding valueLawful indexRangeValue row rangeOf
   range-lawful =
-      rw (conforming-role (treeOf b) s IndexRange (text "ElementRange") range-found) at
-      (conforming-value (treeOf b) s IndexRange (text "ElementRange") range-found)
+      rw (conforming-parent (treeOf b) s IndexRange (text "ElementRange") range-found, role-is) at
+      (rw (conforming-role (treeOf b) s IndexRange (text "ElementRange") range-found) at
+      (conforming-value (treeOf b) s IndexRange (text "ElementRange") range-found))
 
   pub range : Range (treeOf b) s
   unfolding rangeValue firstElement lastElement
@@ -89,18 +91,18 @@ module _ {b : List ℕ} {z s : ℕ} (a : InZone b z s) where
       }
 
   -- 24: an index array of the section
-  index : (n : List ℕ) → ((j : ℕ) → spells (name (treeOf b) j) n ≡ true → indexArray (treeOf b) j ≡ true)
+  index : (n : List ℕ) → ((j : ℕ) → spells (name (treeOf b) j) n ≡ true → elementArray (treeOf b) j ≡ true)
       → found (treeOf b) (conforming (treeOf b) s DataArray n) ≡ true → Indices b (conforming (treeOf b) s DataArray n)
   unfolding treeOf
   index n indexed h =
       let j = conforming (treeOf b) s DataArray n in
-      let i = index-array (treeOf b) s role-is n h (indexed j (conforming-name (treeOf b) s DataArray n h)) in
+      let i = element-array (treeOf b) s role-is n h (indexed j (conforming-name (treeOf b) s DataArray n h)) in
       indices b (table-passed b (a .accepted)) j (conforming-inside (treeOf b) s DataArray n h)
       (and-first (typed (treeOf b) j (I4 ∷ I8 ∷ [])) _ i)
       (and-second (typed (treeOf b) j (I4 ∷ I8 ∷ [])) _ i)
 
   pub connectivity : Indices b (connectivityOf (treeOf b) s)
-  unfolding connectivityOf indexArray
+  unfolding connectivityOf elementArray
   connectivity =
       index (text "ElementConnectivity") (λ j. or-left _ _)
       (and-second (found (treeOf b) (rangeOf (treeOf b) s)) (found (treeOf b) (connectivityOf (treeOf b) s)) both-found)
@@ -112,7 +114,7 @@ module _ {b : List ℕ} {z s : ℕ} (a : InZone b z s) where
     offsets-size = eqb-true _ _ (rw o at (section-rule 29))
 
     pub offsets : Indices b (offsetsOf (treeOf b) s)
-    unfolding offsetsOf indexArray
+    unfolding offsetsOf elementArray
     offsets =
         index (text "ElementStartOffset") (λ j. or-right (spells (name (treeOf b) j) (text "ElementConnectivity")) _)
         (sized-found b (offsetsOf (treeOf b) s) (omega (arith, offsets-size)))

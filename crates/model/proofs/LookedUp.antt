@@ -36,7 +36,7 @@ child-parts t i r n j e =
 
 -- node i is validated and is no UserDefinedData_t
 module _ (b : List ℕ) (a : Accepted b) (i : ℕ) (v : validated (treeOf b) i ≡ true) (u : eqb (role (treeOf b) i) UserDefinedData ≡ false) where
-  child-lawful : (r : ℕ) (n : List ℕ) → 0 < r → (r ≡ Root → ⊥) → child (treeOf b) i r n < nodeCount b
+  child-lawful : (r : ℕ) (n : List ℕ) → 0 < r → eqb r Root ≡ false → child (treeOf b) i r n < nodeCount b
       → (typeLawful (treeOf b) (child (treeOf b) i r n) && valueLawful (treeOf b) (child (treeOf b) i r n)) ≡ true
   unfolding sidsRules treeOf
   child-lawful r n p q l =
@@ -46,7 +46,7 @@ module _ (b : List ℕ) (a : Accepted b) (i : ℕ) (v : validated (treeOf b) i �
       let w = validated-child b (a .sound) j i l (not-root (treeOf b) j r (c .1) q) (c .0) v u ∙ k in
       rw (sids-rule b (a .image) 24 j l w, sids-rule b (a .image) 25 j l w)
 
-  pub child-conforms : (r : ℕ) (n : List ℕ) → 0 < r → (r ≡ Root → ⊥) → conforming (treeOf b) i r n ≡ child (treeOf b) i r n
+  pub child-conforms : (r : ℕ) (n : List ℕ) → 0 < r → eqb r Root ≡ false → conforming (treeOf b) i r n ≡ child (treeOf b) i r n
   unfolding conforming orMissing child treeOf
   child-conforms r n p q = by-place (ltb j (nodeCount b)) refl
     where

@@ -11,7 +11,7 @@ use Rattle.model.specs.Lists.{Row, _has_, row, among}
 use Rattle.model.specs.Bytes.{text, signed}
 use Rattle.model.specs.Image.{Tree, treeOf, dataType, width, I4, I8}
 use Rattle.model.specs.Containment.{role, Zone, IndexRange, isZone, validated}
-use Rattle.model.specs.Values.{sidsRules, typed, shaped, typeLawful, indexDimension, vertexSize, rangeOf, offsetsOf}
+use Rattle.model.specs.Values.{sidsRules, typed, shaped, rangeShape, typeLawful, indexDimension, vertexSize, rangeOf, offsetsOf}
 use Rattle.model.specs.Elements.{nodesPer, hasOffsets, taken, elementType, firstElement, lastElement, startOffset, elementRules}
 use Rattle.model.specs.Demand3.{NoneNegative}
 use Rattle.model.proofs.Logic.{untrue, and-first, and-second, or-left, or-cases}
@@ -61,7 +61,7 @@ module _ {b : List ℕ} {z s : ℕ} (a : InZone b z s) where
   range-typed : typed (treeOf b) (rangeOf (treeOf b) s) (I4 ∷ I8 ∷ []) ≡ true
   unfolding typeLawful row rangeOf
   range-typed =
-      and-first _ (shaped (treeOf b) (rangeOf (treeOf b) s) (2 ∷ []))
+      and-first _ (rangeShape (treeOf b) (rangeOf (treeOf b) s))
       (rw (conforming-role (treeOf b) s IndexRange (text "ElementRange") (range-found a)) at
       (conforming-type (treeOf b) s IndexRange (text "ElementRange") (range-found a)))
 

@@ -1,6 +1,6 @@
 -- What a section of an accepted image refers to: nodes from 1 to VertexSize, or faces. No element number is in two sections of a zone.
 use Prim.Native.Nat.{ℕ, _≤_, _<_}
-use mathlib.Core.Path.{_≡_, sym, _∙_}
+use mathlib.Core.Path.{_≡_, refl, sym, _∙_}
 use mathlib.Core.Bool.{true, false, not, _&&_}
 use mathlib.Core.List.{List}
 use native.Mathlib.Omega.{arith}
@@ -20,6 +20,7 @@ use Rattle.model.specs.Validation.{imageCheck}
 use Rattle.model.proofs.Logic.{same-is, untrue, and-first, and-second, and-both, or-cases, when, neither}
 use Rattle.model.proofs.Walks.{every-at, some-by, some-at}
 use Rattle.model.proofs.Accepted.{sids-rule}
+use Rattle.model.proofs.Sections.{not-root}
 use Rattle.model.proofs.TwosComplement.{half-wide, signed-is, magnitude-is}
 use Rattle.model.proofs.InZone.{InZone, parts, role-is, section-rule, connectivity, range}
 
@@ -33,18 +34,13 @@ one-direction : (t : Tree) (z : ℕ) → unstructured t z ≡ true → structure
 unfolding unstructured structured reads text same
 one-direction t z e = rw (same-is (stored t (zoneTypeOf t z)) (text "Unstructured") e)
 
--- a section is not the root
-not-root : (t : Tree) (s : ℕ) → role t s ≡ Elements → eqb s 0 ≡ true → ⊥
-unfolding role
-not-root t s e r = let z : _≡_ {A = ℕ} 14 7 = rw r at e in omega arith
-
 module _ {b : List ℕ} {z s : ℕ} (a : InZone b z s) where
   -- 20: a section stands in an unstructured zone
   in-unstructured : unstructured (treeOf b) z ≡ true
   unfolding sidsRules placed
   in-unstructured =
       or-cases (eqb s 0) _ (sids-rule b (a .accepted) 20 s (a .listed) (parts a .is-validated))
-      (λ h. absurd (not-root (treeOf b) s (role-is a) h))
+      (λ h. absurd (not-root (treeOf b) s Elements (role-is a) refl (eqb-true s 0 h)))
       (λ h. rw (parts a .parent-is) at
       (when (eqb (role (treeOf b) s) Elements) _ (and-second (mayHold (role (treeOf b) (parent (treeOf b) s)) (role (treeOf b) s)) _ h) (parts a .elements)))
 

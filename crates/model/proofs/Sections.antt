@@ -3,13 +3,12 @@ use Prim.Native.Nat.{ℕ, _≤_, _<_}
 use mathlib.Core.Path.{_≡_, refl, sym, _∙_}
 use mathlib.Core.Bool.{Bool, true, false, _&&_}
 use mathlib.Core.List.{List}
-use native.Mathlib.Omega.{arith}
 use lib.Dec.{eqb, ltb}
-use borrow.Author.Tests.{eqb-true, ltb-true}
+use borrow.Author.Tests.{eqb-true, eq-eqb, ltb-true}
 use Rattle.model.specs.Image.{Tree, treeOf, nodeCount, parent}
 use Rattle.model.specs.Containment.{role, validated, validatedAs, isZone, sectionOf, Root, Zone, Elements, UserDefinedData}
 use Rattle.model.specs.Given.{Sound}
-use Rattle.model.proofs.Logic.{and-first, and-second}
+use Rattle.model.proofs.Logic.{untrue, and-first, and-second}
 use Rattle.model.proofs.Children.{no-child}
 use Rattle.model.proofs.Validated.{validated-child}
 
@@ -30,9 +29,9 @@ zone-is b z e =
     }
 
 -- node 0 is the root whatever its label
-pub not-root : (t : Tree) (i r : ℕ) → role t i ≡ r → (r ≡ Root → ⊥) → i ≡ 0 → ⊥
+pub not-root : (t : Tree) (i r : ℕ) → role t i ≡ r → eqb r Root ≡ false → i ≡ 0 → ⊥
 unfolding role
-not-root t i r e n z = n (sym e ∙ rw z)
+not-root t i r e n z = untrue (sym n ∙ eq-eqb r Root (sym e ∙ rw z))
 
 -- no node up to the zone is a section of it
 pub no-section : (b : List ℕ) → Sound b → (z : ℕ) → z < nodeCount b → (i : ℕ) → i ≤ z → sectionOf (treeOf b) z i ≡ false
@@ -52,6 +51,6 @@ module _ (b : List ℕ) (s : Sound b) (z : ℕ) (zone : role (treeOf b) z ≡ Zo
       by-test true e false f = refl
       by-test true e true f =
           let q = eqb-true (role t i) Elements f in
-          let n : i ≡ 0 → ⊥ = not-root t i Elements q (λ (x : _≡_ {A = ℕ} 7 14). absurd (omega arith)) in
+          let n : i ≡ 0 → ⊥ = not-root t i Elements q refl in
           let u : eqb (role t z) UserDefinedData ≡ false = rw zone in
           rw (validated-child b s i z h n (eqb-true (parent t i) z e) v u, q)

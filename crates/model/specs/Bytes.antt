@@ -43,6 +43,10 @@ below w x y = cond (negative w x) (not (negative w y) || ltb x y) (not (negative
 unfoldable pub magnitude : ℕ → ℕ → ℕ
 magnitude w x = cond (negative w x) (2 * half w - x) x
 
+-- its distance from the smallest number of w bytes: the difference of two numbers is that of their distances
+unfoldable pub distance : ℕ → ℕ → ℕ
+distance w x = cond (negative w x) (x - half w) (x + half w)
+
 -- the number itself, where an answer is signed
 unfoldable pub signed : ℕ → ℕ → ℤ
 signed w x = cond (negative w x) (negsuc (2 * half w - suc x)) (pos x)

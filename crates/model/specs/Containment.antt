@@ -1,4 +1,4 @@
--- Document 01, "Placing and meaning": the known labels, which parent holds which of them, which nodes are validated, the fixed names.
+-- Document 01, "Placing and meaning", with document 02, §1: the known labels, which parent holds which of them, which nodes are validated, the fixed names.
 use Prim.Native.Nat.{ℕ, zero, suc}
 use mathlib.Core.Bool.{Bool, cond, not, _&&_, _||_}
 use mathlib.Core.List.{List, [], _∷_}
@@ -24,6 +24,7 @@ knownLabels =
     ∷ text "DataArray_t"
     ∷ text "Descriptor_t"
     ∷ text "UserDefinedData_t"
+    ∷ text "IndexArray_t"
     ∷ []
 
 abbrev pub LibraryVersion : ℕ
@@ -65,8 +66,11 @@ Descriptor = 12
 abbrev pub UserDefinedData : ℕ
 UserDefinedData = 13
 
+abbrev pub IndexArray : ℕ
+IndexArray = 14
+
 abbrev pub Root : ℕ
-Root = 14
+Root = 15
 
 -- what a node is validated as: its label's place among the known ones, 0 for any other label; node 0 is the root whatever its label
 unfoldable pub role : Tree → ℕ → ℕ
@@ -79,7 +83,7 @@ containment =
     ∷ Base has (Zone ∷ Descriptor ∷ UserDefinedData ∷ [])
     ∷ Zone has (ZoneType ∷ GridCoordinates ∷ FlowSolution ∷ Elements ∷ Descriptor ∷ UserDefinedData ∷ [])
     ∷ GridCoordinates has (Rind ∷ DataArray ∷ Descriptor ∷ UserDefinedData ∷ [])
-    ∷ FlowSolution has (GridLocation ∷ Rind ∷ DataArray ∷ Descriptor ∷ UserDefinedData ∷ [])
+    ∷ FlowSolution has (GridLocation ∷ Rind ∷ IndexRange ∷ IndexArray ∷ DataArray ∷ Descriptor ∷ UserDefinedData ∷ [])
     ∷ Elements has (IndexRange ∷ Rind ∷ DataArray ∷ Descriptor ∷ UserDefinedData ∷ [])
     ∷ DataArray has (Descriptor ∷ [])
     ∷ []
@@ -124,6 +128,8 @@ fixedNames =
     ∷ GridCoordinates holds Rind called text "Rind"
     ∷ FlowSolution holds Rind called text "Rind"
     ∷ FlowSolution holds GridLocation called text "GridLocation"
+    ∷ FlowSolution holds IndexRange called text "PointRange"
+    ∷ FlowSolution holds IndexArray called text "PointList"
     ∷ Elements holds Rind called text "Rind"
     ∷ Elements holds IndexRange called text "ElementRange"
     ∷ []

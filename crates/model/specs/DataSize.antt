@@ -13,7 +13,7 @@ use Rattle.model.specs.Validation.{imageCheck}
 unfoldable pub isSizedArray : Tree → ℕ → Bool
 isSizedArray t i = ltb i (t .count) && sizedArray t i && validated t i
 
--- the number of directions and DataSize in each; 0 in a direction that the zone lacks, which document 01 leaves free
+-- the number of directions and DataSize in each; 0 in a direction that the array lacks, which document 01 leaves free
 pub record Sizes : Type 0 where
   pub directions : ℕ
   pub i : ℕ

@@ -1,17 +1,17 @@
--- Document 01, "Placing and meaning", continued: types, values and sizes. Rules 20 to 26.
-use Prim.Native.Nat.{ℕ, zero, suc, _+_, _*_}
+-- Document 01, "Placing and meaning", continued, with document 02, §1: types, values and sizes. Rules 20 to 26.
+use Prim.Native.Nat.{ℕ, zero, suc, _+_, _*_, _-_}
 use mathlib.Core.Bool.{Bool, true, false, cond, not, _&&_, _||_}
 use mathlib.Core.List.{List, [], _∷_}
 use lib.ListN.{length, getD}
 use lib.Dec.{eqb, leb}
 use Rattle.model.specs.Lists.{_⊃_, Row, _has_, row, among, someFrom, everyFrom}
-use Rattle.model.specs.Bytes.{text, same, spells}
+use Rattle.model.specs.Bytes.{below, magnitude, distance, text, same, spells}
 use Rattle.model.specs.Rules.{Rule, _unless_}
-use Rattle.model.specs.Image.{Tree, name, parent, dimensions, stored, dataType, number, MT, C1, I4, R4, I8, R8}
+use Rattle.model.specs.Image.{Tree, name, parent, dimensions, stored, dataType, width, number, MT, C1, I4, R4, I8, R8}
 use Rattle.model.specs.Records.{sibling}
-use Rattle.model.specs.Containment.{LibraryVersion, Base, Zone, ZoneType, GridCoordinates, FlowSolution, Elements, IndexRange, Rind, GridLocation, DataArray, Descriptor, UserDefinedData, Root, role, mayHold, fixedNames, fixedName, onceOnly, child, found, orMissing}
+use Rattle.model.specs.Containment.{LibraryVersion, Base, Zone, ZoneType, GridCoordinates, FlowSolution, Elements, IndexRange, Rind, GridLocation, DataArray, Descriptor, UserDefinedData, IndexArray, Root, role, mayHold, fixedNames, fixedName, onceOnly, child, found, orMissing}
 
--- the greatest size, rind number and element number
+-- the greatest size, rind number and element number, and the greatest magnitude in a PointRange
 abbrev pub maxNumber : ℕ
 maxNumber = 2147483647
 
@@ -103,12 +103,63 @@ locationValue t i = reads t i (text "Vertex") || reads t i (text "CellCenter")
 unfoldable pub zoneAbove : Tree → ℕ → ℕ
 zoneAbove t i = parent t (parent t i)
 
+-- IndexRange_t: an ElementRange under a section has dimensions [2], a PointRange under flow [IndexDimension, 2]
+unfoldable pub rangeShape : Tree → ℕ → Bool
+rangeShape t i =
+    row (role t (parent t i)) false
+    (Elements has shaped t i (2 ∷ []) ∷ FlowSolution has shaped t i (indexDimension t (zoneAbove t i) ∷ 2 ∷ []) ∷ [])
+
+-- IndexArray_t: a PointList under flow has dimensions [IndexDimension, count]; the count, and the test
+unfoldable pub listCount : Tree → ℕ → ℕ
+listCount t i = getD (dimensions t i) 1 0
+
+unfoldable pub listShape : Tree → ℕ → Bool
+listShape t i = eqb (role t (parent t i)) FlowSolution && shaped t i (indexDimension t (zoneAbove t i) ∷ listCount t i ∷ [])
+
+-- PointRange: signed numbers, the begins of all directions, then the ends
+unfoldable pub rangeBegin : Tree → ℕ → ℕ → ℕ
+rangeBegin t i d = number t i d
+
+unfoldable pub rangeEnd : Tree → ℕ → ℕ → ℕ
+rangeEnd t i d = number t i (indexDimension t (zoneAbove t i) + d)
+
+-- within ±2,147,483,647
+unfoldable pub bounded : Tree → ℕ → ℕ → Bool
+bounded t i x = leb (magnitude (width t i) x) maxNumber
+
+-- both are, and the begin is at most the end
+unfoldable pub directionLawful : Tree → ℕ → ℕ → Bool
+directionLawful t i d =
+    bounded t i (rangeBegin t i d) && bounded t i (rangeEnd t i d) && not (below (width t i) (rangeEnd t i d) (rangeBegin t i d))
+
+unfoldable pub pointRangeValue : Tree → ℕ → Bool
+pointRangeValue t i = everyFrom (directionLawful t i) (indexDimension t (zoneAbove t i)) 0
+
+-- IndexRange_t: the values of an ElementRange or a PointRange
+unfoldable pub indexRangeValue : Tree → ℕ → Bool
+indexRangeValue t i = row (role t (parent t i)) true (Elements has rangeValue t i ∷ FlowSolution has pointRangeValue t i ∷ [])
+
+-- the points of a conforming PointRange: end − begin + 1 in direction d; the product in k directions from d on; in all directions
+unfoldable pub pointsIn : Tree → ℕ → ℕ → ℕ
+pointsIn t i d = distance (width t i) (rangeEnd t i d) - distance (width t i) (rangeBegin t i d) + 1
+
+unfoldable pub pointsFrom : Tree → ℕ → ℕ → ℕ → ℕ
+pointsFrom t i zero d = 1
+pointsFrom t i (suc k) d = pointsIn t i d * pointsFrom t i k (suc d)
+
+unfoldable pub points : Tree → ℕ → ℕ
+points t i = pointsFrom t i (indexDimension t (zoneAbove t i)) 0
+
+-- FlowSolution_t: not both a PointRange and a PointList, there by name and label, conforming or not
+unfoldable pub notBoth : Tree → ℕ → Bool
+notBoth t p = not (found t (child t p IndexRange (text "PointRange")) && found t (child t p IndexArray (text "PointList")))
+
 -- DataArray_t under a section: ElementConnectivity and ElementStartOffset I4 or I8 with one dimension, others anything but MT
-unfoldable pub indexArray : Tree → ℕ → Bool
-indexArray t i = spells (name t i) (text "ElementConnectivity") || spells (name t i) (text "ElementStartOffset")
+unfoldable pub elementArray : Tree → ℕ → Bool
+elementArray t i = spells (name t i) (text "ElementConnectivity") || spells (name t i) (text "ElementStartOffset")
 
 unfoldable pub sectionArrayType : Tree → ℕ → Bool
-sectionArrayType t i = cond (indexArray t i) (typed t i (I4 ∷ I8 ∷ []) && flat t i) (not (typed t i (MT ∷ [])))
+sectionArrayType t i = cond (elementArray t i) (typed t i (I4 ∷ I8 ∷ []) && flat t i) (not (typed t i (MT ∷ [])))
 
 -- DataArray_t: R4 or R8 under coordinates; I4, I8, R4, R8 under flow
 unfoldable pub arrayType : Tree → ℕ → Bool
@@ -131,12 +182,13 @@ typeLawful t i =
     ∷ GridCoordinates has typed t i (MT ∷ [])
     ∷ FlowSolution has typed t i (MT ∷ [])
     ∷ Elements has (typed t i (I4 ∷ []) && shaped t i (2 ∷ []))
-    ∷ IndexRange has (typed t i (I4 ∷ I8 ∷ []) && shaped t i (2 ∷ []))
+    ∷ IndexRange has (typed t i (I4 ∷ I8 ∷ []) && rangeShape t i)
     ∷ Rind has (typed t i (I4 ∷ []) && shaped t i (2 * indexDimension t (zoneAbove t i) ∷ []))
     ∷ GridLocation has (typed t i (C1 ∷ []) && flat t i)
     ∷ DataArray has arrayType t i
     ∷ Descriptor has (typed t i (C1 ∷ []) && flat t i)
     ∷ UserDefinedData has typed t i (MT ∷ [])
+    ∷ IndexArray has (typed t i (I4 ∷ I8 ∷ []) && listShape t i)
     ∷ [])
 
 -- 25: the stored values are permitted
@@ -146,8 +198,9 @@ valueLawful t i =
     (Base has baseValue t i
     ∷ Zone has zoneValue t i
     ∷ ZoneType has zoneTypeValue t i
+    ∷ FlowSolution has notBoth t i
     ∷ Elements has notNegative t i 1
-    ∷ IndexRange has rangeValue t i
+    ∷ IndexRange has indexRangeValue t i
     ∷ Rind has rindValue t i
     ∷ GridLocation has locationValue t i
     ∷ [])
@@ -164,6 +217,12 @@ offsetsOf t s = conforming t s DataArray (text "ElementStartOffset")
 
 unfoldable pub connectivityOf : Tree → ℕ → ℕ
 connectivityOf t s = conforming t s DataArray (text "ElementConnectivity")
+
+unfoldable pub pointRangeOf : Tree → ℕ → ℕ
+pointRangeOf t p = conforming t p IndexRange (text "PointRange")
+
+unfoldable pub pointListOf : Tree → ℕ → ℕ
+pointListOf t p = conforming t p IndexArray (text "PointList")
 
 -- 20: the placing table has the label under this parent; Elements_t in an unstructured zone only
 unfoldable pub placed : Tree → ℕ → Bool
@@ -193,7 +252,7 @@ complete t i =
     ∷ Elements has (found t (rangeOf t i) && found t (connectivityOf t i))
     ∷ [])
 
--- DataSize under node p: VertexSize, or CellSize for CellCenter, plus in each direction the two rind numbers of that direction.
+-- The zone's sizes under node p: VertexSize, or CellSize for CellCenter, plus in each direction the two rind numbers of that direction.
 -- A Rind or GridLocation that does not conform gives the default, zeros and Vertex.
 unfoldable pub cellCentred : Tree → ℕ → Bool
 cellCentred t p = eqb (role t p) FlowSolution && reads t (conforming t p GridLocation (text "GridLocation")) (text "CellCenter")
@@ -207,13 +266,20 @@ dataSize t p d =
     + rindNumber t p (2 * d)
     + rindNumber t p (2 * d + 1)
 
--- the sizes in k directions from d on, and in all directions
+-- the zone's sizes in k directions from d on, and in all directions
 unfoldable pub dataSizesFrom : Tree → ℕ → ℕ → ℕ → List ℕ
 dataSizesFrom t p zero d = []
 dataSizesFrom t p (suc k) d = dataSize t p d ∷ dataSizesFrom t p k (suc d)
 
+unfoldable pub sizesByZone : Tree → ℕ → List ℕ
+sizesByZone t p = dataSizesFrom t p (indexDimension t (parent t p)) 0
+
+-- DataSize under node p: with a conforming PointRange, else a conforming PointList, one size, the number of its points, and neither rind nor location is
+-- consulted; without them the zone's sizes. Only under flow does either conform.
 unfoldable pub dataSizes : Tree → ℕ → List ℕ
-dataSizes t p = dataSizesFrom t p (indexDimension t (parent t p)) 0
+dataSizes t p =
+    cond (found t (pointRangeOf t p)) (points t (pointRangeOf t p) ∷ [])
+    (cond (found t (pointListOf t p)) (listCount t (pointListOf t p) ∷ []) (sizesByZone t p))
 
 -- 26: coordinate and flow arrays have exactly these dimensions
 unfoldable pub sizedArray : Tree → ℕ → Bool

@@ -79,7 +79,7 @@ pub enum Count {
     Rejected(Rejection),
 }
 
-// The DataSize of an array in the directions i, j, k; a direction that the zone lacks is 0.
+// The DataSize of an array in the directions i, j, k; a direction that the array lacks is 0.
 pub enum DataSize {
     Sizes {
         directions: u64,

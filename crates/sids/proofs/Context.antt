@@ -5,20 +5,17 @@ use mathlib.Core.Logic.{_⊎_, inl, inr}
 use mathlib.Core.Bool.{Bool, true, false, _||_, or-false}
 use mathlib.Core.List.{List, [], _∷_, _++_}
 use native.Mathlib.Omega.{arith}
+use native.Mathlib.Decide.{ℕ-discrete}
 use lib.Dec.{eqb}
 use borrow.Author.Tests.{eqb-true, ne-eqb}
 use Rattle.model.specs.Lists.{among}
 use Rattle.model.specs.Rules.{check, Check, _then_}
 use Rattle.model.specs.Image.{Tree, treeOf, nodeCount, parent}
-use Rattle.model.specs.Given.{NodesTo, Accepted}
-use Rattle.model.specs.Records.{tableCheck}
-use Rattle.model.specs.Validation.{imageCheck, nodeCheck, nodeCheckAt}
-use Rattle.model.specs.Containment.{role, validated, mayHold, containment, Base, Zone, Elements, Rind, GridCoordinates, FlowSolution, DataArray}
+use Rattle.model.specs.Given.{NodesTo}
+use Rattle.model.specs.Containment.{role, validated, mayHold, containment, Base, Zone, Elements, Rind, GridCoordinates, FlowSolution, DataArray, Root}
 use Rattle.model.specs.Values.{placed, typeLawful, valueLawful, zoneAbove, sidsRules, sizedArray}
 use Rattle.model.proofs.Logic.{untrue, and-first, and-second}
 use Rattle.model.proofs.Parents.{parent-lower, lawful-at}
-use Rattle.model.proofs.Passed.{then-second, checkFrom-at}
-use Rattle.model.proofs.Accepted.{sids-rule}
 use Rattle.model.proofs.Staging.{check-append}
 use Rattle.model.proofs.Sections.{not-root}
 use Rattle.model.proofs.Above.{validated-above, earlier-rule, held-by}
@@ -27,6 +24,14 @@ use Rattle.index.proofs.Marking.{kind-role}
 use Rattle.types.specs.Given.{ZoneInBase, NodeContext}
 use Rattle.sids.specs.Given.{UnderZone, Sized}
 use Rattle.sids.specs.Groups.{placeRules, contentRules, sizeRules}
+
+-- what stands in a list is nothing that does not
+pub not-of : (l : List ℕ) (r x : ℕ) → among r l ≡ true → among x l ≡ false → eqb r x ≡ false
+not-of l r x e n =
+    elim (ℕ-discrete r x) [
+      | yes q ↦ untrue (sym n ∙ (rw q at e))
+      | no z ↦ ne-eqb r x z
+    ]
 
 -- a list of one; what may hold a zone; what holds the three kinds of nodes under a zone
 among-one : (x y : ℕ) → among x (y ∷ []) ≡ true → x ≡ y
@@ -57,7 +62,7 @@ rind-under above e = held-by above Rind e
 
 no-root : (t : Tree) (j r : ℕ) → among r (GridCoordinates ∷ FlowSolution ∷ Elements ∷ []) ≡ true → role t j ≡ r → j ≡ 0 → ⊥
 unfolding among
-no-root t j r k e = not-root t j r e (λ (z : r ≡ 14). untrue (rw z at k))
+no-root t j r k e = not-root t j r e (not-of (GridCoordinates ∷ FlowSolution ∷ Elements ∷ []) r Root k refl)
 
 -- a node that is no root is one of the table's
 pub placed-held : (t : Tree) (i : ℕ) → (i ≡ 0 → ⊥) → placed t i ≡ true → mayHold (role t (parent t i)) (role t i) ≡ true
@@ -97,7 +102,7 @@ module _ (b : List ℕ) (i : ℕ) (g : NodesTo b i) where
 
   based : (j : ℕ) → Placed j → role (treeOf b) j ≡ Zone → ZoneInBase b j
   based j p e =
-      let a = above j p (not-root (treeOf b) j Zone e (λ (z : _≡_ {A = ℕ} 3 14). absurd (omega arith))) in
+      let a = above j p (not-root (treeOf b) j Zone e refl) in
       record {
         inside = omega arith;
         zone = kind-role (treeOf b) j (p .is-validated) e;
@@ -120,18 +125,23 @@ module _ (b : List ℕ) (i : ℕ) (g : NodesTo b i) where
     here = record { upto = omega arith; is-validated = v; place = q }
 
     pub ready : NodeContext b i
-    unfolding zoneAbove
+    unfolding zoneAbove among
     ready =
         record {
           inside = g .inside;
           is-validated = v;
           zone = λ e. based i here e;
           rind = λ e. rind-based e;
+          flow = λ n e. flow-based n e;
         }
       where
+        flow-based : eqb (role (treeOf b) i) Root ≡ false → role (treeOf b) (parent (treeOf b) i) ≡ FlowSolution
+            → ZoneInBase b (parent (treeOf b) (parent (treeOf b) i))
+        flow-based n e = held (parent (treeOf b) i) (above i here (not-root (treeOf b) i (role (treeOf b) i) refl n) .upper) (rw e) .zone .based
+
         rind-based : role (treeOf b) i ≡ Rind → ZoneInBase b (parent (treeOf b) (parent (treeOf b) i))
         rind-based e =
-            let n = not-root (treeOf b) i Rind e (λ (z : _≡_ {A = ℕ} 9 14). absurd (omega arith)) in
+            let n = not-root (treeOf b) i Rind e refl in
             let a = above i here n in
             held (parent (treeOf b) i) (a .upper) (rind-under (role (treeOf b) (parent (treeOf b) i)) (rw e at (a .holds))) .zone .based
 
@@ -141,7 +151,7 @@ module _ (b : List ℕ) (i : ℕ) (g : NodesTo b i) where
     sized-held e =
         let t = treeOf b in
         let d = eqb-true (role t i) DataArray (and-first (eqb (role t i) DataArray) _ e) in
-        let n = not-root t i DataArray d (λ (z : _≡_ {A = ℕ} 11 14). absurd (omega arith)) in
+        let n = not-root t i DataArray d refl in
         held (parent t i) (above i here n .upper) (three (eqb (role t (parent t i)) 5) (eqb (role t (parent t i)) 6) _
         (and-second (eqb (role t i) DataArray) _ e))
       where
@@ -155,7 +165,7 @@ module _ (b : List ℕ) (i : ℕ) (g : NodesTo b i) where
     sized e =
         let t = treeOf b in
         let d = eqb-true (role t i) DataArray (and-first (eqb (role t i) DataArray) _ e) in
-        let n = not-root t i DataArray d (λ (z : _≡_ {A = ℕ} 11 14). absurd (omega arith)) in
+        let n = not-root t i DataArray d refl in
         let u = above i here n .upper .is-validated in
         record {
           held = sized-held e;
@@ -176,22 +186,3 @@ unfolding sidsRules
 sids-groups t i =
     check-append i (placeRules t i) (contentRules t i ++ sizeRules t i)
     ∙ ap (λ (c : Check). check i (placeRules t i) then c) (check-append i (contentRules t i) (sizeRules t i))
-
--- an accepted image: validation has come to every node
-pub accepted-to : (b : List ℕ) → Accepted b → (i : ℕ) → i < nodeCount b → NodesTo b i
-unfolding imageCheck nodeCheck treeOf
-accepted-to b a i h =
-    record {
-      sound = a .sound;
-      inside = h;
-      before = λ j l. checkFrom-at (nodeCheckAt (treeOf b)) (nodeCount b) 0 j (then-second (tableCheck b) _ (a .image)) (omega arith) (omega arith);
-    }
-
-module _ (b : List ℕ) (a : Accepted b) (i : ℕ) (h : i < nodeCount b) (v : validated (treeOf b) i ≡ true) where
-  place : placed (treeOf b) i ≡ true
-  unfolding sidsRules
-  place = sids-rule b (a .image) 20 i h v
-
-  -- the zone of a coordinate or flow array
-  pub accepted-sized : sizedArray (treeOf b) i ≡ true → Sized b (parent (treeOf b) i)
-  accepted-sized = sized b i (accepted-to b a i h) v place

@@ -1,4 +1,5 @@
 pub mod Zones
+pub mod DataSizes
 pub mod Found
 pub mod Rinds
 pub mod Context

@@ -29,7 +29,7 @@ use Rattle.model.proofs.Staging.{kept, no-rule}
 use Rattle.labels.proofs.Nodes.{parent-inside}
 use Rattle.sids.specs.Groups.{placeRules}
 use Rattle.labels.proofs.Grid.{orElse, fixed-or, named-root}
-use Rattle.sids.proofs.Context.{placed-held}
+use Rattle.sids.proofs.Context.{not-of, placed-held}
 use Rattle.index.specs.Index.{Index}
 use Rattle.index.proofs.Marking.{role-few}
 
@@ -38,13 +38,13 @@ some [] = false
 some (y ∷ x) = true
 
 -- such a label has a fixed name
-has-name : (above below : ℕ) → above < 15 → below < 15 → mayHold above below ≡ true → among below onceOnly ≡ true
+has-name : (above below : ℕ) → above < 16 → below < 16 → mayHold above below ≡ true → among below onceOnly ≡ true
     → some (fixedName above below [] fixedNames) ≡ true
 unfolding _⊃_ everyFrom mayHold among row containment fixedName fixedNames onceOnly text
 has-name a c h l m o =
     drop-test (mayHold a c && among c onceOnly) (some (fixedName a c [] fixedNames)) (rw (m, o))
-    (every-at (λ (k : ℕ). (mayHold a k && among k onceOnly) ⊃ some (fixedName a k [] fixedNames)) 15 0 c
-    (every-at (λ (j : ℕ). everyFrom (λ (k : ℕ). (mayHold j k && among k onceOnly) ⊃ some (fixedName j k [] fixedNames)) 15 0) 15 0 a refl (omega arith)
+    (every-at (λ (k : ℕ). (mayHold a k && among k onceOnly) ⊃ some (fixedName a k [] fixedNames)) 16 0 c
+    (every-at (λ (j : ℕ). everyFrom (λ (k : ℕ). (mayHold j k && among k onceOnly) ⊃ some (fixedName j k [] fixedNames)) 16 0) 16 0 a refl (omega arith)
     (omega arith)) (omega arith) (omega arith))
   where
     drop-test : (x y : Bool) → x ≡ true → (x ⊃ y) ≡ true → y ≡ true
@@ -52,7 +52,7 @@ has-name a c h l m o =
     drop-test false y e f = untrue e
 
 -- whatever name the node has
-any-name : (above below : ℕ) → above < 15 → below < 15 → mayHold above below ≡ true → among below onceOnly ≡ true → (d e : List ℕ)
+any-name : (above below : ℕ) → above < 16 → below < 16 → mayHold above below ≡ true → among below onceOnly ≡ true → (d e : List ℕ)
     → fixedName above below d fixedNames ≡ fixedName above below e fixedNames
 unfolding fixedNames text
 any-name a c h l m o d e = fixed-or a c d fixedNames refl ∙ either (fixedName a c [] fixedNames) (has-name a c h l m o) ∙ sym (fixed-or a c e fixedNames refl)
@@ -87,9 +87,9 @@ name-length b s i h =
     rw (name-at b i h) (length-take-le 32 (drop (recordAt i) b) (rw (length-drop (recordAt i) b) (omega arith)))
 
 -- a role allowed once is known, and not the root's
-once-root : (r : ℕ) → among r onceOnly ≡ true → r ≡ Root → ⊥
+once-root : (r : ℕ) → among r onceOnly ≡ true → eqb r Root ≡ false
 unfolding among onceOnly
-once-root r o e = untrue (rw e at o)
+once-root r o = not-of onceOnly r Root o refl
 
 once-known : (r : ℕ) → among r onceOnly ≡ true → ltb 0 r ≡ true
 unfolding among onceOnly
@@ -122,7 +122,7 @@ module _ (b : List ℕ) (i : ℕ) (g : NodesTo b i) {index : List ℕ} (x : Inde
       let e : parent t j ≡ up = eqb-true _ _ (and-first (eqb (parent t j) up) _ q) in
       let f : role t j ≡ role t i = eqb-true _ _ (and-second (eqb (parent t j) up) _ q) in
       let z = not-root t i (role t i) refl (once-root (role t i) o) in
-      let y = not-root t j (role t j) refl (λ r. once-root (role t i) o (sym f ∙ r)) in
+      let y = not-root t j (role t i) f (once-root (role t i) o) in
       let m = placed-held t i z p in
       let u = validated-above b s i h z v in
       let k = parent-inside b i s h z refl in

@@ -1,6 +1,6 @@
 -- A coordinate or flow array after another one under the same node: that one has the dimensions of DataSize.
 use Prim.Native.Nat.{ℕ, _-_, _<_}
-use mathlib.Core.Path.{_≡_, _∙_}
+use mathlib.Core.Path.{_≡_, refl, _∙_}
 use mathlib.Core.Bool.{true, _&&_}
 use mathlib.Core.List.{List, [], _∷_}
 use native.Mathlib.Omega.{arith}
@@ -22,8 +22,7 @@ unfolding sizedArray
 array-after t i e =
     omega (
       arith,
-      not-root t i DataArray (eqb-true (role t i) DataArray (and-first (eqb (role t i) DataArray) _ e))
-          (λ (z : _≡_ {A = ℕ} 11 14). absurd (omega arith)),
+      not-root t i DataArray (eqb-true (role t i) DataArray (and-first (eqb (role t i) DataArray) _ e)) refl,
     )
 
 pub sibling-sizes : (b : List ℕ) (i up : ℕ) → NodesTo b i → sizedArray (treeOf b) i ≡ true → up ≡ parent (treeOf b) i

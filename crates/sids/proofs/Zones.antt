@@ -13,7 +13,7 @@ use Rattle.model.specs.Given.{Sound}
 use Rattle.model.specs.Records.{product}
 use Rattle.model.specs.Containment.{role, Zone}
 use Rattle.model.specs.Values.{typed, shaped, typeLawful, valueLawful, indexDimension, structured, vertexSize, cellSize, boundarySize, cellCentred}
-use Rattle.model.specs.Values.{dataSize, dataSizesFrom, dataSizes, structuredSizes, unstructuredSizes, zoneValue}
+use Rattle.model.specs.Values.{dataSize, dataSizesFrom, sizesByZone, structuredSizes, unstructuredSizes, zoneValue}
 use Rattle.model.proofs.Walks.{every-at}
 use Rattle.model.proofs.Logic.{and-first, and-second}
 use Rattle.types.specs.Given.{HasNumber}
@@ -105,10 +105,10 @@ inner-small t p e v d h = by-test (cellCentred t p) (size-bounds t (parent t p) 
     by-test true l = l .1
     by-test false l = l .0
 
--- the sizes in the directions that the zone has are DataSize
+-- the sizes in the directions that the zone has are the zone's
 pub data-sizes-are : (t : Tree) (p : ℕ) → indexDimension t (parent t p) ≤ 3
-    → take (indexDimension t (parent t p)) (directions (dataSize t p) (indexDimension t (parent t p))) ≡ dataSizes t p
-unfolding dataSizes dataSizesFrom
+    → take (indexDimension t (parent t p)) (directions (dataSize t p) (indexDimension t (parent t p))) ≡ sizesByZone t p
+unfolding sizesByZone dataSizesFrom
 data-sizes-are t p l = of (indexDimension t (parent t p)) l
   where
     of : (n : ℕ) → n ≤ 3 → take n (directions (dataSize t p) n) ≡ dataSizesFrom t p n 0

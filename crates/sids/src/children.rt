@@ -3,10 +3,11 @@ ghost use mathlib.Core.Path.{_≡_};
 ghost use mathlib.Core.Bool.{_&&_};
 ghost use Prim.Native.Nat.{_≤_, _<_};
 ghost use Rattle.model.specs.Image.{treeOf, nodeCount};
-ghost use Rattle.model.specs.Containment.{orMissing, Elements};
-ghost use Rattle.model.specs.Values.{typeLawful, valueLawful, rangeOf, offsetsOf, connectivityOf};
+ghost use Rattle.model.specs.Containment.{orMissing, Elements, FlowSolution};
+ghost use Rattle.model.specs.Values.{typeLawful, valueLawful, rangeOf, offsetsOf, connectivityOf, pointRangeOf, pointListOf};
 ghost use Rattle.index.specs.Index.{kind, Index};
 ghost use Rattle.types.specs.Given.{NodeContext};
+ghost use Rattle.sids.specs.Given.{UnderZone};
 use super::permitted::value_lawful;
 
 // Node j, a child that was looked up, where it conforms; else the node count.
@@ -54,4 +55,22 @@ pub fn connectivity_of(image: &[u8], index: &[u16], s: usize) -> usize
     ensures { λ r. ⌜ (r ≡ connectivityOf (treeOf (now (image .entry))) s) × (r ≤ nodeCount (now (image .entry))) ⌝ }
 {
     conforming(image, index, index::connectivity(image, index, s))
+}
+
+// The PointRange of a flow solution.
+pub fn point_range_of(image: &[u8], index: &[u16], p: usize) -> usize
+    requires { ⌜ Index (now image) (now index) × UnderZone (now image) p ⌝ }
+    requires { ⌜ kind (treeOf (now image)) p ≡ FlowSolution ⌝ }
+    ensures { λ r. ⌜ (r ≡ pointRangeOf (treeOf (now (image .entry))) p) × (r ≤ nodeCount (now (image .entry))) ⌝ }
+{
+    conforming(image, index, index::point_range(image, index, p))
+}
+
+// Its PointList.
+pub fn point_list_of(image: &[u8], index: &[u16], p: usize) -> usize
+    requires { ⌜ Index (now image) (now index) × UnderZone (now image) p ⌝ }
+    requires { ⌜ kind (treeOf (now image)) p ≡ FlowSolution ⌝ }
+    ensures { λ r. ⌜ (r ≡ pointListOf (treeOf (now (image .entry))) p) × (r ≤ nodeCount (now (image .entry))) ⌝ }
+{
+    conforming(image, index, index::point_list(image, index, p))
 }

@@ -9,6 +9,5 @@ mod zone; // zone.rt: a zone's sizes
 pub use children::connectivity_of;
 pub use children::offsets_of;
 pub use children::range_of;
-pub use data_size::data_sizes;
 pub use stages::sids_stage;
 pub use stages::sized_array;

@@ -18,7 +18,7 @@ use labels::roles;
 pub fn placed(image: &[u8], index: &[u16], up: usize, above: u64, below: u64) -> bool
     requires { ⌜ Index (now image) (now index) × (up < nodeCount (now image)) ⌝ }
     requires { ⌜ (validated (treeOf (now image)) up ≡ true) × (above ≡ role (treeOf (now image)) up) ⌝ }
-    requires { ⌜ (above < 15) × (below < 15) ⌝ }
+    requires { ⌜ (above < 16) × (below < 16) ⌝ }
     ensures { λ r. ⌜ r ≡ (mayHold above below && (eqb below Elements ⊃ unstructured (treeOf (now (image .entry))) up)) ⌝ }
 {
     if !labels::may_hold(above, below) {

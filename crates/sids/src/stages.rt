@@ -13,7 +13,7 @@ ghost use Rattle.index.specs.Index.{Index};
 ghost use Rattle.types.specs.Given.{NodeContext};
 ghost use Rattle.sids.specs.Given.{Sized};
 ghost use Rattle.sids.specs.Groups.{placeRules, contentRules};
-use super::data_size::data_sizes;
+use super::data_size::has_data_size;
 use super::permitted::value_lawful;
 use super::required::complete;
 use super::required::is_required;
@@ -107,8 +107,7 @@ fn sizes_lawful(image: &[u8], index: &[u16], i: usize) -> bool
     if follows_array(image, index, i, up) {
         return types::same_shape(image, i, i - 1);
     }
-    let n = types::index_dimension(image, index, records::parent_of(image, up)) as usize;
-    types::shaped(image, i, n, data_sizes(image, index, up, n))
+    has_data_size(image, index, up, i)
 }
 
 // Rules 20 to 26 at a validated node that validation has come to.

@@ -1,20 +1,21 @@
 -- What rules 24 and 25 ask of a node, by what it is validated as.
 use Prim.Native.Nat.{ℕ, _*_, _≤_, _<_}
 use mathlib.Core.Path.{_≡_}
-use mathlib.Core.Bool.{true, _&&_}
+use mathlib.Core.Bool.{true, false, _&&_}
 use mathlib.Core.List.{List, [], _∷_}
 use native.Mathlib.Omega.{arith}
-use lib.Dec.{leb}
+use lib.Dec.{eqb, leb}
 use borrow.Author.Tests.{leb-true}
 use Rattle.model.specs.Lists.{row}
 use Rattle.model.specs.Image.{Tree, treeOf, nodeCount, parent, dimensions, number, I4, I8}
 use Rattle.model.specs.Given.{Sound}
 use Rattle.model.specs.Containment.{role, Root, Base, Elements, IndexRange, Rind}
-use Rattle.model.specs.Values.{typed, shaped, flat, typeLawful, valueLawful, baseValue, indexDimension, cellDimension, zoneAbove}
+use Rattle.model.specs.Values.{typed, shaped, flat, typeLawful, valueLawful, baseValue, rangeShape, indexDimension, cellDimension, zoneAbove}
 use Rattle.model.proofs.Parents.{parent-lower, lawful-at}
 use Rattle.model.proofs.Sections.{not-root}
+use Rattle.model.proofs.Above.{validated-above}
 use Rattle.model.proofs.Logic.{and-first, and-second}
-use Rattle.types.specs.Given.{HasNumber, ZoneInBase}
+use Rattle.types.specs.Given.{HasNumber, ZoneInBase, HeldContext, NodeContext}
 use Rattle.types.proofs.StoredNumbers.{whole-four, whole-wide, shaped-is, has-pair, has-less}
 
 module _ (t : Tree) (i : ℕ) where
@@ -30,9 +31,9 @@ module _ (t : Tree) (i : ℕ) where
   unfolding typeLawful row
   elements-type e h = rw e at h
 
-  pub range-type : role t i ≡ IndexRange → typeLawful t i ≡ true → (typed t i (I4 ∷ I8 ∷ []) && shaped t i (2 ∷ [])) ≡ true
-  unfolding typeLawful row
-  range-type e h = rw e at h
+  pub range-type : role t i ≡ IndexRange → role t (parent t i) ≡ Elements → typeLawful t i ≡ true → (typed t i (I4 ∷ I8 ∷ []) && shaped t i (2 ∷ [])) ≡ true
+  unfolding typeLawful rangeShape row
+  range-type e f h = rw (e, f) at h
 
   pub rind-type : role t i ≡ Rind → typeLawful t i ≡ true → (typed t i (I4 ∷ []) && shaped t i (2 * indexDimension t (zoneAbove t i) ∷ [])) ≡ true
   unfolding typeLawful row
@@ -50,9 +51,9 @@ module _ (b : List ℕ) (s : Sound b) (i : ℕ) (h : i < nodeCount b) where
   pub elements-has : role (treeOf b) i ≡ Elements → typeLawful (treeOf b) i ≡ true → HasNumber b i 1
   elements-has r e = pair-has (elements-type (treeOf b) i r e)
 
-  pub range-has : role (treeOf b) i ≡ IndexRange → typeLawful (treeOf b) i ≡ true → HasNumber b i 1
-  range-has r e =
-      let g = range-type (treeOf b) i r e in
+  pub range-has : role (treeOf b) i ≡ IndexRange → role (treeOf b) (parent (treeOf b) i) ≡ Elements → typeLawful (treeOf b) i ≡ true → HasNumber b i 1
+  range-has r f e =
+      let g = range-type (treeOf b) i r f e in
       has-pair b s i h (whole-wide (treeOf b) i (and-first (typed (treeOf b) i (I4 ∷ I8 ∷ [])) _ g)) (and-second (typed (treeOf b) i (I4 ∷ I8 ∷ [])) _ g)
 
 -- a Rind_t is I4 with one dimension
@@ -85,7 +86,16 @@ module _ (b : List ℕ) (s : Sound b) (z : ℕ) (g : ZoneInBase b z) where
       (l, omega arith)
 
 -- a node that is validated as anything but the root has a parent
-pub held-inside : (b : List ℕ) → Sound b → (i : ℕ) → i < nodeCount b → (r : ℕ) → role (treeOf b) i ≡ r → (r ≡ Root → ⊥) → parent (treeOf b) i < nodeCount b
+pub held-inside : (b : List ℕ) → Sound b → (i : ℕ) → i < nodeCount b → (r : ℕ) → role (treeOf b) i ≡ r → eqb r Root ≡ false → parent (treeOf b) i < nodeCount b
 held-inside b s i h r e n =
     let l = parent-lower (treeOf b) i (lawful-at b s i h) (not-root (treeOf b) i r e n) in
     omega arith
+
+-- what such a node stands under
+pub held-context : (b : List ℕ) → Sound b → (i : ℕ) → NodeContext b i → (r : ℕ) → role (treeOf b) i ≡ r → eqb r Root ≡ false → HeldContext b i
+held-context b s i c r e n =
+    record {
+      above = held-inside b s i (c .inside) r e n;
+      above-validated = validated-above b s i (c .inside) (not-root (treeOf b) i r e n) (c .is-validated);
+      flow = c .flow (rw e n);
+    }

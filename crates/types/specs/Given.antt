@@ -1,12 +1,12 @@
 -- What the functions here are given, in place of tests that were made before them; a zone's type.
 use Prim.Native.Nat.{ℕ, _+_, _*_, _≤_, _<_}
 use mathlib.Core.Path.{_≡_}
-use mathlib.Core.Bool.{Bool, true, _&&_}
+use mathlib.Core.Bool.{Bool, true, false, _&&_}
 use mathlib.Core.List.{List}
-use lib.Dec.{T}
+use lib.Dec.{T, eqb}
 use Rattle.model.specs.Bytes.{text}
 use Rattle.model.specs.Image.{Tree, treeOf, nodeCount, node, width, parent}
-use Rattle.model.specs.Containment.{role, validated, child, Base, Zone, ZoneType, Rind}
+use Rattle.model.specs.Containment.{role, validated, child, Root, Base, Zone, ZoneType, FlowSolution, Rind}
 use Rattle.model.specs.Values.{zoneTypeShape, reads, typeLawful, valueLawful, zoneAbove}
 use Rattle.words.specs.Width.{isWidth}
 use Rattle.index.specs.Index.{kind}
@@ -30,9 +30,16 @@ pub record ZoneInBase (b : List ℕ) (z : ℕ) : Type 0 where
   pub type : typeLawful (treeOf b) (parent (treeOf b) z) ≡ true
   pub value : valueLawful (treeOf b) (parent (treeOf b) z) ≡ true
 
--- a validated node, and what its data type and values depend on: a zone's base, a Rind_t's zone
+-- a node under a validated one; under flow, its zone
+pub record HeldContext (b : List ℕ) (i : ℕ) : Type 0 where
+  pub above : parent (treeOf b) i < nodeCount b
+  pub above-validated : validated (treeOf b) (parent (treeOf b) i) ≡ true
+  pub flow : role (treeOf b) (parent (treeOf b) i) ≡ FlowSolution → ZoneInBase b (zoneAbove (treeOf b) i)
+
+-- a validated node, and what its data type and values depend on: a zone's base, the zone of a Rind_t and of what stands under flow
 pub record NodeContext (b : List ℕ) (i : ℕ) : Type 0 where
   pub inside : i < nodeCount b
   pub is-validated : validated (treeOf b) i ≡ true
   pub zone : role (treeOf b) i ≡ Zone → ZoneInBase b i
   pub rind : role (treeOf b) i ≡ Rind → ZoneInBase b (zoneAbove (treeOf b) i)
+  pub flow : eqb (role (treeOf b) i) Root ≡ false → role (treeOf b) (parent (treeOf b) i) ≡ FlowSolution → ZoneInBase b (zoneAbove (treeOf b) i)

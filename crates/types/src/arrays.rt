@@ -5,7 +5,7 @@ ghost use Prim.Native.Nat.{_<_};
 ghost use Rattle.model.specs.Image.{treeOf, nodeCount, parent, I4, I8, R4, R8};
 ghost use Rattle.model.specs.Given.{Sound};
 ghost use Rattle.model.specs.Containment.{validated};
-ghost use Rattle.model.specs.Values.{typed, indexArray, sectionArrayType, arrayType};
+ghost use Rattle.model.specs.Values.{typed, elementArray, sectionArrayType, arrayType};
 ghost use Rattle.index.specs.Index.{Index};
 ghost use mathlib.Core.Bool.{true};
 use super::shapes::flat;
@@ -16,9 +16,9 @@ use labels::roles;
 use records::data_types;
 
 // The name is ElementConnectivity or ElementStartOffset.
-fn index_array(image: &[u8], i: usize) -> bool
+fn element_array(image: &[u8], i: usize) -> bool
     requires { ⌜ Sound (now image) × (i < nodeCount (now image)) ⌝ }
-    ensures { λ r. ⌜ r ≡ indexArray (treeOf (now (image .entry))) i ⌝ }
+    ensures { λ r. ⌜ r ≡ elementArray (treeOf (now (image .entry))) i ⌝ }
 {
     labels::name_is(image, i, names::ELEMENT_CONNECTIVITY)
         || labels::name_is(image, i, names::ELEMENT_START_OFFSET)
@@ -29,7 +29,7 @@ fn section_array_type(image: &[u8], i: usize) -> bool
     requires { ⌜ Sound (now image) × (i < nodeCount (now image)) ⌝ }
     ensures { λ r. ⌜ r ≡ sectionArrayType (treeOf (now (image .entry))) i ⌝ }
 {
-    if !index_array(image, i) {
+    if !element_array(image, i) {
         return !typed(image, i, data_types::MT);
     }
     typed_either(image, i, data_types::I4, data_types::I8) && flat(image, i)

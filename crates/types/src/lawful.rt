@@ -6,16 +6,18 @@ ghost use Prim.Native.Nat.{_*_, _≤_, _<_};
 ghost use lib.ListN.{take};
 ghost use Rattle.model.specs.Image.{treeOf, nodeCount, parent, I4, I8};
 ghost use Rattle.model.specs.Given.{Sound};
-ghost use Rattle.model.specs.Values.{typed, shaped, indexDimension, zoneAbove, typeLawful};
+ghost use Rattle.model.specs.Values.{typed, shaped, indexDimension, zoneAbove, rangeShape, listShape, typeLawful};
 ghost use Rattle.index.specs.Index.{Index};
-ghost use Rattle.types.specs.Given.{ZoneInBase, NodeContext};
+ghost use Rattle.types.specs.Given.{ZoneInBase, HeldContext, NodeContext};
 use super::arrays::array_type;
 use super::shapes::shaped;
 use super::shapes::text_shape;
 use super::shapes::typed;
 use super::shapes::typed_either;
+use super::zones::dimension_above;
 use super::zones::index_dimension;
 use labels::roles;
+use records::RecordNumbers;
 use records::data_types;
 
 // The data type is a, and the dimensions are the first n of these sizes.
@@ -50,14 +52,44 @@ fn rind_shape(image: &[u8], index: &[u16], i: usize) -> bool
     ensures { λ r. ⌜ r ≡ (typed (treeOf (now (image .entry))) i (I4 ∷ [])
         && shaped (treeOf (now (image .entry))) i (2 * indexDimension (treeOf (now (image .entry))) (zoneAbove (treeOf (now (image .entry))) i) ∷ [])) ⌝ }
 {
-    let zone = records::parent_of(image, records::parent_of(image, i));
     typed_shaped(
         image,
         i,
         data_types::I4,
         1,
-        [2 * index_dimension(image, index, zone), 0, 0],
+        [2 * dimension_above(image, index, i), 0, 0],
     )
+}
+
+// IndexRange_t: I4 or I8, [2] under a section, [IndexDimension, 2] under flow.
+fn range_shape(image: &[u8], index: &[u16], i: usize) -> bool
+    requires { ⌜ (Index (now image) (now index) × (i < nodeCount (now image))) × HeldContext (now image) i ⌝ }
+    ensures { λ r. ⌜ r ≡ (typed (treeOf (now (image .entry))) i (I4 ∷ I8 ∷ []) && rangeShape (treeOf (now (image .entry))) i) ⌝ }
+{
+    let above = index::role_of(image, index, records::parent_of(image, i));
+    match above {
+        roles::ELEMENTS => whole_shaped(image, i, 1, [2, 0, 0]),
+        roles::FLOW_SOLUTION => {
+            whole_shaped(image, i, 2, [dimension_above(image, index, i), 2, 0])
+        }
+        _ => false,
+    }
+}
+
+// IndexArray_t: I4 or I8 [IndexDimension, count] under flow.
+fn list_shape(image: &[u8], index: &[u16], i: usize) -> bool
+    requires { ⌜ (Index (now image) (now index) × (i < nodeCount (now image))) × HeldContext (now image) i ⌝ }
+    ensures { λ r. ⌜ r ≡ (typed (treeOf (now (image .entry))) i (I4 ∷ I8 ∷ []) && listShape (treeOf (now (image .entry))) i) ⌝ }
+{
+    let above = index::role_of(image, index, records::parent_of(image, i));
+    if above != roles::FLOW_SOLUTION {
+        return false;
+    }
+    if RecordNumbers::read(image, i).rank != 2 {
+        return false;
+    }
+    let count = records::dimension(image, i, 1);
+    whole_shaped(image, i, 2, [dimension_above(image, index, i), count, 0])
 }
 
 // Rule 24 at node i.
@@ -73,9 +105,10 @@ pub fn type_lawful(image: &[u8], index: &[u16], i: usize) -> bool
         roles::ZONE_TYPE | roles::GRID_LOCATION | roles::DESCRIPTOR => text_shape(image, i),
         roles::GRID_COORDINATES | roles::USER_DEFINED_DATA => typed(image, i, data_types::MT),
         roles::FLOW_SOLUTION | roles::ROOT => typed(image, i, data_types::MT),
-        roles::INDEX_RANGE => whole_shaped(image, i, 1, [2, 0, 0]),
+        roles::INDEX_RANGE => range_shape(image, index, i),
         roles::RIND => rind_shape(image, index, i),
         roles::DATA_ARRAY => array_type(image, index, i),
+        roles::INDEX_ARRAY => list_shape(image, index, i),
         _ => false,
     }
 }

@@ -7,6 +7,7 @@ mod stored_texts;
 mod zones;
 
 pub use lawful::type_lawful;
+pub use shapes::flat;
 pub use shapes::same_shape;
 pub use shapes::shaped;
 pub use shapes::typed;
@@ -18,6 +19,7 @@ pub use stored_numbers::whole;
 pub use stored_texts::location_value;
 pub use stored_texts::reads_if_found;
 pub use stored_texts::zone_type_value;
+pub use zones::dimension_above;
 pub use zones::dimension_of;
 pub use zones::index_dimension;
 pub use zones::structured;

@@ -1,10 +1,10 @@
 // A zone's type and IndexDimension.
 ghost use mathlib.Core.Path.{_≡_};
 ghost use Prim.Native.Nat.{_≤_, _<_};
-ghost use Rattle.model.specs.Image.{treeOf, nodeCount};
+ghost use Rattle.model.specs.Image.{treeOf, nodeCount, parent};
 ghost use Rattle.model.specs.Containment.{Zone};
 ghost use Rattle.model.specs.Given.{Sound};
-ghost use Rattle.model.specs.Values.{zoneTypeOf, structured, unstructured, indexDimension};
+ghost use Rattle.model.specs.Values.{zoneTypeOf, structured, unstructured, indexDimension, zoneAbove};
 ghost use Rattle.model.specs.Values.{structured as isStructured};
 ghost use Rattle.index.specs.Index.{kind, Index};
 ghost use Rattle.types.specs.Given.{ZoneInBase, zoneTypeReads};
@@ -82,4 +82,14 @@ pub fn index_dimension(image: &[u8], index: &[u16], z: usize) -> u64
     ensures { λ r. ⌜ (r ≡ indexDimension (treeOf (now (image .entry))) z) × (1 ≤ r) × (r ≤ 3) ⌝ }
 {
     dimension_of(image, z, structured(image, index, z))
+}
+
+// IndexDimension of the zone two above node i.
+pub fn dimension_above(image: &[u8], index: &[u16], i: usize) -> u64
+    requires { ⌜ (Index (now image) (now index) × (parent (treeOf (now image)) i < nodeCount (now image)))
+        × ((i < nodeCount (now image)) × ZoneInBase (now image) (zoneAbove (treeOf (now image)) i)) ⌝ }
+    ensures { λ r. ⌜ (r ≡ indexDimension (treeOf (now (image .entry))) (zoneAbove (treeOf (now (image .entry))) i)) × (1 ≤ r) × (r ≤ 3) ⌝ }
+{
+    let zone = records::parent_of(image, records::parent_of(image, i));
+    index_dimension(image, index, zone)
 }

@@ -1,24 +1,26 @@
 -- Rules 20 to 26, then a section's own; and a count as a loop meets it.
-use Prim.Native.Nat.{ℕ, zero, suc, _+_, _-_, _≤_, _<_}
-use mathlib.Core.Path.{_≡_, refl, sym, ap, _∙_}
+use Prim.Native.Nat.{ℕ, _+_, _-_, _≤_, _<_}
+use mathlib.Core.Path.{_≡_, refl, sym, _∙_}
 use mathlib.Core.Bool.{Bool, true, false, cond, _&&_}
 use mathlib.Core.List.{List, []}
 use native.Mathlib.Omega.{arith}
 use native.Mathlib.Decide.{ℕ-discrete}
 use lib.Dec.{eqb, ltb}
 use borrow.Author.Tests.{ltb-true}
-use lib.ListN.{getD, take}
-use Rattle.model.proofs.Logic.{and-first, and-second}
+use lib.ListN.{getD}
+use Rattle.model.proofs.Logic.{and-first, and-second, when}
+use Rattle.model.proofs.Accepted.{sids-rule}
+use Rattle.model.proofs.Reading.{rank-is}
 use Rattle.model.specs.Lists.{countFrom}
 use Rattle.model.specs.declared.Rejection.{Rejection}
 use Rattle.model.specs.Rules.{Check, answer, rejected, rejection, _gives_, passed, check, checkFrom, _then_}
-use Rattle.model.specs.Image.{Tree, treeOf, nodeCount, parent}
+use Rattle.model.specs.Image.{Tree, treeOf, nodeCount, node, parent, dimensions}
 use Rattle.model.specs.Containment.{role, Zone, Elements, validated, skipped, validatedAs}
-use Rattle.model.specs.Values.{sidsRules, sizedArray, dataSizes, dataSize, indexDimension}
-use Rattle.sids.specs.Sizes.{direction, directions}
-use Rattle.sids.proofs.Zones.{data-sizes-are}
+use Rattle.model.specs.Values.{sidsRules, sizedArray, sizesLawful, dataSizes}
+use Rattle.types.proofs.StoredNumbers.{shaped-is}
 use Rattle.model.specs.DataSize.{isSizedArray, sizesOf, dataSizeAnswer}
 use Rattle.model.specs.Elements.{elementRules}
+use Rattle.model.specs.Given.{Accepted}
 use Rattle.model.specs.Validation.{nodeRules, nodeCheckAt, nodeCheck, imageCheck, counts}
 use Rattle.model.proofs.Walks.{countFrom-step, countFrom-end, count-both}
 use Rattle.model.proofs.Passed.{checkFrom-on, checkFrom-off, checkFrom-end}
@@ -118,20 +120,14 @@ module _ (b : List ℕ) (i : ℕ) where
       let v = and-second (ltb i (nodeCount b) && sizedArray (treeOf b) i) _ e in
       (ltb-true i (nodeCount b) (and-first (ltb i (nodeCount b)) _ f), (and-second (ltb i (nodeCount b)) _ f, v))
 
--- the numbers of the answer are DataSize in each direction; a direction that the zone lacks is 0
-by-directions : (f : ℕ → ℕ) (n : ℕ) → 1 ≤ n → n ≤ 3
-    → record { directions = n; i = direction f n 0; j = direction f n 1; k = direction f n 2 } ≡ sizesOf (take n (directions f n))
-unfolding sizesOf
-by-directions f zero l m = absurd (omega arith)
-by-directions f (suc zero) l m = refl
-by-directions f (suc (suc zero)) l m = refl
-by-directions f (suc (suc (suc zero))) l m = refl
-by-directions f (suc (suc (suc (suc n)))) l m = absurd (omega arith)
+-- 26: the dimensions of an accepted array are DataSize
+pub array-dimensions : (b : List ℕ) → Accepted b → (i : ℕ) → i < nodeCount b → validated (treeOf b) i ≡ true → sizedArray (treeOf b) i ≡ true
+    → dimensions (treeOf b) i ≡ dataSizes (treeOf b) (parent (treeOf b) i)
+unfolding sidsRules sizesLawful
+array-dimensions b a i h v e = shaped-is (treeOf b) i _ (when (sizedArray (treeOf b) i) _ (sids-rule b (a .image) 26 i h v) e)
 
-pub sizes-answered : (t : Tree) (p n : ℕ) (s : List ℕ) → n ≡ indexDimension t (parent t p) → 1 ≤ n → n ≤ 3
-    → s ≡ directions (dataSize t p) (indexDimension t (parent t p))
-    → answer (record { directions = n; i = getD s 0 0; j = getD s 1 0; k = getD s 2 0 }) ≡ answer (sizesOf (dataSizes t p))
-sizes-answered t p n s e l m f =
-    let m = rw e at m in
-    let d = by-directions (dataSize t p) (indexDimension t (parent t p)) (rw e at l) m in
-    rw (f, e) (ap (λ x. answer x) (d ∙ ap sizesOf (data-sizes-are t p m)))
+pub sizes-answered : (t : Tree) (i : ℕ) {d : List ℕ} → dimensions t i ≡ d
+    → answer (record { directions = node t i .rank; i = getD (dimensions t i) 0 0; j = getD (dimensions t i) 1 0; k = getD (dimensions t i) 2 0 })
+    ≡ answer (sizesOf d)
+unfolding sizesOf
+sizes-answered t i e = rw (← e, rank-is t i)

@@ -3,16 +3,18 @@ ghost use mathlib.Core.Path.{_≡_};
 ghost use mathlib.Core.Bool.{true};
 ghost use Prim.Native.Nat.{_<_};
 ghost use Rattle.model.specs.Rules.{answer};
-ghost use Rattle.model.specs.Image.{treeOf, nodeCount, parent};
+ghost use lib.ListN.{getD};
+ghost use Rattle.model.specs.Image.{treeOf, nodeCount, parent, dimensions};
 ghost use Rattle.model.specs.Containment.{validated};
 ghost use Rattle.model.specs.Values.{sizedArray, dataSizes};
 ghost use Rattle.model.specs.DataSize.{isSizedArray, sizesOf, dataSizeAnswer};
-ghost use Rattle.model.specs.Given.{Accepted};
+ghost use Rattle.model.specs.Given.{Sound, Accepted};
 ghost use Rattle.index.specs.Index.{Index};
 ghost use Rattle.model.specs.Answers.{dataSizeTells};
 use model::DataSize;
 use model::Rejection;
 use model::Stage;
+use records::RecordNumbers;
 
 // Whether a number is that of a validated coordinate or flow array.
 fn is_sized_array(image: &[u8], index: &[u16], node: u64) -> bool
@@ -30,25 +32,32 @@ fn is_sized_array(image: &[u8], index: &[u16], node: u64) -> bool
     sids::sized_array(image, index, i)
 }
 
-// The sizes of a coordinate or flow array of an accepted image.
-fn array_sizes(image: &[u8], index: &[u16], i: usize) -> DataSize
-    requires { ⌜ Accepted (now image) × Index (now image) (now index) ⌝ }
-    requires { ⌜ i < nodeCount (now image) ⌝ }
+// The size of node i in direction k; 0 where it lacks it.
+fn size_in(image: &[u8], i: usize, k: usize) -> u64
+    requires { ⌜ Sound (now image) × (i < nodeCount (now image)) ⌝ }
+    ensures { λ r. ⌜ r ≡ getD (dimensions (treeOf (now (image .entry))) i) k 0 ⌝ }
+{
+    if k as u64 >= RecordNumbers::read(image, i).rank {
+        return 0;
+    }
+    records::dimension(image, i, k)
+}
+
+// The sizes of a coordinate or flow array of an accepted image: its own dimensions, by rule 26.
+fn array_sizes(image: &[u8], i: usize) -> DataSize
+    requires { ⌜ Accepted (now image) × (i < nodeCount (now image)) ⌝ }
     requires { ⌜ (sizedArray (treeOf (now image)) i ≡ true) × (validated (treeOf (now image)) i ≡ true) ⌝ }
     ensures { λ r. ⌜ dataSizeTells r ≡ answer (sizesOf (dataSizes (treeOf (now (image .entry))) (parent (treeOf (now (image .entry))) i))) ⌝ }
 {
-    let up = records::parent_of(image, i);
-    let n = types::index_dimension(image, index, records::parent_of(image, up));
-    let sizes = sids::data_sizes(image, index, up, n as usize);
     DataSize::Sizes {
-        directions: n,
-        i: sizes[0],
-        j: sizes[1],
-        k: sizes[2],
+        directions: RecordNumbers::read(image, i).rank,
+        i: size_in(image, i, 0),
+        j: size_in(image, i, 1),
+        k: size_in(image, i, 2),
     }
 }
 
-// The DataSize of a coordinate or flow array in each direction: validation's rejection, then 40. A direction that the zone lacks is 0.
+// The DataSize of a coordinate or flow array in each direction: validation's rejection, then 40. A direction that the array lacks is 0.
 pub fn data_size(image: &[u8], node: u64) -> DataSize
     ensures { λ r. ⌜ dataSizeTells r ≡ dataSizeAnswer (now (image .entry)) node ⌝ }
 {
@@ -60,5 +69,5 @@ pub fn data_size(image: &[u8], node: u64) -> DataSize
     if !is_sized_array(image, &index, node) {
         return DataSize::Rejected(Rejection::at(40, 0));
     }
-    array_sizes(image, &index, node as usize)
+    array_sizes(image, node as usize)
 }

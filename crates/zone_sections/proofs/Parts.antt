@@ -1,6 +1,6 @@
 -- The nodes of a section of an accepted image: what was looked up conforms, and its numbers can be read.
 use Prim.Native.Nat.{ℕ, _+_, _≤_, _<_}
-use mathlib.Core.Path.{_≡_, refl, sym, _∙_}
+use mathlib.Core.Path.{_≡_, refl, sym, ap, _∙_}
 use mathlib.Core.Bool.{true, false, _&&_}
 use mathlib.Core.List.{List, [], _∷_}
 use native.Mathlib.Omega.{arith}
@@ -11,21 +11,22 @@ use Rattle.model.specs.Lists.{row}
 use Rattle.model.specs.Bytes.{text}
 use Rattle.model.specs.Image.{treeOf, nodeCount, parent, node, wordCount, dimensions, width, number, I4, I8}
 use Rattle.model.specs.Containment.{role, sectionOf, child, found, Root, Elements, IndexRange, DataArray, UserDefinedData}
-use Rattle.model.specs.Values.{sidsRules, typed, shaped, flat, size, indexArray, typeLawful, conforming, rangeOf, offsetsOf, connectivityOf}
+use Rattle.model.specs.Values.{sidsRules, typed, shaped, flat, size, elementArray, typeLawful, conforming, rangeOf, offsetsOf, connectivityOf}
 use Rattle.model.specs.Elements.{elementType, firstElement, lastElement, connectivityLength}
 use Rattle.model.specs.Given.{Sound}
 use Rattle.model.specs.Sections.{dataStart, entry}
 use Rattle.model.proofs.Logic.{and-first, and-second, and-both, or-left}
 use Rattle.model.proofs.Accepted.{sids-rule}
 use Rattle.model.proofs.Bounds.{node-placed}
-use Rattle.model.proofs.Conforming.{conforming-inside, conforming-type, conforming-role, conforming-name}
-use Rattle.model.proofs.Arrays.{index-array}
+use Rattle.model.proofs.Conforming.{conforming-inside, conforming-type, conforming-parent, conforming-role, conforming-name}
+use Rattle.model.proofs.Arrays.{element-array}
 use Rattle.model.proofs.InZone.{InZone, parts, role-is, range-found, connectivity}
 use Rattle.model.proofs.LookedUp.{child-conforms}
 use Rattle.index.specs.Index.{kind}
 use Rattle.index.proofs.Marking.{kind-role}
 use Rattle.types.specs.Given.{HasNumber}
-use Rattle.types.proofs.StoredNumbers.{whole-wide, whole-four, has-pair, has-less}
+use Rattle.types.proofs.StoredNumbers.{whole-four, has-pair, has-less}
+use Rattle.types.proofs.Roles.{range-has as range-pair}
 use Rattle.zone_sections.specs.After.{AcceptedSection}
 use Rattle.model.proofs.Reading.{rank-is}
 
@@ -61,17 +62,17 @@ module _ {b : List ℕ} {s : ℕ} (a : AcceptedSection b s) where
   section-kind = kind-role (treeOf b) s (parts in-zone .is-validated) (role-is in-zone)
 
   -- what is looked up under the section
-  looked-up : (r : ℕ) (n : List ℕ) → 0 < r → (r ≡ Root → ⊥) → conforming (treeOf b) s r n ≡ child (treeOf b) s r n
+  looked-up : (r : ℕ) (n : List ℕ) → 0 < r → eqb r Root ≡ false → conforming (treeOf b) s r n ≡ child (treeOf b) s r n
   looked-up r n p q =
       let u : eqb (role (treeOf b) s) UserDefinedData ≡ false = rw (role-is in-zone) in
       child-conforms b (a .accepted) s (parts in-zone .is-validated) u r n p q
 
   pub range-child : rangeOf (treeOf b) s ≡ child (treeOf b) s IndexRange (text "ElementRange")
   unfolding rangeOf
-  range-child = looked-up 8 (text "ElementRange") (omega arith) (λ (x : _≡_ {A = ℕ} 8 14). absurd (omega arith))
+  range-child = looked-up 8 (text "ElementRange") (omega arith) refl
 
   array-child : (n : List ℕ) → conforming (treeOf b) s DataArray n ≡ child (treeOf b) s DataArray n
-  array-child n = looked-up 11 n (omega arith) (λ (x : _≡_ {A = ℕ} 11 14). absurd (omega arith))
+  array-child n = looked-up 11 n (omega arith) refl
 
   pub offsets-child : offsetsOf (treeOf b) s ≡ child (treeOf b) s DataArray (text "ElementStartOffset")
   unfolding offsetsOf
@@ -94,28 +95,26 @@ module _ {b : List ℕ} {s : ℕ} (a : AcceptedSection b s) where
 
   -- the two numbers of its range
   pub range-has : HasNumber b (rangeOf (treeOf b) s) 1
-  unfolding typeLawful row rangeOf treeOf
+  unfolding rangeOf treeOf
   range-has =
       let j = conforming (treeOf b) s IndexRange (text "ElementRange") in
       let h = range-found in-zone in
-      let r : (typed (treeOf b) j (I4 ∷ I8 ∷ []) && shaped (treeOf b) j (2 ∷ [])) ≡ true
-      = rw (conforming-role (treeOf b) s IndexRange (text "ElementRange") h) at (conforming-type (treeOf b) s IndexRange (text "ElementRange") h) in
-      has-pair b (a .accepted .sound) j (conforming-inside (treeOf b) s IndexRange (text "ElementRange") h)
-      (whole-wide (treeOf b) j (and-first (typed (treeOf b) j (I4 ∷ I8 ∷ [])) _ r))
-      (and-second (typed (treeOf b) j (I4 ∷ I8 ∷ [])) _ r)
+      let p = ap (role (treeOf b)) (conforming-parent (treeOf b) s IndexRange (text "ElementRange") h) ∙ role-is in-zone in
+      range-pair b (a .accepted .sound) j (conforming-inside (treeOf b) s IndexRange (text "ElementRange") h)
+      (conforming-role (treeOf b) s IndexRange (text "ElementRange") h) p (conforming-type (treeOf b) s IndexRange (text "ElementRange") h)
 
   -- its connectivity
   pub connectivity-inside : connectivityOf (treeOf b) s < nodeCount b
   connectivity-inside = connectivity in-zone .inside-table
 
   pub connectivity-flat : flat (treeOf b) (connectivityOf (treeOf b) s) ≡ true
-  unfolding connectivityOf indexArray found treeOf
+  unfolding connectivityOf elementArray found treeOf
   connectivity-flat =
       let n = text "ElementConnectivity" in
       let j = conforming (treeOf b) s DataArray n in
       let h : found (treeOf b) j ≡ true = lt-ltb j (nodeCount b) connectivity-inside in
       and-second (typed (treeOf b) j (I4 ∷ I8 ∷ [])) _
-      (index-array (treeOf b) s (role-is in-zone) n h (or-left _ _ (conforming-name (treeOf b) s DataArray n h)))
+      (element-array (treeOf b) s (role-is in-zone) n h (or-left _ _ (conforming-name (treeOf b) s DataArray n h)))
 
   -- the same, of the nodes that the look-ups answered
   module _ {r : ℕ} (e : r ≡ child (treeOf b) s IndexRange (text "ElementRange")) where

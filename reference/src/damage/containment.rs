@@ -1,6 +1,6 @@
 //! Damage to containment and required children (rules 20 to 23).
 
-use super::pick::{add_anywhere, is_validated, labelled, plain_node, some_node};
+use super::pick::{add_anywhere, is_validated, labelled, plain_node, points_node, some_node};
 use super::values::break_type;
 use crate::build::Image;
 use crate::labels::LABELS;
@@ -38,9 +38,10 @@ pub fn section_in_structured_zone(image: &mut Image, random: &mut Random) {
 
 /// A fixed name not used (rule 21).
 pub fn renamed(image: &mut Image, random: &mut Random) {
-    let label = *random.pick(&["CGNSLibraryVersion_t", "Rind_t", "GridLocation_t"]);
-    if let Some(node) = labelled(image, random, label) {
-        let names = ["Renamed", "rind", "Rind1", "CGNSLibraryVersio", "GridLocation_t"];
+    let label = *random.pick(&["CGNSLibraryVersion_t", "Rind_t", "GridLocation_t", "points"]);
+    let node = if label == "points" { points_node(image, random) } else { labelled(image, random, label) };
+    if let Some(node) = node {
+        let names = ["Renamed", "rind", "Rind1", "CGNSLibraryVersio", "GridLocation_t", "Pointrange", "PointLis"];
         image.nodes[node].name = padded(random.pick(&names).as_bytes());
     }
 }
@@ -52,6 +53,8 @@ pub fn second_under_other_name(image: &mut Image, random: &mut Random) {
         ("Elements_t", "IndexRange_t"),
         ("Elements_t", "Rind_t"),
         ("FlowSolution_t", "GridLocation_t"),
+        ("FlowSolution_t", "IndexRange_t"),
+        ("FlowSolution_t", "IndexArray_t"),
         ("GridCoordinates_t", "Rind_t"),
     ]);
     if let Some(parent) = labelled(image, random, parent) {

@@ -4,6 +4,7 @@
 mod containment;
 mod header;
 mod pick;
+mod points;
 mod records;
 mod sections;
 mod values;
@@ -12,11 +13,13 @@ use crate::build::Image;
 use crate::random::Random;
 use containment::*;
 use header::*;
+use points::points;
 use records::*;
 use sections::*;
 use values::*;
 
 pub use header::flips;
+pub use points::{point_case, Answer, POINT_CASES};
 
 /// A way to break an image: its nodes, words of its header, or its length in bytes.
 #[derive(Clone, Copy)]
@@ -57,12 +60,32 @@ pub const DAMAGES: [(u32, &[Damage]); 32] = [
     ),
     (17, &[Nodes(other_data_offset), Nodes(data_missing)]),
     (18, &[Nodes(trailing)]),
-    (20, &[Nodes(misplaced), Nodes(misplaced), Nodes(misplaced), Nodes(misplaced), Nodes(section_in_structured_zone)]),
-    (21, &[Nodes(renamed), Nodes(second_under_other_name)]),
+    (
+        20,
+        &[
+            Nodes(misplaced),
+            Nodes(misplaced),
+            Nodes(misplaced),
+            Nodes(misplaced),
+            Nodes(section_in_structured_zone),
+            Nodes(points),
+        ],
+    ),
+    (21, &[Nodes(renamed), Nodes(second_under_other_name), Nodes(points)]),
     (23, &[Nodes(required_removed), Nodes(required_broken), Nodes(no_base)]),
-    (24, &[Nodes(other_type), Nodes(other_shape), Nodes(section_array_type), Nodes(rind_to_default)]),
-    (25, &[Nodes(other_values), Nodes(other_values), Nodes(rind_to_default)]),
-    (26, &[Nodes(other_array_size), Nodes(other_rind), Nodes(other_location), Nodes(rind_broken)]),
+    (24, &[Nodes(other_type), Nodes(other_shape), Nodes(section_array_type), Nodes(rind_to_default), Nodes(points)]),
+    (25, &[Nodes(other_values), Nodes(other_values), Nodes(rind_to_default), Nodes(points)]),
+    (
+        26,
+        &[
+            Nodes(other_array_size),
+            Nodes(other_rind),
+            Nodes(other_location),
+            Nodes(rind_broken),
+            Nodes(other_points),
+            Nodes(points),
+        ],
+    ),
     (27, &[Nodes(other_element_type)]),
     (28, &[Nodes(meeting_ranges)]),
     (29, &[Nodes(other_range_length), Nodes(other_array_length), Nodes(no_offsets)]),

@@ -61,6 +61,15 @@ pub fn section_child(image: &Image, random: &mut Random, types: &[i64], name: &s
     image.child(section, name)
 }
 
+/// One of the validated ranges and lists of points: an IndexRange_t or IndexArray_t of a flow solution.
+pub fn points_node(image: &Image, random: &mut Random) -> Option<usize> {
+    some_node(image, random, |image, n| {
+        let in_flow = image.parent(n).is_some_and(|parent| image.nodes[parent].is_labelled("FlowSolution_t"));
+        let points = image.nodes[n].is_labelled("IndexRange_t") || image.nodes[n].is_labelled("IndexArray_t");
+        in_flow && points && is_validated(image, n)
+    })
+}
+
 /// Changes one number of a list.
 pub fn change(image: &mut Image, node: usize, place: usize, number: i64) {
     let mut numbers = image.nodes[node].numbers();
@@ -92,6 +101,7 @@ pub fn plain_node(random: &mut Random, name: &str, label: &str) -> Node {
         "Descriptor_t" => Node::text(name, label, "text"),
         "Rind_t" => Node::integers(name, label, 4, &[2], &[0, 0]),
         "IndexRange_t" => Node::integers(name, label, 4, &[2], &[1, 2]),
+        "IndexArray_t" => Node::integers(name, label, *random.pick(&[4, 8]), &[1, 2], &[1, 2]),
         "DataArray_t" => Node::integers(name, label, *random.pick(&[4, 8]), &[1], &[1]),
         _ => Node::empty(name, label),
     }

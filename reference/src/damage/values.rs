@@ -1,6 +1,6 @@
 //! Damage to data types, dimensions, values and array sizes (rules 24 to 26).
 
-use super::pick::{add_anywhere, change, is_validated, labelled, section, some_node, validated_node};
+use super::pick::{add_anywhere, change, is_validated, labelled, points_node, section, some_node, validated_node};
 use crate::build::{Image, Node};
 use crate::lawful::STORING_TYPES;
 use crate::random::Random;
@@ -50,7 +50,7 @@ pub fn other_type(image: &mut Image, random: &mut Random) {
     }
 }
 
-/// The same at a node of a chosen label (rule 24).
+/// The same at a node of a chosen label, or at a range or list of points (rule 24).
 pub fn other_shape(image: &mut Image, random: &mut Random) {
     let label = *random.pick(&[
         "CGNSBase_t",
@@ -64,8 +64,10 @@ pub fn other_shape(image: &mut Image, random: &mut Random) {
         "UserDefinedData_t",
         "FlowSolution_t",
         "GridCoordinates_t",
+        "points",
     ]);
-    if let Some(node) = labelled(image, random, label) {
+    let node = if label == "points" { points_node(image, random) } else { labelled(image, random, label) };
+    if let Some(node) = node {
         break_type(random, &mut image.nodes[node]);
     }
 }
@@ -126,8 +128,9 @@ fn negative_rind(node: &mut Node) {
 
 /// A value that is not permitted (rule 25).
 pub fn other_values(image: &mut Image, random: &mut Random) {
-    let label = *random.pick(&["CGNSBase_t", "Zone_t", "Rind_t", "GridLocation_t", "Elements_t"]);
-    let Some(number) = labelled(image, random, label) else {
+    let label = *random.pick(&["CGNSBase_t", "Zone_t", "Rind_t", "GridLocation_t", "Elements_t", "points"]);
+    let number = if label == "points" { points_node(image, random) } else { labelled(image, random, label) };
+    let Some(number) = number else {
         return;
     };
     let node = &mut image.nodes[number];
@@ -148,6 +151,12 @@ pub fn other_values(image: &mut Image, random: &mut Random) {
         "Rind_t" => {
             let place = random.index(numbers.len());
             change(image, number, place, *random.pick(&[-1, i64::from(i32::MIN)]));
+        }
+        "points" => {
+            let place = random.index(numbers.len());
+            let beyond = if node.width() == 8 { MAX_NUMBER + 1 } else { i64::from(i32::MIN) };
+            let values = [MAX_NUMBER, -MAX_NUMBER, beyond, i64::from(i32::MIN), i64::MIN];
+            change(image, number, place, *random.pick(&values));
         }
         _ if numbers.len() < 3 => (),
         _ => {
@@ -225,6 +234,26 @@ pub fn other_location(image: &mut Image, random: &mut Random) {
     } else if let Some(flow) = labelled(image, random, "FlowSolution_t") {
         let location = Node::text("GridLocation", "GridLocation_t", "CellCenter");
         add_anywhere(image, random, flow, location);
+    }
+}
+
+/// A range or list of points removed, or of another count (rule 26).
+pub fn other_points(image: &mut Image, random: &mut Random) {
+    let Some(number) = points_node(image, random) else {
+        return;
+    };
+    let node = &mut image.nodes[number];
+    let mut numbers = node.numbers();
+    match (&node.dimensions[..], random.below(3)) {
+        (_, 0) | ([], _) => image.remove(number),
+        (&[directions, count], _) if node.is_labelled("IndexArray_t") => {
+            node.reshape(&[directions, if count > 1 && random.one_in(2) { count - 1 } else { count + 1 }])
+        }
+        _ => {
+            let place = random.index(numbers.len());
+            numbers[place] = numbers[place].saturating_add(*random.pick(&[1, -1]));
+            node.set_numbers(&numbers);
+        }
     }
 }
 

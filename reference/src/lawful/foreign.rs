@@ -8,12 +8,13 @@ use crate::labels::LABELS;
 pub const STORING_TYPES: [&str; 10] = ["C1", "B1", "I4", "U4", "R4", "I8", "U8", "R8", "X4", "X8"];
 
 /// Labels that are not known, some of them nearly.
-pub const FOREIGN_LABELS: [&str; 8] = [
+pub const FOREIGN_LABELS: [&str; 9] = [
     "Family_t",
     "ZoneBC_t",
     "zone_t",
     "Zone_t Zone_t",
     "Zone",
+    "IndexArray",
     "Odd/Label_t",
     "\"int[IndexDimension]\"",
     "ABCDEFGHIJKLMNOPQRSTUVWXYZabcdef",

@@ -1,8 +1,9 @@
-//! Lawful images, made at random: structured and unstructured zones, all element types, rind, flow solutions, foreign
-//! subtrees, nodes in any lawful order.
+//! Lawful images, made at random: structured and unstructured zones, all element types, rind, flow solutions with and
+//! without ranges and lists of points, foreign subtrees, nodes in any lawful order.
 
 mod foreign;
 mod order;
+mod points;
 mod sections;
 mod zones;
 
@@ -30,6 +31,12 @@ impl SizeClass {
         }
     }
 
+    /// Whether an image keeps within the bounds of the class: its nodes and its bytes.
+    pub fn holds(self, image: &Image) -> bool {
+        let limits = self.limits();
+        image.nodes.len() <= limits.nodes && image.to_bytes().len() <= limits.bytes
+    }
+
     /// The bounds of the class.
     fn limits(self) -> Limits {
         match self {
@@ -50,6 +57,7 @@ struct Limits {
 }
 
 pub use foreign::STORING_TYPES;
+pub use points::{some_list, some_range, values_of};
 pub use sections::FIXED_TYPES;
 
 /// A lawful image of a size class.
@@ -119,7 +127,18 @@ impl Maker<'_> {
 
     /// A free name.
     fn name(&mut self) -> String {
-        let names = ["Pressure", "a b  c", "X", "~", "ZoneType", "Rind", "Density.1", "!\"#$%&'()*+,-.:;<=>?@[]^_`{|"];
+        let names = [
+            "Pressure",
+            "a b  c",
+            "X",
+            "~",
+            "ZoneType",
+            "Rind",
+            "PointRange",
+            "PointList",
+            "Density.1",
+            "!\"#$%&'()*+,-.:;<=>?@[]^_`{|",
+        ];
         let name = *self.random.pick(&names);
         if self.random.one_in(3) {
             format!("Name{}", self.random.below(90))

@@ -77,7 +77,7 @@ impl Maker<'_> {
         self.documents(zone, 6);
     }
 
-    /// A GridCoordinates_t or FlowSolution_t with rind, location and arrays.
+    /// A GridCoordinates_t or FlowSolution_t with rind, location, points and arrays.
     fn solution(&mut self, zone: usize, label: &str, vertices: &[i64], cells: &[i64]) {
         let flow = label == "FlowSolution_t";
         let name = if flow { "FlowSolution" } else { "GridCoordinates" };
@@ -101,7 +101,10 @@ impl Maker<'_> {
             let length = rind.len() as u64;
             self.add(node, Node::integers("Rind", "Rind_t", 4, &[length], &rind));
         }
-        let sizes: Vec<u64> = (0..core.len()).map(|d| (core[d] + rind[2 * d] + rind[2 * d + 1]) as u64).collect();
+        let mut sizes: Vec<u64> = (0..core.len()).map(|d| (core[d] + rind[2 * d] + rind[2 * d + 1]) as u64).collect();
+        if flow && self.chance(2, 2) {
+            sizes = vec![self.points(node, core.len())];
+        }
         self.arrays(node, &sizes, flow);
         self.documents(node, 10);
     }
@@ -112,7 +115,7 @@ impl Maker<'_> {
         if values == 0 || values > self.limits.values {
             return;
         }
-        let names = ["CoordinateX", "CoordinateY", "Density", "VelocityX", "Rind", "GridLocation"];
+        let names = ["CoordinateX", "Density", "VelocityX", "Rind", "GridLocation", "PointRange", "PointList"];
         let count = self.random.between(0, 3);
         for _ in 0..count {
             if self.room() == 0 {

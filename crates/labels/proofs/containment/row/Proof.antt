@@ -14,7 +14,7 @@ use Rattle.labels.proofs.containment.row.Tie as tie
 pub row-spec : {M : Type 1} → statement M
 unfolding everyFrom cellOf mayHold among row containment placeFrom fixedName fixedNames knownNames spells blank text
 row-spec =
-    tie.close (tie.spec (λ c. row-of cellOf 15 2 _ refl (c .match .keys1)) (λ c. row-of cellOf 15 3 _ refl (c .match .keys2))
-    (λ c. row-of cellOf 15 5 _ refl (c .match .keys3)) (λ c. row-of cellOf 15 6 _ refl (c .match .keys4))
-    (λ c. row-of cellOf 15 7 _ refl (c .match .keys5)) (λ c. row-of cellOf 15 11 _ refl (c .match .keys6)) (λ c. row-of cellOf 15 14 _ refl (c .match .keys7))
-    (λ c. row-rest cellOf 15 _ (14 ∷ 11 ∷ 7 ∷ 6 ∷ 5 ∷ 3 ∷ 2 ∷ []) refl (omega arith) (c .match .rest)))
+    tie.close (tie.spec (λ c. row-of cellOf 16 2 _ refl (c .match .keys1)) (λ c. row-of cellOf 16 3 _ refl (c .match .keys2))
+    (λ c. row-of cellOf 16 5 _ refl (c .match .keys3)) (λ c. row-of cellOf 16 6 _ refl (c .match .keys4))
+    (λ c. row-of cellOf 16 7 _ refl (c .match .keys5)) (λ c. row-of cellOf 16 11 _ refl (c .match .keys6)) (λ c. row-of cellOf 16 15 _ refl (c .match .keys7))
+    (λ c. row-rest cellOf 16 _ (15 ∷ 11 ∷ 7 ∷ 6 ∷ 5 ∷ 3 ∷ 2 ∷ []) refl (omega arith) (c .match .rest)))

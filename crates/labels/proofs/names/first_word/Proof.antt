@@ -17,4 +17,5 @@ pub first-word-spec : {M : Type 1} → statement M
 unfolding fieldWord le knownNames text
 first-word-spec =
     tie.close (tie.spec (λ c. arm (c .match .keys1)) (λ c. arm (c .match .keys2)) (λ c. arm (c .match .keys3)) (λ c. arm (c .match .keys4))
-    (λ c. arm (c .match .keys5)) (λ c. arm (c .match .keys6)) (λ c. arm (last-arm 6 _ (c .match .rest) (omega arith))))
+    (λ c. arm (c .match .keys5)) (λ c. arm (c .match .keys6)) (λ c. arm (c .match .keys7)) (λ c. arm (c .match .keys8))
+    (λ c. arm (last-arm 8 _ (c .match .rest) (omega arith))))

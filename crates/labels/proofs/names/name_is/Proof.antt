@@ -18,7 +18,7 @@ returns c =
     let a = s .before .args in
     let e = name-text (a .k) (omega arith) in
     rw (name-field (a .image .now) (a .i) (omega arith) (p .at .ensures), e) at
-    (first-off (a .image .now) (p .at .result + 0) (13 + a .k) (omega arith) (λ i. omega (arith, s .shared-slice-known .given i)) (omega arith)
+    (first-off (a .image .now) (p .at .result + 0) (14 + a .k) (omega arith) (λ i. omega (arith, s .shared-slice-known .given i)) (omega arith)
     (λ z. c .if1 .taken (c .before .before .u64-at .ensures ∙ z ∙ rw e (sym (c .before .first-word .ensures)))))
 
 returns-2 : tie.Need-returns-2
@@ -29,11 +29,11 @@ returns-2 c =
     let a = s .before .args in
     let n = name-text (a .k) (omega arith) in
     let e = sym (w .before .before .u64-at .ensures) ∙ w .if1 .left ∙ w .before .first-word .ensures ∙ ap (λ (x : List ℕ). fieldWord x 0) (sym n) in
-    let r = rw (c .before .before .before .u64-at2 .ensures, c .before .before .u64-at3 .ensures, c .before .u64-at4 .ensures) at (c .rest-is .ensures) in
+    let r = rw (c .before .before .before .u64-at2 .ensures, c .before .before .u64-at3 .ensures, c .before .u64-at4 .ensures) at (c .rest-of-name .ensures) in
     rw (name-field (a .image .now) (a .i) (omega arith) (p .at .ensures), n) at
-    (r ∙ rest-spells (a .image .now) (p .at .result + 0) (13 + a .k) (omega arith) (λ i. omega (arith, s .shared-slice-known .given i)) (omega arith) e)
+    (r ∙ rest-spells (a .image .now) (p .at .result + 0) (14 + a .k) (omega arith) (λ i. omega (arith, s .shared-slice-known .given i)) (omega arith) e)
 
 pub name-is-spec : {M : Type 1} → statement M
 name-is-spec =
     tie.close (tie.spec (search needs) (search needs) (search needs) (search needs) returns (search needs) (search needs) (search needs) (search needs)
-    (search needs) (search needs) (search needs) (search needs) returns-2)
+    (search needs) (search needs) (search needs) returns-2)

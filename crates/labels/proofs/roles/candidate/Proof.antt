@@ -18,5 +18,5 @@ candidate-spec =
     (λ c. begins-with 8 (omega arith) (c .match .keys9))
     (λ c. begins-with 9 (omega arith) (c .match .keys10)) (λ c. begins-with 10 (omega arith) (c .match .keys11))
     (λ c. begins-with 11 (omega arith) (c .match .keys12))
-    (λ c. begins-with 12 (omega arith) (c .match .keys13))
+    (λ c. begins-with 12 (omega arith) (c .match .keys13)) (λ c. begins-with 13 (omega arith) (c .match .keys14))
     (λ c. begins-none (c .match .rest)))

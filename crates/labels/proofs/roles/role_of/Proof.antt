@@ -41,20 +41,20 @@ module _ (k : tie.After-candidate) where
   by-label : placeFrom 1 (take 32 (drop p b)) knownLabels ≡ role (treeOf b) (start .args .i)
   by-label = role-by-label _ _ (k .before .before .at .ensures) (omega arith) (k .before .before .before .if1 .left)
 
-  absent : (k .candidate .result < 13 → spells (take 32 (drop p b)) (getD knownTexts (k .candidate .result) []) ≡ false)
-      → (0 ≡ role (treeOf b) (start .args .i)) × (0 < 15)
+  absent : (k .candidate .result < 14 → spells (take 32 (drop p b)) (getD knownTexts (k .candidate .result) []) ≡ false)
+      → (0 ≡ role (treeOf b) (start .args .i)) × (0 < 16)
   absent e = (no-candidate b p (k .candidate .result) inside bytes begins e ∙ by-label, omega arith)
 
 -- the other words are read
-module _ (c : tie.After-rest-is) where
+module _ (c : tie.After-rest-of-label) where
   abbrev known : tie.After-candidate
   known = c .before .before .before .before .before
 
-  spelled : c .rest-is .result ≡ spells (take 32 (drop (p known) (b known))) (getD knownTexts (known .candidate .result) [])
+  spelled : c .rest-of-label .result ≡ spells (take 32 (drop (p known) (b known))) (getD knownTexts (known .candidate .result) [])
   spelled =
       let k = known .candidate .result in
-      let h : k < 13 = omega arith in
-      rw (c .before .before .before .u64-at2 .ensures, c .before .before .u64-at3 .ensures, c .before .u64-at4 .ensures) at (c .rest-is .ensures)
+      let h : k < 14 = omega arith in
+      rw (c .before .before .before .u64-at2 .ensures, c .before .before .u64-at3 .ensures, c .before .u64-at4 .ensures) at (c .rest-of-label .ensures)
       ∙ rest-spells (b known) (p known) k (inside known) (bytes known) (omega arith) (begins known .is h)
 
 returns-2 : tie.Need-returns-2

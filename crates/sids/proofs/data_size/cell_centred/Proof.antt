@@ -1,6 +1,5 @@
 -- Only a FlowSolution_t has a GridLocation.
-use Prim.Native.Nat.{ℕ}
-use mathlib.Core.Path.{_≡_, refl, sym, _∙_}
+use mathlib.Core.Path.{refl, sym, _∙_}
 use native.Mathlib.Omega.{arith}
 use borrow.Author.Needs.{needs}
 use Rattle.model.specs.Bytes.{text}
@@ -24,7 +23,7 @@ conforming-requires c κs =
     let p = c .before .before .before .before .before .pre in
     let k = sym (c .before .before .kind-of .ensures .0) ∙ c .before .if1 .left in
     let e = c .location .ensures in
-    ((p .0, e .1), λ h. found-ready _ (p .0 .sound) _ 10 (text "GridLocation") k refl (λ (z : _≡_ {A = ℕ} 10 9). absurd (omega arith)) (e .0) h)
+    ((p .0, e .1), λ h. found-ready _ (p .0 .sound) _ 10 (text "GridLocation") k refl (λ z. p .1 .held .zone .based) (e .0) h)
 
 returns-2 : tie.Need-returns-2
 unfolding cellCentred text

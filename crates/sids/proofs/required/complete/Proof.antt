@@ -28,7 +28,7 @@ returns-4 : tie.Need-returns-4
 unfolding complete row
 returns-4 c =
     let m = c .match .rest in
-    rw (← c .before .role-of .ensures .0, ne-eqb _ 14 (m .0 .0 .1), ne-eqb _ 3 (m .0 .1), ne-eqb _ 7 (m .1))
+    rw (← c .before .role-of .ensures .0, ne-eqb _ 15 (m .0 .0 .1), ne-eqb _ 3 (m .0 .1), ne-eqb _ 7 (m .1))
 
 pub complete-spec : {M : Type 1} → statement M
 complete-spec =

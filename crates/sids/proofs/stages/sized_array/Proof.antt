@@ -1,7 +1,5 @@
 -- The node's role, then its parent's.
-use native.Mathlib.Omega.{arith}
-use Prim.Native.Nat.{ℕ}
-use mathlib.Core.Path.{_≡_, sym, _∙_}
+use mathlib.Core.Path.{_≡_, refl, sym, _∙_}
 use mathlib.Core.Bool.{false, _||_, or-false}
 use lib.Dec.{eqb}
 use borrow.Author.Needs.{needs}
@@ -26,9 +24,8 @@ role-of-requires-2 c κs =
     let i = s .args .i in
     let p = s .pre in
     let r = sym (c .before .before .role-of .ensures .0) ∙ c .before .if1 .left in
-    let n : _≡_ {A = ℕ} 11 14 → ⊥ = λ z. absurd (omega arith) in
-    let v = validated-above b (p .0 .0 .sound) i (p .0 .1) (not-root (treeOf b) i 11 r n) (p .1) in
-    rw (c .parent-of .ensures .0) ((p .0 .0, held-inside b (p .0 .0 .sound) i (p .0 .1) 11 r n), v)
+    let v = validated-above b (p .0 .0 .sound) i (p .0 .1) (not-root (treeOf b) i 11 r refl) (p .1) in
+    rw (c .parent-of .ensures .0) ((p .0 .0, held-inside b (p .0 .0 .sound) i (p .0 .1) 11 r refl), v)
 
 -- both roles are known
 module _ (c : tie.After-role-of2) where

@@ -1,4 +1,4 @@
--- The dimensions of the array before it, or DataSize worked out.
+-- The dimensions of the array before it, or DataSize.
 use native.Mathlib.Omega.{arith}
 use mathlib.Core.Path.{_≡_, sym, ap, _∙_}
 use mathlib.Core.Bool.{true}
@@ -6,10 +6,9 @@ use borrow.Author.Needs.{needs}
 use borrow.Author.Tests.{not-true, not-false}
 use Rattle.model.specs.Lists.{_⊃_}
 use Rattle.model.specs.Image.{treeOf, parent}
-use Rattle.model.specs.Values.{sizesLawful, sizedArray, shaped, indexDimension}
+use Rattle.model.specs.Values.{sizesLawful, sizedArray, shaped}
 use Rattle.sids.specs.Given.{Sized}
 use Rattle.sids.proofs.Siblings.{array-after, sibling-sizes}
-use Rattle.sids.proofs.Zones.{data-sizes-are}
 use Rattle.sids.proofs.stages.sizes_lawful.Statement.{statement}
 use Rattle.sids.proofs.stages.sizes_lawful.Tie as tie
 
@@ -46,35 +45,18 @@ returns-2 c =
     (sibling-sizes (a .image .now) (a .i) (d .parent-of .result) (start d .pre .0 .0) (is-array d) (d .parent-of .ensures .0)
     (sym (c .before .before .follows-array .ensures) ∙ c .before .if2 .taken)))
 
-parent-of-requires-2 : tie.Need-parent-of-requires-2
-parent-of-requires-2 c κs =
+has-data-size-requires : tie.Need-has-data-size-requires
+has-data-size-requires c κs =
     let d = c .before .before in
-    (start d .pre .0 .0 .sound .laid, rw (d .parent-of .ensures .0) (size-known d .held .inside))
-
-index-dimension-requires : tie.Need-index-dimension-requires
-index-dimension-requires c κs =
-    let d = c .before .before .before in
-    (start d .pre .0 .1, rw (c .parent-of2 .ensures .0, d .parent-of .ensures .0) (size-known d .held .zone .based))
-
-data-sizes-requires : tie.Need-data-sizes-requires
-data-sizes-requires c κs =
-    let d = c .before .before .before .before in
-    let n = c .index-dimension .ensures in
-    ((start d .pre .0 .1, rw (d .parent-of .ensures .0) (size-known d)), (n .0 ∙ ap (indexDimension _) (c .before .parent-of2 .ensures .0), n .2))
+    ((start d .pre .0 .1, rw (d .parent-of .ensures .0) (size-known d)), start d .pre .0 .0 .inside)
 
 returns-3 : tie.Need-returns-3
 unfolding sizesLawful _⊃_
 returns-3 c =
-    let n = c .before .before in
-    let q = n .before in
-    let d = q .before .before .before in
-    let a = d .before .before .before .before .before .args in
-    let t = treeOf (a .image .now) in
-    let e = n .index-dimension .ensures .0 ∙ ap (indexDimension t) (q .parent-of2 .ensures .0 ∙ ap (parent t) (d .parent-of .ensures .0)) in
-    let f = rw (c .before .data-sizes .ensures, e, d .parent-of .ensures .0) at (c .shaped .ensures) in
-    rw (is-array d) (f ∙ ap (shaped t (a .i)) (data-sizes-are t (parent t (a .i)) (rw (← e) (n .index-dimension .ensures .2))))
+    let d = c .before .before .before in
+    rw (is-array d) (rw (d .parent-of .ensures .0) at (c .has-data-size .ensures))
 
 pub sizes-lawful-spec : {M : Type 1} → statement M
 sizes-lawful-spec =
-    tie.close (tie.spec (λ c κs. search needs) returns (search needs) follows-array-requires sub-same-shape same-shape-requires returns-2 parent-of-requires-2
-    index-dimension-requires data-sizes-requires (λ c κs. search needs) returns-3)
+    tie.close (tie.spec (λ c κs. search needs) returns (search needs) follows-array-requires sub-same-shape same-shape-requires returns-2
+    has-data-size-requires returns-3)

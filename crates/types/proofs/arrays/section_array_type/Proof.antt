@@ -9,20 +9,20 @@ use Rattle.types.proofs.arrays.section_array_type.Tie as tie
 
 returns : tie.Need-returns
 unfolding sectionArrayType
-returns c = rw (sym (c .before .before .index-array .ensures) ∙ not-true _ (c .before .if1 .taken), ← c .typed .ensures)
+returns c = rw (sym (c .before .before .element-array .ensures) ∙ not-true _ (c .before .if1 .taken), ← c .typed .ensures)
 
 returns-2 : tie.Need-returns-2
 unfolding sectionArrayType
 returns-2 c =
     let e = c .before .before in
-    rw (sym (e .before .before .index-array .ensures) ∙ not-false _ (e .before .if1 .left))
+    rw (sym (e .before .before .element-array .ensures) ∙ not-false _ (e .before .if1 .left))
     (and-on (e .typed-either .ensures) (c .before .if2 .taken) (c .flat .ensures))
 
 returns-3 : tie.Need-returns-3
 unfolding sectionArrayType
 returns-3 c =
     let e = c .before in
-    rw (sym (e .before .before .index-array .ensures) ∙ not-false _ (e .before .if1 .left))
+    rw (sym (e .before .before .element-array .ensures) ∙ not-false _ (e .before .if1 .left))
     (c .if2 .left ∙ and-done _ (e .typed-either .ensures) (c .if2 .left))
 
 pub section-array-type-spec : {M : Type 1} → statement M

@@ -27,23 +27,22 @@ returns-2 c =
 
 array-sizes-requires : tie.Need-array-sizes-requires
 array-sizes-requires c κs =
-    let s = c .before .before in
+    let s = c .before in
     let e = s .before .before in
     let d = e .before .before .before .image-stage .ensures in
-    let t = e .enum-told .given .1 in (
-      (accepted-image _ (passes (d .0) t), d .1 (ap stageTells t)),
-      sized-parts _ _ (sym (s .is-sized-array .ensures) ∙ not-false _ (c .before .if1 .left)),
-    )
+    let t = e .enum-told .given .1 in
+    let p = sized-parts _ _ (sym (s .is-sized-array .ensures) ∙ not-false _ (c .if1 .left)) in
+    ((accepted-image _ (passes (d .0) t), p .0), p .1)
 
 returns-3 : tie.Need-returns-3
 returns-3 c =
-    let s = c .before .before .before in
+    let s = c .before .before in
     let e = s .before .before in
     let d = e .before .before .before in
-    let f = sym (s .is-sized-array .ensures) ∙ not-false _ (c .before .before .if1 .left) in
+    let f = sym (s .is-sized-array .ensures) ∙ not-false _ (c .before .if1 .left) in
     c .array-sizes .ensures ∙ array-answered _ _ (passes (d .image-stage .ensures .0) (e .enum-told .given .1)) f
 
 pub data-size-spec : {M : Type 1} → statement M
 data-size-spec =
     tie.close (tie.spec (λ c. refl) (search needs) (search needs) (search needs) (search needs) returns (search needs) is-sized-array-requires
-    (search needs) returns-2 (search needs) array-sizes-requires returns-3)
+    (search needs) returns-2 array-sizes-requires returns-3)

@@ -1,5 +1,5 @@
--- Six texts are longer than two words.
-use Prim.Native.Nat.{ℕ}
+-- Three names are longer than two words.
+use Prim.Native.Nat.{ℕ, _+_}
 use mathlib.Core.Path.{_≡_, refl, ap, sym}
 use mathlib.Core.List.{[], _∷_}
 use lib.Dec.{eqb}
@@ -11,15 +11,14 @@ use Rattle.model.specs.Containment.{knownLabels}
 use Rattle.labels.specs.Padded.{fieldWord, knownNames, knownTexts}
 use Rattle.labels.proofs.Arms.{last-of}
 use Rattle.labels.proofs.KnownTexts.{textWord}
-use Rattle.labels.proofs.known.third_word.Statement.{statement}
-use Rattle.labels.proofs.known.third_word.Tie as tie
+use Rattle.labels.proofs.known.third_of_name.Statement.{statement}
+use Rattle.labels.proofs.known.third_of_name.Tie as tie
 
-arm : {k n : ℕ} → k ≡ n → textWord 2 n ≡ textWord 2 k
-arm e = ap (textWord 2) (sym e)
+arm : {k n : ℕ} → k ≡ n → textWord 2 (14 + n) ≡ textWord 2 (14 + k)
+arm e = ap (λ (j : ℕ). textWord 2 (14 + j)) (sym e)
 
-pub third-word-spec : {M : Type 1} → statement M
+pub third-of-name-spec : {M : Type 1} → statement M
 unfolding everyFrom among fieldWord le knownTexts knownNames knownLabels text
-third-word-spec =
+third-of-name-spec =
     tie.close (tie.spec (λ c. arm (c .match .keys1)) (λ c. arm (c .match .keys2)) (λ c. arm (c .match .keys3))
-    (λ c. arm (c .match .keys4)) (λ c. arm (c .match .keys5)) (λ c. arm (c .match .keys6))
-    (λ c. eqb-true _ _ (last-of (19 ∷ 18 ∷ 13 ∷ 12 ∷ 4 ∷ 0 ∷ []) (λ (k : ℕ). eqb 0x2020202020202020 (textWord 2 k)) 20 refl (omega arith) (c .match .rest))))
+    (λ c. eqb-true _ _ (last-of (6 ∷ 5 ∷ 0 ∷ []) (λ (k : ℕ). eqb 0x2020202020202020 (textWord 2 (14 + k))) 9 refl (omega arith) (c .match .rest))))
