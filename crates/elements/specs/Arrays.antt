@@ -16,7 +16,7 @@ use Rattle.ranges.specs.Tables as Tables
 unfoldable pub risesAt : List ℕ → ℕ → ℕ → ℕ → Bool
 risesAt b at w k = below w (numberAt b at w k) (numberAt b at w (suc k))
 
--- 33: the next is number k and `least`, or more
+-- 33: number k + 1 is number k and at least `least`
 unfoldable pub largeAt : List ℕ → ℕ → ℕ → ℕ → ℕ → Bool
 largeAt b at w least k = leb least (numberAt b at w (suc k) - numberAt b at w k)
 
@@ -24,9 +24,9 @@ largeAt b at w least k = leb least (numberAt b at w (suc k) - numberAt b at w k)
 unfoldable pub risesBy : List ℕ → ℕ → ℕ → ℕ → ℕ → Bool
 risesBy b at w least k = risesAt b at w k && largeAt b at w least k
 
--- which of the two n + 1 start offsets break first, 0 where neither
-unfoldable pub riseRule : List ℕ → ℕ → ℕ → ℕ → ℕ → ℕ
-riseRule b at w n least = cond (everyFrom (risesAt b at w) n 0) (cond (everyFrom (largeAt b at w least) n 0) 0 33) 31
+-- 31 where that rule is broken, else 33 where that one is, else 0
+unfoldable pub brokenRule : Bool → Bool → ℕ
+brokenRule rise large = cond rise (cond large 0 33) 31
 
 -- 30 to 33, of n + 1 start offsets
 unfoldable pub offsetRules : List ℕ → ℕ → ℕ → ℕ → ℕ → ℕ → List Rule

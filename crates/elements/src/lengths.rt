@@ -15,7 +15,7 @@ ghost use Rattle.model.specs.Rules.{check};
 ghost use Rattle.model.specs.Answers.{stageTells};
 ghost use Rattle.index.specs.Index.{Index};
 ghost use Rattle.rows.specs.Rows.{Numbers};
-ghost use Rattle.elements.specs.Arrays.{risesBy, riseRule, offsetRules};
+ghost use Rattle.elements.specs.Arrays.{risesAt, largeAt, risesBy, brokenRule, offsetRules};
 ghost use Rattle.elements.specs.Given.{Indexed, RowOf, SectionContext};
 ghost use Rattle.elements.specs.Groups.{shapeRules};
 use element_types::NFACE;
@@ -50,7 +50,7 @@ pub fn row_of(image: &[u8], j: usize) -> Row
     Row { at, width, n }
 }
 
-// Is y above x, and by `least` or more, of two numbers of a width of which x is not negative?
+// Is y above x, and by at least `least`, of two numbers of a width of which x is not negative?
 fn rises(x: u64, y: u64, width: usize, least: u64) -> bool
     requires { ⌜ (T (isWidth width) × (x < half width)) × (least ≤ 4) ⌝ }
     ensures { λ r. ⌜ r ≡ (below width x y && leb least (y - x)) ⌝ }
@@ -64,7 +64,7 @@ fn rises(x: u64, y: u64, width: usize, least: u64) -> bool
     x + least <= y
 }
 
-// Rules 31 and 33: is each of a row of start offsets above its predecessor, and by `least` or more? The first is 0.
+// Rules 31 and 33: is each of a row of start offsets above its predecessor, and by at least `least`? The first is 0.
 fn all_rise(image: &[u8], row: Row, least: u64) -> bool
     requires { ⌜ Numbers (now image) (row .at) (row .width) (row .n) × (0 < row .n) ⌝ }
     requires { ⌜ (numberAt (now image) (row .at) (row .width) 0 ≡ 0) × (least ≤ 4) ⌝ }
@@ -85,11 +85,13 @@ fn all_rise(image: &[u8], row: Row, least: u64) -> bool
     true
 }
 
-// Which of rules 31 and 33 start offsets break first, 0 where neither. The first is 0. One pass where both rules hold.
-fn rise_rule(image: &[u8], row: Row, least: u64) -> u64
+// Rules 31 and 33 of start offsets of which the first is 0: 31 where that rule is broken, else 33 where that one is, else 0. One pass where both hold.
+fn broken_rule(image: &[u8], row: Row, least: u64) -> u64
     requires { ⌜ Numbers (now image) (row .at) (row .width) (row .n) × (0 < row .n) ⌝ }
     requires { ⌜ (numberAt (now image) (row .at) (row .width) 0 ≡ 0) × (least ≤ 4) ⌝ }
-    ensures { λ r. ⌜ r ≡ riseRule (now (image .entry)) (row .at) (row .width) (row .n - 1) least ⌝ }
+    ensures { λ r. ⌜ r
+        ≡ brokenRule (everyFrom (risesAt (now (image .entry)) (row .at) (row .width)) (row .n - 1) 0)
+        (everyFrom (largeAt (now (image .entry)) (row .at) (row .width) least) (row .n - 1) 0) ⌝ }
 {
     if all_rise(image, row, least) {
         return 0;
@@ -110,7 +112,7 @@ fn offsets_stage(image: &[u8], s: usize, row: Row, length: u64, least: u64) -> S
     if rows::number_at(image, row, 0) != 0 {
         return Stage::Rejected(Rejection::at(30, s as u64));
     }
-    let broken = rise_rule(image, row, least);
+    let broken = broken_rule(image, row, least);
     if broken == 31 {
         return Stage::Rejected(Rejection::at(31, s as u64));
     }

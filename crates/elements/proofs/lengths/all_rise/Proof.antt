@@ -10,13 +10,13 @@ use Rattle.elements.proofs.lengths.all_rise.Statement.{statement}
 use Rattle.elements.proofs.lengths.all_rise.Tie as tie
 
 abbrev Inv-loop : tie.InvT-loop
-Inv-loop image row n width last₀ k₀ last k = Rising image (row .at) width n k last
+Inv-loop image row least n width last₀ k₀ last k = Rising image (row .at) width least n k last
 
 abbrev μ-loop : tie.MeasureT-loop
-μ-loop image row n width last₀ k₀ last k = n - k
+μ-loop image row least n width last₀ k₀ last k = n - k
 
 loop-holds : tie.Need-loop-holds Inv-loop μ-loop
-loop-holds c = rising-start (c .before .before .pre .1)
+loop-holds c = rising-start (c .before .before .pre .1 .0)
 
 returns : tie.Need-returns Inv-loop μ-loop
 returns c =
@@ -33,5 +33,5 @@ returns-2 c = every-done (c .before .loop .inv .left) (omega arith)
 
 pub all-rise-spec : {M : Type 1} → statement M
 all-rise-spec = tie.close (tie.spec Inv-loop μ-loop (search needs) loop-holds (search needs) (λ c κs. search needs)
-    (λ c κs. (c .before .before .before .before .before .pre .0 .0 .wide, c .before .before .loop .inv .low)) returns (search needs) (search needs) loop-again
+    (λ c κs. ((c .before .before .before .before .before .pre .0 .0 .wide, c .before .before .loop .inv .low), c .before .before .before .before .before .pre .1 .1)) returns (search needs) (search needs) loop-again
     returns-2)
