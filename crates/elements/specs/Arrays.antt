@@ -16,7 +16,7 @@ use Rattle.ranges.specs.Tables as Tables
 unfoldable pub risesAt : List ℕ → ℕ → ℕ → ℕ → Bool
 risesAt b at w k = below w (numberAt b at w k) (numberAt b at w (suc k))
 
--- 33: number k + 1 is number k and at least `least`
+-- 33: number k + 1 is at least `least` above number k
 unfoldable pub largeAt : List ℕ → ℕ → ℕ → ℕ → ℕ → Bool
 largeAt b at w least k = leb least (numberAt b at w (suc k) - numberAt b at w k)
 
