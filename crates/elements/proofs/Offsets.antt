@@ -84,7 +84,9 @@ module _ (b : List ℕ) (at w n : ℕ) where
 
   pub one-rule : everyFrom (risesBy b at w 0) n 0 ≡ everyFrom (risesAt b at w) n 0
   unfolding risesBy largeAt
-  one-rule = every-same (risesBy b at w 0) (risesAt b at w) n 0 (λ k l h. rw (le-leb 0 (numberAt b at w (suc k) - numberAt b at w k) (omega arith)) (and-true _))
+  one-rule =
+      every-same (risesBy b at w 0) (risesAt b at w) n 0
+      (λ k l h. rw (le-leb 0 (numberAt b at w (suc k) - numberAt b at w k) (omega arith)) (and-true _))
 
   -- which rule is broken first, by two passes
   module _ (least : ℕ) where

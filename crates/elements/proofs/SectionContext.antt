@@ -1,23 +1,21 @@
 -- Validation has come to section s, and rules 20 to 26 hold there: what rules 27 to 35 may rely on.
 use Prim.Native.Nat.{ℕ, zero, suc, _<_}
 use mathlib.Core.Path.{_≡_, refl, sym, subst, _∙_}
-use mathlib.Core.Bool.{Bool, true, false, not, _&&_, _||_}
+use mathlib.Core.Bool.{true, false, not, _&&_}
 use mathlib.Core.List.{List, [], _∷_}
 use native.Mathlib.Omega.{arith}
-use lib.Dec.{eqb}
-use borrow.Author.Tests.{eqb-true, ne-eqb, not-true}
-use Rattle.model.specs.Lists.{_⊃_, row, among}
+use borrow.Author.Tests.{not-true}
+use Rattle.model.specs.Lists.{row, among}
 use Rattle.model.specs.Rules.{check, passed}
 use Rattle.model.specs.Image.{Tree, treeOf, nodeCount, parent, dimensions, I4, I8}
 use Rattle.model.specs.Given.{Sound, NodesTo}
 use Rattle.model.specs.Records.{recordRules, dataSizeLawful, product}
-use Rattle.model.specs.Containment.{role, validated, found, mayHold, containment, Zone, Elements}
-use Rattle.model.specs.Values.{typed, shaped, indexDimension, unstructured, typeLawful, placed, complete, rangeOf, connectivityOf, sidsRules}
+use Rattle.model.specs.Containment.{role, validated, found, Zone, Elements}
+use Rattle.model.specs.Values.{typed, shaped, indexDimension, typeLawful, complete, rangeOf, connectivityOf, sidsRules}
 use Rattle.model.proofs.Logic.{untrue, and-first, and-second}
 use Rattle.model.proofs.Passed.{check-pass}
 use Rattle.model.proofs.Accepted.{record-rule}
 use Rattle.model.proofs.Parents.{parent-lower, lawful-at}
-use Rattle.model.proofs.Above.{validated-above, earlier-rule}
 use Rattle.model.proofs.Sections.{not-root}
 use Rattle.index.proofs.Marking.{kind-role}
 use Rattle.sids.proofs.Context.{section-held}

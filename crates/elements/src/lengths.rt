@@ -1,7 +1,7 @@
 // Rules 29 to 33: the lengths and the start offsets of a section.
 ghost use mathlib.Core.Path.{_≡_};
 ghost use mathlib.Core.Bool.{true, _&&_};
-ghost use Prim.Native.Nat.{_-_, _^_, _≤_, _<_};
+ghost use Prim.Native.Nat.{_-_, _≤_, _<_};
 ghost use lib.Dec.{T, leb};
 ghost use Rattle.words.specs.Width.{isWidth};
 ghost use Rattle.model.specs.Lists.{everyFrom};

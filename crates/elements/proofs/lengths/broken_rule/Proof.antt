@@ -1,6 +1,5 @@
 -- Where a pass for both rules fails, one for rule 31 alone tells which is broken first.
 use mathlib.Core.Path.{sym, _∙_}
-use native.Mathlib.Omega.{arith}
 use borrow.Author.Needs.{needs}
 use Rattle.elements.proofs.Offsets.{neither-broken, size-broken, rise-broken}
 use Rattle.elements.proofs.lengths.broken_rule.Statement.{statement}

@@ -32,8 +32,7 @@ row-of-requires c κs =
 offsets-stage-requires : tie.Need-offsets-stage-requires
 offsets-stage-requires c κs =
     let z = c .before .before .before in
-    let a = c .row-of .ensures in
-    (
+    let a = c .row-of .ensures in (
       (row-numbers (z .before .before .before .before .pre .0 .0 .sound) a, omega (arith, a .long, z .size-of .ensures, c .before .before .if1 .left)),
       c .before .least-size .ensures .1,
     )
@@ -51,5 +50,5 @@ returns-2 c =
 
 pub offset-shape-spec : {M : Type 1} → statement M
 offset-shape-spec = tie.close (tie.spec (λ c κs. let p = c .before .before .pre in ((p .0 .0, p .0 .1 .inside), p .0 .1 .kind-is)) size-of-requires
-    (λ c. let p = c .before .before .before .before .pre in omega (arith, count-small (p .0 .1) (p .1 .0 .0))) (search needs) returns least-size-requires row-of-requires
-    offsets-stage-requires returns-2)
+    (λ c. let p = c .before .before .before .before .pre in omega (arith, count-small (p .0 .1) (p .1 .0 .0))) (search needs) returns least-size-requires
+    row-of-requires offsets-stage-requires returns-2)
