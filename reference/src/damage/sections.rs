@@ -188,8 +188,11 @@ pub fn other_node_reference(image: &mut Image, random: &mut Random) {
     };
     let section = image.nodes[array].parent as usize;
     let zone = image.nodes[section].parent as usize;
-    let vertices = image.nodes[zone].numbers()[0];
-    let choices = [0, -1, vertices + 1, -vertices, i64::from(i32::MIN), MAX_NUMBER, i64::MIN, i64::MAX];
+    let Some(&vertices) = image.nodes[zone].numbers().first() else {
+        return;
+    };
+    let (above, below) = (vertices.saturating_add(1), vertices.saturating_neg());
+    let choices = [0, -1, above, below, i64::from(i32::MIN), MAX_NUMBER, i64::MIN, i64::MAX];
     let place = random.index(image.nodes[array].numbers().len());
     change(image, array, place, *random.pick(&choices));
 }
@@ -201,20 +204,23 @@ pub fn other_face_reference(image: &mut Image, random: &mut Random) {
     };
     let section = image.nodes[array].parent as usize;
     let zone = image.nodes[section].parent as usize;
-    let ranges: Vec<Vec<i64>> = image
+    let ranges: Vec<(i64, i64)> = image
         .children(zone)
         .into_iter()
         .filter_map(|n| image.child(n, "ElementRange"))
-        .map(|n| image.nodes[n].numbers())
+        .filter_map(|n| range_of(image, n))
         .collect();
-    let range = random.pick(&ranges);
+    if ranges.is_empty() {
+        return;
+    }
+    let (first, last) = *random.pick(&ranges);
     let sign = *random.pick(&[1, -1]);
     let choices = [
         0,
         0,
-        sign * (range[0] - 1),
-        sign * (range[1] + 1),
-        sign * range[0],
+        first.saturating_sub(1).saturating_mul(sign),
+        last.saturating_add(1).saturating_mul(sign),
+        first.saturating_mul(sign),
         i64::from(i32::MIN),
         i64::from(i32::MIN),
         sign * MAX_NUMBER,
