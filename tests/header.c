@@ -42,6 +42,9 @@ static void check_validation(const char *folder)
     CHECK(verdict.rule == GONGAURORA_RULE_IMAGE_LENGTH && verdict.node == 0);
     verdict = gongaurora_validate(NULL, 0);
     CHECK(verdict.rule == GONGAURORA_RULE_IMAGE_LENGTH && verdict.node == 0);
+    load(folder, "near_33.img");
+    verdict = gongaurora_validate(image, length);
+    CHECK(verdict.rule == GONGAURORA_RULE_ELEMENT_SIZE && verdict.node == 9);
     load(folder, "near_35.img");
     verdict = gongaurora_validate(image, length);
     CHECK(verdict.rule == GONGAURORA_RULE_FACE_REFERENCE && verdict.node == 13);
