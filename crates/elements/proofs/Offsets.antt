@@ -1,7 +1,7 @@
 -- Start offsets: one is above its predecessor, and by the least size or more.
 use Prim.Native.Nat.{ℕ, suc, _+_, _*_, _-_, _≤_, _<_}
 use mathlib.Core.Path.{_≡_, refl, sym, _∙_}
-use mathlib.Core.Bool.{Bool, true, false, cond, not, _&&_}
+use mathlib.Core.Bool.{Bool, true, false, not, _&&_}
 use mathlib.Core.List.{List}
 use native.Mathlib.Nat.{one-le-pow}
 use native.Mathlib.Numerals.{add-one}
@@ -16,7 +16,7 @@ use Rattle.model.proofs.Logic.{and-first, and-second, and-true}
 use Rattle.model.proofs.Loops.{EveryLeft, every-start, every-more, every-stop}
 use Rattle.words.specs.Width.{isWidth}
 use Rattle.words.proofs.Signed.{eight}
-use Rattle.elements.specs.Arrays.{risesAt, largeAt, risesBy, brokenRule}
+use Rattle.elements.specs.Arrays.{risesAt, largeAt, risesBy}
 use Rattle.elements.proofs.Agree.{every-same, every-both}
 
 -- of two numbers of which x is not negative: y is above x where it is not negative and greater
@@ -76,71 +76,24 @@ module _ {b : List ℕ} {at w least n k last next : ℕ} (r : Rising b at w leas
   pub rising-off : k < n → (below w last next && leb least (next - last)) ≡ false → false ≡ everyFrom (risesBy b at w least) n 0
   rising-off h f = every-stop (r .left) h (rise-is f)
 
+-- a pass for both rules, and one for rule 31 alone: any size is 0 or more
 module _ (b : List ℕ) (at w n : ℕ) where
-  -- both rules hold of all start offsets where each does; any size is 0 or more
-  pub both-rules : (least : ℕ) → everyFrom (risesBy b at w least) n 0 ≡ (everyFrom (risesAt b at w) n 0 && everyFrom (largeAt b at w least) n 0)
-  unfolding risesBy
-  both-rules least = every-both (risesAt b at w) (largeAt b at w least) n 0
-
-  pub one-rule : everyFrom (risesBy b at w 0) n 0 ≡ everyFrom (risesAt b at w) n 0
+  pub rise-alone : everyFrom (risesBy b at w 0) n 0 ≡ everyFrom (risesAt b at w) n 0
   unfolding risesBy largeAt
-  one-rule =
+  rise-alone =
       every-same (risesBy b at w 0) (risesAt b at w) n 0
       (λ k l h. rw (le-leb 0 (numberAt b at w (suc k) - numberAt b at w k) (omega arith)) (and-true _))
 
-  -- which rule is broken first, by two passes
   module _ (least : ℕ) where
-    pub neither-broken : everyFrom (risesBy b at w least) n 0 ≡ true
-        → 0 ≡ brokenRule (everyFrom (risesAt b at w) n 0) (everyFrom (largeAt b at w least) n 0)
-    unfolding brokenRule
-    neither-broken e =
-        let u = everyFrom (risesAt b at w) n 0 in
-        let v = everyFrom (largeAt b at w least) n 0 in
-        rw (and-first u v (sym (both-rules least) ∙ e), and-second u v (sym (both-rules least) ∙ e))
+    both-rules : everyFrom (risesBy b at w least) n 0 ≡ (everyFrom (risesAt b at w) n 0 && everyFrom (largeAt b at w least) n 0)
+    unfolding risesBy
+    both-rules = every-both (risesAt b at w) (largeAt b at w least) n 0
 
-    pub size-broken : everyFrom (risesBy b at w least) n 0 ≡ false → everyFrom (risesBy b at w 0) n 0 ≡ true
-        → 33 ≡ brokenRule (everyFrom (risesAt b at w) n 0) (everyFrom (largeAt b at w least) n 0)
-    unfolding brokenRule
-    size-broken e f = let u = sym one-rule ∙ f in rw (u, rw (both-rules least, u) at e)
+    pub rise-holds : everyFrom (risesBy b at w least) n 0 ≡ true → everyFrom (risesAt b at w) n 0 ≡ true
+    rise-holds e = and-first _ (everyFrom (largeAt b at w least) n 0) (sym both-rules ∙ e)
 
-    pub rise-broken : everyFrom (risesBy b at w 0) n 0 ≡ false → 31 ≡ brokenRule (everyFrom (risesAt b at w) n 0) (everyFrom (largeAt b at w least) n 0)
-    unfolding brokenRule
-    rise-broken f = rw (sym one-rule ∙ f)
+    pub size-holds : everyFrom (risesBy b at w least) n 0 ≡ true → everyFrom (largeAt b at w least) n 0 ≡ true
+    size-holds e = and-second (everyFrom (risesAt b at w) n 0) _ (sym both-rules ∙ e)
 
--- the tests of both rules from its number
-module _ (u v : Bool) {r : ℕ} (e : r ≡ brokenRule u v) where
-  pub rise-fails : r ≡ 31 → u ≡ false
-  unfolding brokenRule
-  rise-fails h = by-test u v (sym e ∙ h)
-    where
-      by-test : (u v : Bool) → _≡_ {A = ℕ} (cond u (cond v 0 33) 31) 31 → u ≡ false
-      by-test false v q = refl
-      by-test true true q = absurd (omega arith)
-      by-test true false q = absurd (omega arith)
-
-  pub rise-holds : (r ≡ 31 → ⊥) → u ≡ true
-  unfolding brokenRule
-  rise-holds h = by-test u refl
-    where
-      by-test : (c : Bool) → u ≡ c → u ≡ true
-      by-test true q = q
-      by-test false q = absurd (h (rw q at e))
-
-  module _ (f : u ≡ true) where
-    size-is : r ≡ cond v 0 33
-    unfolding brokenRule
-    size-is = rw f at e
-
-    pub size-fails : r ≡ 33 → v ≡ false
-    size-fails h = by-test v (sym size-is ∙ h)
-      where
-        by-test : (v : Bool) → _≡_ {A = ℕ} (cond v 0 33) 33 → v ≡ false
-        by-test false q = refl
-        by-test true q = absurd (omega arith)
-
-    pub size-holds : (r ≡ 33 → ⊥) → v ≡ true
-    size-holds h = by-test v refl
-      where
-        by-test : (c : Bool) → v ≡ c → v ≡ true
-        by-test true q = q
-        by-test false q = absurd (h (rw q at size-is))
+    pub size-fails : everyFrom (risesBy b at w least) n 0 ≡ false → everyFrom (risesAt b at w) n 0 ≡ true → everyFrom (largeAt b at w least) n 0 ≡ false
+    size-fails e u = rw (both-rules, u) at e

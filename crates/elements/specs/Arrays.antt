@@ -1,7 +1,7 @@
 -- Rows of numbers in bytes, and what rules 31, 33, 34 and 35 ask of each number of a row.
 use Prim.Native.Nat.{ℕ, suc, _-_, _≤_, _<_}
 use mathlib.Core.Path.{_≡_}
-use mathlib.Core.Bool.{Bool, true, cond, _&&_, _||_}
+use mathlib.Core.Bool.{Bool, true, _&&_, _||_}
 use mathlib.Core.List.{List, [], _∷_}
 use lib.Dec.{eqb, leb}
 use Rattle.model.specs.Lists.{everyFrom}
@@ -23,10 +23,6 @@ largeAt b at w least k = leb least (numberAt b at w (suc k) - numberAt b at w k)
 -- 31 and 33
 unfoldable pub risesBy : List ℕ → ℕ → ℕ → ℕ → ℕ → Bool
 risesBy b at w least k = risesAt b at w k && largeAt b at w least k
-
--- 31 where that rule is broken, else 33 where that one is, else 0
-unfoldable pub brokenRule : Bool → Bool → ℕ
-brokenRule rise large = cond rise (cond large 0 33) 31
 
 -- 30 to 33, of n + 1 start offsets
 unfoldable pub offsetRules : List ℕ → ℕ → ℕ → ℕ → ℕ → ℕ → List Rule

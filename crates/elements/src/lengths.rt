@@ -15,7 +15,7 @@ ghost use Rattle.model.specs.Rules.{check};
 ghost use Rattle.model.specs.Answers.{stageTells};
 ghost use Rattle.index.specs.Index.{Index};
 ghost use Rattle.rows.specs.Rows.{Numbers};
-ghost use Rattle.elements.specs.Arrays.{risesAt, largeAt, risesBy, brokenRule, offsetRules};
+ghost use Rattle.elements.specs.Arrays.{risesBy, offsetRules};
 ghost use Rattle.elements.specs.Given.{Indexed, RowOf, SectionContext};
 ghost use Rattle.elements.specs.Groups.{shapeRules};
 use element_types::NFACE;
@@ -85,44 +85,29 @@ fn all_rise(image: &[u8], row: Row, least: u64) -> bool
     true
 }
 
-// Rules 31 and 33 of start offsets of which the first is 0: 31 where that rule is broken, else 33 where that one is, else 0. One pass where both hold.
-fn broken_rule(image: &[u8], row: Row, least: u64) -> u64
-    requires { ⌜ Numbers (now image) (row .at) (row .width) (row .n) × (0 < row .n) ⌝ }
-    requires { ⌜ (numberAt (now image) (row .at) (row .width) 0 ≡ 0) × (least ≤ 4) ⌝ }
-    ensures { λ r. ⌜ r
-        ≡ brokenRule (everyFrom (risesAt (now (image .entry)) (row .at) (row .width)) (row .n - 1) 0)
-        (everyFrom (largeAt (now (image .entry)) (row .at) (row .width) least) (row .n - 1) 0) ⌝ }
-{
-    if all_rise(image, row, least) {
-        return 0;
-    }
-    if all_rise(image, row, 0) {
-        return 33;
-    }
-    31
-}
-
 // Rules 30 to 33 of the start offsets of section s: the first is 0, each is above its predecessor, the last is the connectivity length, and no two
-// neighbours are less than `least` apart.
+// neighbours are less than `least` apart. One pass over lawful ones; where it fails, another asks rule 31 alone.
 fn offsets_stage(image: &[u8], s: usize, row: Row, length: u64, least: u64) -> Stage
     requires { ⌜ (Numbers (now image) (row .at) (row .width) (row .n) × (0 < row .n)) × (least ≤ 4) ⌝ }
     ensures { λ r. ⌜ stageTells r ≡ check s (offsetRules (now (image .entry)) (row .at) (row .width) (row .n - 1) length least) ⌝ }
 {
-    let n = row.n - 1;
     if rows::number_at(image, row, 0) != 0 {
         return Stage::Rejected(Rejection::at(30, s as u64));
     }
-    let broken = broken_rule(image, row, least);
-    if broken == 31 {
-        return Stage::Rejected(Rejection::at(31, s as u64));
-    }
-    if rows::number_at(image, row, n) != length {
+    let ends = rows::number_at(image, row, row.n - 1) == length;
+    if all_rise(image, row, least) {
+        if ends {
+            return Stage::Pass;
+        }
         return Stage::Rejected(Rejection::at(32, s as u64));
     }
-    if broken == 33 {
-        return Stage::Rejected(Rejection::at(33, s as u64));
+    if !all_rise(image, row, 0) {
+        return Stage::Rejected(Rejection::at(31, s as u64));
     }
-    Stage::Pass
+    if !ends {
+        return Stage::Rejected(Rejection::at(32, s as u64));
+    }
+    Stage::Rejected(Rejection::at(33, s as u64))
 }
 
 // The least size of an element of section s; 0 where rule 33 asks nothing.
