@@ -40,9 +40,9 @@
 
 /* The version of this header and of the archive beside it. */
 #define GONGAURORA_VERSION_MAJOR 0
-#define GONGAURORA_VERSION_MINOR 3
+#define GONGAURORA_VERSION_MINOR 4
 #define GONGAURORA_VERSION_PATCH 0
-#define GONGAURORA_VERSION "0.3.0"
+#define GONGAURORA_VERSION "0.4.0"
 
 #ifdef __cplusplus
 extern "C" {
@@ -91,6 +91,7 @@ enum gongaurora_rule {
     GONGAURORA_RULE_FIRST_OFFSET = 30,    /* the first start offset is not 0 */
     GONGAURORA_RULE_OFFSET_ORDER = 31,    /* a start offset not above its predecessor */
     GONGAURORA_RULE_LAST_OFFSET = 32,     /* the last start offset is not the connectivity length */
+    GONGAURORA_RULE_ELEMENT_SIZE = 33,    /* CellDimension 3, and a face of under 3 nodes or a cell of under 4 faces */
     GONGAURORA_RULE_NODE_REFERENCE = 34,  /* a node number outside 1 to VertexSize */
     GONGAURORA_RULE_FACE_REFERENCE = 35,  /* a face number that is no face of the zone */
 
@@ -141,6 +142,7 @@ static inline const char *gongaurora_rule_text(uint64_t rule)
     case 30: return "The section's first start offset is not 0.";
     case 31: return "A start offset of the section is not above its predecessor.";
     case 32: return "The section's last start offset is not its connectivity length.";
+    case 33: return "The section has a face of fewer than 3 nodes or a cell of fewer than 4 faces.";
     case 34: return "The section refers to a node outside 1 to VertexSize.";
     case 35: return "The section refers to a face that the zone does not have.";
     case 40: return "There is no such node, or it is not of the kind asked for.";

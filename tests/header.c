@@ -42,6 +42,9 @@ static void check_validation(const char *folder)
     CHECK(verdict.rule == GONGAURORA_RULE_IMAGE_LENGTH && verdict.node == 0);
     verdict = gongaurora_validate(NULL, 0);
     CHECK(verdict.rule == GONGAURORA_RULE_IMAGE_LENGTH && verdict.node == 0);
+    load(folder, "near_33.img");
+    verdict = gongaurora_validate(image, length);
+    CHECK(verdict.rule == GONGAURORA_RULE_ELEMENT_SIZE && verdict.node == 9);
     load(folder, "near_35.img");
     verdict = gongaurora_validate(image, length);
     CHECK(verdict.rule == GONGAURORA_RULE_FACE_REFERENCE && verdict.node == 13);
@@ -166,7 +169,7 @@ static void check_rule_texts(void)
     const char *none = gongaurora_rule_text(48);
     uint64_t rule;
     for (rule = 0; rule <= 47; rule++) {
-        int known = rule != 19 && rule != 33 && !(36 <= rule && rule <= 39);
+        int known = rule != 19 && !(36 <= rule && rule <= 39);
         CHECK((strcmp(gongaurora_rule_text(rule), none) != 0) == known);
     }
     CHECK(strcmp(gongaurora_rule_text((uint64_t)1 << 32), none) == 0);

@@ -2,11 +2,12 @@
 //! their parents, many siblings. The times of meshes tell nothing of them. All are lawful but those that say which rule they break.
 
 use reference::build::{Image, Node};
+use reference::mesh::polyhedra;
 use reference::random::Random;
 
 use crate::parts::{
-    add_bare_zone, add_triangles, add_zone, add_zone_type, at_random, children_last, falling, in_turn, rising,
-    with_base, with_zone, Section, APART, MAX_NODES, NFACE_N, NGON_N, TRI_3,
+    add_bare_zone, add_faces, add_triangles, add_zone, add_zone_type, at_random, children_last, falling, in_turn,
+    rising, with_base, with_zone, Section, APART, MAX_NODES, NFACE_N, NGON_N, TRI_3,
 };
 
 /// Face references of an image with one cell section, and of each cell section where there are many.
@@ -108,6 +109,14 @@ fn of_faces() -> Vec<Odd> {
             "two_zones_children_last",
             children_last(two_zones(random)),
         ),
+        Odd {
+            rule: 33,
+            ..odd(
+                "polyhedra I4, 52 x 52 x 52, two nodes in the last face: rule 33",
+                "flat_last_face",
+                flat_last_face(52),
+            )
+        },
     ]
 }
 
@@ -159,12 +168,12 @@ fn one_cell(faces: &[i64], references: &[i64]) -> Image {
     image
 }
 
-/// A section of 900 faces from each number on, and cells that use each face once with either sign.
+/// A section of 600 faces from each number on, and cells that use each face once with either sign.
 fn both_sides(random: &mut Random, firsts: &[i64]) -> Image {
-    const FACES: usize = 900;
+    const FACES: usize = 600;
     let (mut image, zone) = with_zone();
     for &first in firsts {
-        Section { element_type: NGON_N, first, size: 1, references: &[1; FACES] }.add(&mut image, zone);
+        add_faces(&mut image, zone, first, FACES);
     }
     let faces = firsts.iter().flat_map(|&first| first..first + FACES as i64);
     let mut references: Vec<i64> = faces.flat_map(|face| [face, -face]).collect();
@@ -174,20 +183,20 @@ fn both_sides(random: &mut Random, firsts: &[i64]) -> Image {
     image
 }
 
-/// Sections of 30 faces close together, behind them so many great ones, which share 300,000 faces, and a cell with references: to the first faces
+/// Sections of 30 faces close together, behind them so many great ones, which share 200,000 faces, and a cell with references: to the first faces
 /// where there is one great section, else to these and to those of the great ones in equal parts.
 fn beside_great(random: &mut Random, great: usize) -> Image {
     const FACES: usize = 30;
-    let size = 300_000 / great;
+    let size = 200_000 / great;
     let (mut image, zone) = with_zone();
     let firsts = rising(1_000, FACES as i64 + 2);
     for &first in &firsts {
-        Section { element_type: NGON_N, first, size: 1, references: &[1; FACES] }.add(&mut image, zone);
+        add_faces(&mut image, zone, first, FACES);
     }
     let mut faces: Vec<i64> = firsts.iter().flat_map(|&first| first..first + FACES as i64).collect();
     let mut next = firsts[firsts.len() - 1] + 2 * FACES as i64;
     for _ in 0..great {
-        Section { element_type: NGON_N, first: next, size: 1, references: &vec![1; size] }.add(&mut image, zone);
+        add_faces(&mut image, zone, next, size);
         if great > 1 {
             faces.extend((next..next + size as i64).step_by(10));
         }
@@ -225,6 +234,19 @@ fn two_zones(random: &mut Random) -> Image {
             Section::of_one(NFACE_N, cell, &at_random(random, FEW_REFERENCES, faces)).add(&mut image, zone);
         }
     }
+    image
+}
+
+/// A mesh of polyhedra with two nodes in the last face of its last section: nothing else is wrong with it.
+fn flat_last_face(n: i64) -> Image {
+    let mut image = polyhedra(n, 4);
+    let [.., offsets, connectivity] = &mut image.nodes[..] else { panic!("the last section's children") };
+    let (mut starts, mut nodes) = (offsets.numbers(), connectivity.numbers());
+    nodes.truncate(nodes.len() - 2);
+    starts.pop();
+    starts.push(nodes.len() as i64);
+    offsets.set_list(&starts);
+    connectivity.set_list(&nodes);
     image
 }
 

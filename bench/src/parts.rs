@@ -120,6 +120,12 @@ pub fn add_triangles(image: &mut Image, zone: usize, element_type: i64, numbers:
     numbers.iter().map(|&number| Section::triangle(element_type, number).add(image, zone)).collect()
 }
 
+/// Adds a section of so many triangular faces.
+pub fn add_faces(image: &mut Image, zone: usize, first: i64, count: usize) {
+    let references = TRIANGLE.repeat(count);
+    Section { element_type: NGON_N, first, size: TRIANGLE.len(), references: &references }.add(image, zone);
+}
+
 /// Puts every ZoneType and all children of sections behind the other nodes.
 pub fn children_last(mut image: Image) -> Image {
     let is_last = |&node: &usize| {

@@ -73,6 +73,15 @@ impl Node {
         Node::integers("PointList", "IndexArray_t", width, &[directions as u64, count as u64], indices)
     }
 
+    /// An ElementStartOffset from the size of each element.
+    pub fn start_offsets(width: usize, sizes: &[i64]) -> Node {
+        let mut offsets = vec![0];
+        for size in sizes {
+            offsets.push(offsets[offsets.len() - 1] + size);
+        }
+        Node::list("ElementStartOffset", width, &offsets)
+    }
+
     /// Bytes of one value of its data type; 0 for a type that is none.
     pub fn width(&self) -> usize {
         DataType::named(self.data_type).map_or(0, DataType::width)

@@ -1,7 +1,8 @@
 //! The worked cases: of document 01, "One tetrahedron, and near misses", (a) to (m) as images; behind them those of
-//! points.
+//! document 02.
 
 use crate::build::{Image, Node};
+use crate::flat_cases::flat_cases;
 use crate::point_cases::point_cases;
 
 /// The nodes of a tetrahedron's four faces (001).
@@ -37,7 +38,7 @@ pub fn tetrahedron() -> Image {
 }
 
 /// Adds a section with its range, start offsets and connectivity, all I4.
-fn add_section(
+pub fn add_section(
     image: &mut Image,
     zone: usize,
     name: &str,
@@ -91,7 +92,8 @@ pub fn rind_planes() -> Vec<u8> {
 /// The node of the array of case (m).
 pub const RIND_ARRAY: u64 = 7;
 
-/// All cases, each with its name; (j) has three, and those of points begin with `p1_`.
+/// All cases, each with its name; (j) has three, those of points begin with `p1_`, those of flat faces and cells with
+/// `f2_`.
 pub fn cases() -> Vec<(&'static str, Vec<u8>)> {
     let a = tetrahedron().to_bytes();
     let b = a[..31].to_vec();
@@ -114,6 +116,7 @@ pub fn cases() -> Vec<(&'static str, Vec<u8>)> {
         ("m", rind_planes()),
     ];
     cases.extend(point_cases());
+    cases.extend(flat_cases());
     cases
 }
 

@@ -1,11 +1,11 @@
-//! Element sections (document 01, "Sections"): their element types, ranges, start offsets and connectivity, and rules 27
-//! to 35, each as one test that says whether it holds at a validated node.
+//! Element sections (document 01, "Sections"; document 02, §2): their element types, ranges, start offsets and
+//! connectivity, and rules 27 to 35, each as one test that says whether it holds at a validated node.
 
 use crate::bytes::Integers;
 use crate::face_ranges::Faces;
 use crate::labels::Label;
 use crate::sids::range_of;
-use crate::sizes::zone_sizes;
+use crate::sizes::{cell_dimension, zone_sizes};
 use crate::tree::Tree;
 
 /// The element type of a section of faces, each a list of nodes.
@@ -48,6 +48,16 @@ pub fn shape_of(element_type: i64) -> Option<Shape> {
         _ => return None,
     };
     Some(Shape::Fixed(nodes))
+}
+
+/// The fewest references that an element of a type needs in a base of this CellDimension (document 02, §2), repeats
+/// counted; nothing where there is no such bound.
+pub fn least_size(element_type: i64, cell_dimension: u64) -> Option<u64> {
+    match (element_type, cell_dimension) {
+        (NGON_N, 3) => Some(3),
+        (NFACE_N, 3) => Some(4),
+        _ => None,
+    }
 }
 
 /// A section's own data and its conforming children, as the rules read them.
@@ -104,14 +114,10 @@ impl<'a> SectionData<'a> {
         }
     }
 
-    /// Whether each start offset is above its predecessor.
-    fn offsets_rise(&self) -> bool {
-        let mut before: Option<i64> = None;
-        self.offsets.all(|offset| {
-            let rises = before.is_none_or(|b| b < offset);
-            before = Some(offset);
-            rises
-        })
+    /// Whether `test` holds for the start and the end of each element: a start offset and the one behind it.
+    fn all_elements(&self, test: impl Fn(i64, i64) -> bool) -> bool {
+        let mut start = None;
+        self.offsets.all(|end| start.replace(end).is_none_or(|start| test(start, end)))
     }
 }
 
@@ -164,12 +170,24 @@ pub fn first_offset_zero(tree: &Tree, node: usize) -> bool {
 
 /// Rule 31: each start offset is above its predecessor.
 pub fn offsets_rise(tree: &Tree, node: usize) -> bool {
-    of_section(tree, node, |s| !s.has_offsets() || s.offsets_rise())
+    of_section(tree, node, |s| !s.has_offsets() || s.all_elements(|start, end| start < end))
 }
 
 /// Rule 32: the last start offset is the connectivity length.
 pub fn last_offset_is_length(tree: &Tree, node: usize) -> bool {
     of_section(tree, node, |s| !s.has_offsets() || s.offsets.last() == Some(s.connectivity.len() as i64))
+}
+
+/// Rule 33: in a base of CellDimension 3 each face has at least 3 nodes and each cell at least 4 faces. Asked of a
+/// section that meets rule 31.
+pub fn none_flat(tree: &Tree, node: usize) -> bool {
+    let Some(zone) = tree.parent_labelled(node, Label::Zone) else {
+        return true;
+    };
+    of_section(tree, node, |s| {
+        let least = least_size(s.element_type, cell_dimension(tree, zone));
+        least.is_none_or(|least| s.all_elements(|start, end| start.abs_diff(end) >= least))
+    })
 }
 
 /// Rule 34: every reference of a section that is not of type 23 is a node from 1 to VertexSize.

@@ -1,10 +1,10 @@
-//! The seeded generator: each index of a run has a target, a lawful image, a rule to be broken or a case of points, so
-//! that a run of a few hundred images meets every rule that can occur and every case.
+//! The seeded generator: each index of a run has a target, a lawful image, a rule to be broken or a case of document 02,
+//! so that a run of a few hundred images meets every rule that can occur and every case.
 
 use std::collections::BTreeMap;
 
 use crate::build::Image;
-use crate::damage::{damages_of, flips, point_case, Damage, DAMAGES};
+use crate::damage::{damages_of, flat_case, flips, point_case, Answer, Damage, DAMAGES};
 use crate::lawful::{chain, lawful, SizeClass};
 use crate::random::Random;
 use crate::validation::validate;
@@ -22,25 +22,29 @@ enum Target {
     Deep,
     /// A case of points (document 02, §1) of this number.
     Points(usize),
+    /// A case of flat faces and cells (document 02, §2) of this number.
+    Flat(usize),
 }
 
-/// How many indices make a round: each rule once, a lawful image after every second one, five others, and eleven cases
-/// of points, a third of their list.
-const ROUND: u64 = 32 + 18 + 5 + POINTS;
-const POINTS: u64 = 11;
+/// How many indices make a round: each rule once, a lawful image before every second one, five others; eleven cases of
+/// points, a third of their list, and eleven of flat faces and cells, half of theirs.
+const ROUND: u64 = 33 + 17 + 5 + 2 * CASES;
+const CASES: u64 = 11;
 
-/// The target of an index: every sixth is a case of points, each case in its turn.
+/// The target of an index: of every seven the last two are cases, each case in its turn.
 fn target(index: u64) -> Target {
     let (round, place) = (index / ROUND, index % ROUND);
-    if place % 6 == 5 {
-        return Target::Points((round * POINTS + place / 6) as usize);
+    let (seven, within) = (place / 7, place % 7);
+    let case = (round * CASES + seven) as usize;
+    match within {
+        5 => return Target::Points(case),
+        6 => return Target::Flat(case),
+        _ => (),
     }
-    let place = (place - place / 6) as usize;
-    let paired = place / 3;
+    let place = (5 * seven + within) as usize;
     match place {
-        0..48 if place.is_multiple_of(3) => Target::Lawful,
-        0..48 => Target::Rule(DAMAGES[2 * paired + place % 3 - 1].0),
-        48 | 49 => Target::Lawful,
+        0..50 if place.is_multiple_of(3) => Target::Lawful,
+        0..50 => Target::Rule(DAMAGES[place - place / 3 - 1].0),
         50..53 => Target::Flips,
         53 => Target::Several,
         _ if round.is_multiple_of(4) => Target::Deep,
@@ -64,7 +68,8 @@ pub fn image(seed: u64, index: u64, class: SizeClass) -> Vec<u8> {
             bytes
         }
         Target::Several => several(&mut random, class),
-        Target::Points(number) => points(&mut random, class, number),
+        Target::Points(number) => with_case(&mut random, class, |image, random| point_case(image, random, number)),
+        Target::Flat(number) => with_case(&mut random, class, |image, random| flat_case(image, random, number)),
     }
 }
 
@@ -82,11 +87,15 @@ fn breaking(random: &mut Random, class: SizeClass, rule: u32) -> Vec<u8> {
     bytes
 }
 
-/// An image with a case of points that keeps within the bounds of the class; a lawful one where none was found.
-fn points(random: &mut Random, class: SizeClass, number: usize) -> Vec<u8> {
+/// An image with a case that keeps within the bounds of the class; a lawful one where none was found.
+fn with_case(
+    random: &mut Random,
+    class: SizeClass,
+    case: impl Fn(&mut Image, &mut Random) -> Option<Answer>,
+) -> Vec<u8> {
     for _ in 0..TRIES {
         let mut image = lawful(random, class);
-        if point_case(&mut image, random, number).is_some() && class.holds(&image) {
+        if case(&mut image, random).is_some() && class.holds(&image) {
             return image.to_bytes();
         }
     }

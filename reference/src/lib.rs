@@ -1,5 +1,5 @@
 //! The independent reference program: a validator and reader of CGNS node-table images, written from document 01 and
-//! §1 of document 02 alone.
+//! §1 and §2 of document 02 alone.
 //! Every public call answers on every input; a refusal is a [`Rejection`].
 //!
 //! Data flow one way: bytes → header → records → table → tree → rules → calls.
@@ -13,6 +13,7 @@ pub mod data_type;
 pub mod elements;
 pub mod face_ranges;
 pub mod faces;
+pub mod flat_cases;
 pub mod generate;
 pub mod header;
 pub mod labels;

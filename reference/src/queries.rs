@@ -138,9 +138,14 @@ impl Asker<'_> {
     /// Corners of a section: inside, at the ends, out of range, and by an entry with one number changed.
     fn corners(&mut self, entry: &Section) {
         let numbers = entry.numbers();
-        for corner in [0, 1, 2, 3, 4, 5, u64::MAX] {
-            self.corner(&numbers, entry.first, corner);
-            self.corner(&numbers, entry.last, corner);
+        for element in [entry.first, entry.last] {
+            let size = self.size(&numbers, element);
+            let mut asked = vec![0, 1, 2, 3, 4, 5, size, size + 1, u64::MAX];
+            asked.sort_unstable();
+            asked.dedup();
+            for corner in asked {
+                self.corner(&numbers, element, corner);
+            }
         }
         for element in [0, entry.first - 1, entry.last + 1, u64::MAX] {
             self.corner(&numbers, element, 1);
@@ -159,6 +164,12 @@ impl Asker<'_> {
             self.corner(&other, first, corner);
             self.corner(&other, element, corner);
         }
+    }
+
+    /// How many corners an element has; 64 where it has more, or is not of the section.
+    fn size(&self, entry: &[u64; ENTRY_LENGTH], element: u64) -> u64 {
+        let mut out = [0; 64];
+        element_corners(self.image, entry, element, &mut out).unwrap_or(out.len()) as u64
     }
 
     /// A number near another, or at the end of what 64 bits hold.
@@ -269,7 +280,8 @@ impl Asker<'_> {
             1 => entry.last,
             _ => entry.first + self.random.below(entry.last - entry.first + 1),
         };
-        [which as u64, element, self.random.below(5)]
+        let size = self.size(&entry.numbers(), element);
+        [which as u64, element, self.random.below(size + 2)]
     }
 
     /// All corners of elements of a section: the first and the last with memory of several lengths, out of range, and by an entry with one
@@ -277,8 +289,7 @@ impl Asker<'_> {
     fn elements(&mut self, entry: &Section) {
         let numbers = entry.numbers();
         for element in [entry.first, entry.last] {
-            let mut out = [0; 64];
-            let size = element_corners(self.image, &numbers, element, &mut out).unwrap_or(out.len());
+            let size = self.size(&numbers, element) as usize;
             for room in [size, size - 1, size + self.random.index(4), 0] {
                 self.element(&numbers, element, room);
             }

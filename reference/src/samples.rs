@@ -16,6 +16,7 @@ pub fn samples() -> Vec<(&'static str, Vec<u8>)> {
         ("near_30", case("e")),
         ("near_31", case("f")),
         ("near_32", case("g")),
+        ("near_33", case("f2_face")),
         ("near_34", case("i")),
         ("near_35", case("j5")),
     ]

@@ -47,19 +47,18 @@ pub fn is_unstructured(tree: &Tree, zone: usize) -> bool {
     zone_type_is(tree, zone, b"Unstructured")
 }
 
-/// A base's CellDimension; 0 for a base that does not conform (it is refused before any zone of it is looked at).
-fn cell_dimension(tree: &Tree, base: usize) -> u64 {
-    if tree.label(base) != Some(Label::CGNSBase) || !tree.conforms(base) {
-        return 0;
-    }
-    let stored = tree.table.integers(base).get(0).unwrap_or(0);
+/// CellDimension of a zone's own base; 0 for a base that does not conform (it is refused before any zone of it is
+/// looked at).
+pub fn cell_dimension(tree: &Tree, zone: usize) -> u64 {
+    let base = tree.parent_labelled(zone, Label::CGNSBase).filter(|&base| tree.conforms(base));
+    let stored = base.and_then(|base| tree.table.integers(base).get(0)).unwrap_or(0);
     u64::try_from(stored).unwrap_or(0)
 }
 
 /// A zone's IndexDimension: CellDimension of its base if structured, else 1.
 pub fn index_dimension(tree: &Tree, zone: usize) -> u64 {
     if is_structured(tree, zone) {
-        tree.parent(zone).map_or(0, |base| cell_dimension(tree, base))
+        cell_dimension(tree, zone)
     } else {
         1
     }

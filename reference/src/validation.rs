@@ -1,7 +1,7 @@
 //! The whole verdict (document 01, "Rule numbers"): header, records, trailing words or bytes, then the nodes in order, at
 //! a node the lowest rule first.
 
-use crate::elements::{faces_in_zone, nodes_in_zone};
+use crate::elements::{faces_in_zone, nodes_in_zone, none_flat};
 use crate::elements::{first_offset_zero, last_offset_is_length, offsets_rise};
 use crate::elements::{lengths_fit, range_free, type_taken};
 use crate::labels::Label;
@@ -23,7 +23,7 @@ pub struct Counts {
 type NodeRule = (u32, fn(&Tree, usize) -> bool);
 
 /// The rules of a validated node, ascending. This list alone knows their order.
-const NODE_RULES: [NodeRule; 15] = [
+const NODE_RULES: [NodeRule; 16] = [
     (20, contained),
     (21, fixed_name_used),
     (22, allowed_again),
@@ -37,6 +37,7 @@ const NODE_RULES: [NodeRule; 15] = [
     (30, first_offset_zero),
     (31, offsets_rise),
     (32, last_offset_is_length),
+    (33, none_flat),
     (34, nodes_in_zone),
     (35, faces_in_zone),
 ];

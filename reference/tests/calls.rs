@@ -172,8 +172,8 @@ fn faces_are_ordered_by_section_node() {
     image.nodes[10].set_numbers(&[11, 14]);
     let first = image.add(3, Node::integers("More", "Elements_t", 4, &[2], &[22, 0]));
     image.add(first, Node::integers("ElementRange", "IndexRange_t", 8, &[2], &[1, 2]));
-    image.add(first, Node::list("ElementStartOffset", 8, &[0, 1, 2]));
-    image.add(first, Node::list("ElementConnectivity", 8, &[1, 4]));
+    image.add(first, Node::list("ElementStartOffset", 8, &[0, 3, 7]));
+    image.add(first, Node::list("ElementConnectivity", 8, &[1, 2, 4, 1, 3, 2, 4]));
     image.nodes[16].set_numbers(&[12, -2, 2, -14]);
     let mut out = [7; 7];
     assert_eq!(face_usage(&image.to_bytes(), 3, &mut out), Ok(6));
@@ -183,14 +183,17 @@ fn faces_are_ordered_by_section_node() {
 #[test]
 fn repeat_names_its_element() {
     let mut image = tetrahedron();
-    image.nodes[14].set_numbers(&[5, 7]);
-    image.nodes[15].set_list(&[0, 2, 3, 6]);
-    image.nodes[16].set_list(&[1, -1, 2, 3, -2, -1]);
-    let mut out = [7; 5];
-    assert_eq!(face_usage(&image.to_bytes(), 3, &mut out), Err(Rejection::at_element(45, 13, 7)));
-    assert_eq!(out, [0, 0, 0, 0, 7]);
-    image.nodes[16].set_list(&[1, -1, 1, 3, -2, -1]);
-    assert_eq!(face_usage(&image.to_bytes(), 3, &mut out), Err(Rejection::at_element(45, 13, 6)));
-    image.nodes[16].set_list(&[1, 1, 1, 3, -2, -1]);
-    assert_eq!(face_usage(&image.to_bytes(), 3, &mut out), Err(Rejection::at_element(45, 13, 5)));
+    image.nodes[10].set_numbers(&[1, 8]);
+    image.nodes[11].set_list(&[0, 3, 6, 9, 12, 15, 18, 21, 24]);
+    image.nodes[12].set_list(&[1, 2, 3].repeat(8));
+    image.nodes[14].set_numbers(&[9, 11]);
+    image.nodes[15].set_list(&[0, 5, 9, 15]);
+    let mut references = [1, -1, 2, 3, 4, -2, 5, 6, -3, 7, -4, 8, -5, -6, -1];
+    let mut out = [7; 9];
+    for (place, reference, element) in [(14, -1, 11), (8, 3, 10), (4, 1, 9)] {
+        references[place] = reference;
+        image.nodes[16].set_list(&references);
+        assert_eq!(face_usage(&image.to_bytes(), 3, &mut out), Err(Rejection::at_element(45, 13, element)));
+        assert_eq!(out, [0, 0, 0, 0, 0, 0, 0, 0, 7]);
+    }
 }

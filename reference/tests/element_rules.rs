@@ -1,4 +1,5 @@
-//! Rules 27 to 35 on changes of case (a): 9 faces (10 range, 11 offsets, 12 nodes), 13 cells (14, 15, 16).
+//! Rules 27 to 35 on changes of case (a): 9 faces (10 range, 11 offsets, 12 nodes), 13 cells (14, 15, 16). For rule 33 see
+//! `flat.rs`.
 
 use reference::build::{Image, Node};
 use reference::cases::tetrahedron;
@@ -144,7 +145,7 @@ fn faces_of_another_zone_are_none() {
     image.add(zone, Node::text("ZoneType", "ZoneType_t", "Unstructured"));
     let cells = image.add(zone, Node::integers("C", "Elements_t", 4, &[2], &[23, 0]));
     image.add(cells, Node::integers("ElementRange", "IndexRange_t", 4, &[2], &[1, 1]));
-    image.add(cells, Node::list("ElementStartOffset", 8, &[0, 1]));
-    image.add(cells, Node::list("ElementConnectivity", 8, &[1]));
+    image.add(cells, Node::list("ElementStartOffset", 8, &[0, 4]));
+    image.add(cells, Node::list("ElementConnectivity", 8, &[1, 2, 3, 4]));
     assert_eq!(refusal(&image), (35, 19));
 }

@@ -1,8 +1,10 @@
-//! The generator: every rule that can occur is met, cases of points are answered as they say, the same seed gives the same
-//! images, and every call ends properly on every image and keeps what an acceptance promises.
+//! The generator: every rule that can occur is met, cases are answered as they say, the same seed gives the same images,
+//! and every call ends properly on every image and keeps what an acceptance promises.
+
+use std::collections::BTreeMap;
 
 use reference::build::Image;
-use reference::damage::{point_case, DAMAGES, POINT_CASES};
+use reference::damage::{flat_case, point_case, Answer, DAMAGES, FLAT_CASES, POINT_CASES};
 use reference::generate::{image, Summary};
 use reference::lawful::{lawful, SizeClass};
 use reference::points::point_count;
@@ -10,7 +12,9 @@ use reference::queries::queries;
 use reference::random::Random;
 use reference::table::Table;
 use reference::validation::validated_tree;
-use reference::{corner, face_count, face_usage, path, section_entries, validate, Section};
+use reference::{
+    array_value, check_table, corner, face_count, face_usage, path, section_entries, validate, Section, Value,
+};
 
 #[test]
 fn every_rule_is_met() {
@@ -37,16 +41,16 @@ fn lawful_images_are_accepted() {
     }
 }
 
-#[test]
-fn cases_of_points_are_answered_as_they_say() {
-    for number in 0..4 * POINT_CASES.len() {
+/// Makes all cases of these names so many times, each twenty times a turn: they are answered as they say.
+fn check_cases(names: &[&str], turns: usize, case: fn(&mut Image, &mut Random, usize) -> Option<Answer>) {
+    for number in 0..turns * names.len() {
+        let name = names[number % names.len()];
         let mut made = 0;
         for index in 0..2_000 {
             let mut random = Random::new(number as u64, index);
             let mut image = lawful(&mut random, SizeClass::Small);
-            if let Some(answer) = point_case(&mut image, &mut random, number) {
+            if let Some(answer) = case(&mut image, &mut random, number) {
                 let verdict = validate(&image.to_bytes());
-                let name = POINT_CASES[number % POINT_CASES.len()].0;
                 assert!(answer.is(&verdict), "{name}, {index}: {answer:?} {verdict:?}");
                 made += 1;
             }
@@ -54,13 +58,23 @@ fn cases_of_points_are_answered_as_they_say() {
                 break;
             }
         }
-        assert_eq!(made, 20, "{number}");
+        assert_eq!(made, 20, "{name}");
     }
 }
 
 #[test]
+fn cases_of_points_are_answered_as_they_say() {
+    check_cases(&POINT_CASES.map(|case| case.0), 4, point_case);
+}
+
+#[test]
+fn cases_of_flat_elements_are_answered_as_they_say() {
+    check_cases(&FLAT_CASES.map(|case| case.0), 1, flat_case);
+}
+
+#[test]
 fn sizes_of_arrays_beside_points_are_asked_for() {
-    for (class, count) in [(SizeClass::Small, 1_000), (SizeClass::Medium, 60)] {
+    for (class, count) in [(SizeClass::Small, 1_000), (SizeClass::Medium, 77)] {
         let (mut answered, mut structured) = (0, 0);
         for index in 0..count {
             let image = image(6, index, class);
@@ -84,6 +98,48 @@ fn sizes_of_arrays_beside_points_are_asked_for() {
         }
         assert!(answered > 30 && structured > 10, "{answered} {structured}");
     }
+}
+
+/// Shows every section of faces or cells of some lawful images, with its image and zone.
+fn lawful_sections(mut see: impl FnMut(&[u8], u64, &Section)) {
+    for index in 0..2_000 {
+        let image = lawful(&mut Random::new(33, index), SizeClass::Small).to_bytes();
+        for zone in 0..check_table(&image).unwrap() {
+            let entries = section_entries(&image, zone).unwrap_or_default();
+            let of_lists = entries.iter().filter(|entry| matches!(entry.element_type, 22 | 23));
+            of_lists.for_each(|entry| see(&image, zone, entry));
+        }
+    }
+}
+
+#[test]
+fn lawful_elements_stand_on_either_side() {
+    let mut sizes: BTreeMap<(i64, u64, u64), u64> = BTreeMap::new();
+    lawful_sections(|image, zone, entry| {
+        for element in entry.first..=entry.last {
+            let size = size_of(image, entry, element);
+            *sizes.entry((cell_dimension(image, zone), entry.element_type, size)).or_default() += 1;
+        }
+    });
+    let often = |dimension, element_type, size| sizes.get(&(dimension, element_type, size)).is_some_and(|&n| n > 50);
+    for (element_type, least) in [(22, 3), (23, 4)] {
+        assert!((least..least + 3).all(|size| often(3, element_type, size)), "{sizes:?}");
+        assert!((1..least).all(|size| often(1, element_type, size) && often(2, element_type, size)), "{sizes:?}");
+    }
+}
+
+#[test]
+fn lawful_cells_have_their_usage_answered() {
+    let mut cells: BTreeMap<i64, [u64; 2]> = BTreeMap::new();
+    lawful_sections(|image, zone, entry| {
+        let mut out = vec![0; face_count(image, zone).unwrap() as usize];
+        let answered = face_usage(image, zone, &mut out).is_ok();
+        if entry.element_type == 23 {
+            cells.entry(cell_dimension(image, zone)).or_default()[usize::from(answered)] += 1;
+        }
+    });
+    assert_eq!(cells.len(), 3);
+    assert!(cells.values().all(|&[refused, answered]| refused > 20 && answered > refused), "{cells:?}");
 }
 
 #[test]
@@ -137,13 +193,13 @@ fn any_bytes_end_properly() {
     }
 }
 
-/// Every read of an accepted image by its entries: no 43, nodes in range, faces of exactly one face section, and the
-/// sum of all uses (demand 3 and the face usage's count).
+/// Every read of an accepted image by its entries: no 43, nodes in range, faces of exactly one face section, elements
+/// not flat, and the sum of all uses (demand 3 and the face usage's count).
 fn check_promises(image: &[u8]) {
     let count = Table::read(image).map_or(0, |table| table.nodes.len() as u64);
     for zone in 0..count {
         if let Ok(entries) = section_entries(image, zone) {
-            check_sections(image, &entries);
+            check_sections(image, zone, &entries);
             check_usage(image, zone, &entries);
         }
         assert!(path(image, zone).is_ok());
@@ -157,12 +213,27 @@ fn size_of(image: &[u8], entry: &Section, element: u64) -> u64 {
     refused - 1
 }
 
-/// Every corner of every element can be read and lies where it has to.
-fn check_sections(image: &[u8], entries: &[Section]) {
+/// CellDimension of a zone's base.
+fn cell_dimension(image: &[u8], zone: u64) -> i64 {
+    let base = Table::read(image).unwrap().nodes[zone as usize].parent;
+    match array_value(image, base as u64, 1) {
+        Ok(Value::Whole(dimension)) => dimension,
+        other => panic!("{other:?}"),
+    }
+}
+
+/// Every corner of every element can be read and lies where it has to; in three dimensions there are enough of them.
+fn check_sections(image: &[u8], zone: u64, entries: &[Section]) {
+    let volume = cell_dimension(image, zone) == 3;
     for entry in entries {
+        let least = match entry.element_type {
+            22 if volume => 3,
+            23 if volume => 4,
+            _ => 1,
+        };
         for element in entry.first..=entry.last {
             let size = size_of(image, entry, element);
-            assert!(size > 0);
+            assert!(size >= least);
             for c in 1..=size {
                 let number = corner(image, &entry.numbers(), element, c).unwrap();
                 if entry.element_type == 23 {

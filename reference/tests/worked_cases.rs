@@ -1,4 +1,5 @@
-//! The worked cases (a) to (m) of document 01, with their face usage and sizes, and those of points (document 02, §1).
+//! The worked cases (a) to (m) of document 01, with their face usage and sizes, and those of points and of flat faces
+//! and cells (document 02, §1 and §2).
 
 use reference::answers::validate_line;
 use reference::bytes::u32_at;
@@ -7,7 +8,7 @@ use reference::cases::{case, cases, RIND_ARRAY};
 use reference::{check_table, data_size, face_usage, validate, Counts, Rejection};
 
 /// The cases with their verdicts.
-const VERDICTS: [(&str, &str); 26] = [
+const VERDICTS: [(&str, &str); 44] = [
     ("a", "accept 17 0 1 2"),
     ("b", "refuse 1 0"),
     ("c", "refuse 4 0"),
@@ -34,6 +35,24 @@ const VERDICTS: [(&str, &str); 26] = [
     ("p1_list_name", "refuse 21 6"),
     ("p1_product", "refuse 26 7"),
     ("p1_great", "accept 7 0 1 0"),
+    ("f2_face", "refuse 33 9"),
+    ("f2_first_face", "refuse 33 9"),
+    ("f2_wide", "refuse 33 9"),
+    ("f2_surface", "accept 17 0 1 2"),
+    ("f2_plane", "accept 17 0 1 2"),
+    ("f2_one_node", "accept 17 0 1 2"),
+    ("f2_cell", "refuse 33 13"),
+    ("f2_cell_line", "accept 17 0 1 2"),
+    ("f2_one_face", "accept 17 0 1 2"),
+    ("f2_node", "refuse 33 9"),
+    ("f2_reference", "refuse 33 13"),
+    ("f2_rise", "refuse 31 9"),
+    ("f2_length", "refuse 32 9"),
+    ("f2_surface_beside", "accept 24 0 2 3"),
+    ("f2_volume_beside", "refuse 33 20"),
+    ("f2_bars", "accept 21 0 1 3"),
+    ("f2_cells_first", "refuse 33 13"),
+    ("f2_cells_first_bad", "refuse 35 9"),
 ];
 
 #[test]
@@ -88,4 +107,15 @@ fn sizes_of_points() {
         assert_eq!(size.dimensions(), [count]);
         assert_eq!(size.directions, 1);
     }
+}
+
+#[test]
+fn usage_of_flat_cases() {
+    let mut out = [9; 5];
+    assert_eq!(face_usage(&case("f2_cell_line"), 3, &mut out), Ok(4));
+    assert_eq!(out, [1, 1, 1, 0, 9]);
+    assert_eq!(face_usage(&case("f2_one_face"), 3, &mut out), Err(Rejection::at_element(45, 13, 5)));
+    assert_eq!(out, [0, 0, 0, 0, 9]);
+    assert_eq!(face_usage(&case("f2_cell"), 3, &mut out), Err(Rejection::at_node(33, 13)));
+    assert_eq!(out, [0, 0, 0, 0, 9]);
 }

@@ -1,11 +1,11 @@
--- Two tests that agree give one walk.
+-- Walks over numbers: of two tests that agree, of two tests at once, of a test that always holds.
 use Prim.Native.Nat.{ℕ, zero, suc, _+_, _-_, _≤_, _<_}
-use mathlib.Core.Path.{_≡_, refl, _∙_}
+use mathlib.Core.Path.{_≡_, refl, sym, _∙_}
 use mathlib.Core.Bool.{Bool, true, false, _&&_}
 use native.Mathlib.Omega.{arith}
 use native.Mathlib.Decide.{ℕ-discrete, decLt}
 use Rattle.model.specs.Lists.{everyFrom}
-use Rattle.model.proofs.Logic.{and-first, and-second}
+use Rattle.model.proofs.Logic.{and-first, and-second, and-false}
 use Rattle.model.proofs.Loops.{EveryLeft, every-more, every-stop, every-done}
 use Rattle.elements.specs.Arrays.{Passed}
 
@@ -14,6 +14,21 @@ module _ (p q : ℕ → Bool) where
   unfolding everyFrom
   every-same zero i e = refl
   every-same (suc k) i e = rw (e i (omega arith) (omega arith), every-same k (suc i) (λ j l h. e j (omega arith) (omega arith)))
+
+  pub every-both : (k i : ℕ) → everyFrom (λ (j : ℕ). p j && q j) k i ≡ (everyFrom p k i && everyFrom q k i)
+  unfolding everyFrom
+  every-both zero i = refl
+  every-both (suc k) i = rw (every-both k (suc i)) (in-turn (p i) (q i) (everyFrom p k (suc i)) (everyFrom q k (suc i)))
+    where
+      in-turn : (a b c d : Bool) → ((a && b) && (c && d)) ≡ ((a && c) && (b && d))
+      in-turn true true c d = refl
+      in-turn true false c d = sym (and-false c)
+      in-turn false b c d = refl
+
+pub every-holds : (p : ℕ → Bool) → ((j : ℕ) → p j ≡ true) → (k i : ℕ) → everyFrom p k i ≡ true
+unfolding everyFrom
+every-holds p e zero i = refl
+every-holds p e (suc k) i = rw (e i) (every-holds p e k (suc i))
 
 -- numbers that meet a test, one after the other
 pub passed-none : (p : ℕ → Bool) (n k : ℕ) → k ≤ n → Passed p n k k

@@ -1,28 +1,27 @@
 -- Validation has come to section s, and rules 20 to 26 hold there: what rules 27 to 35 may rely on.
 use Prim.Native.Nat.{ℕ, zero, suc, _<_}
 use mathlib.Core.Path.{_≡_, refl, sym, subst, _∙_}
-use mathlib.Core.Bool.{Bool, true, false, not, _&&_, _||_}
+use mathlib.Core.Bool.{true, false, not, _&&_}
 use mathlib.Core.List.{List, [], _∷_}
 use native.Mathlib.Omega.{arith}
-use lib.Dec.{eqb}
-use borrow.Author.Tests.{eqb-true, ne-eqb, not-true}
-use Rattle.model.specs.Lists.{_⊃_, row, among}
+use borrow.Author.Tests.{not-true}
+use Rattle.model.specs.Lists.{row, among}
 use Rattle.model.specs.Rules.{check, passed}
 use Rattle.model.specs.Image.{Tree, treeOf, nodeCount, parent, dimensions, I4, I8}
 use Rattle.model.specs.Given.{Sound, NodesTo}
 use Rattle.model.specs.Records.{recordRules, dataSizeLawful, product}
-use Rattle.model.specs.Containment.{role, validated, found, mayHold, containment, Zone, Elements}
-use Rattle.model.specs.Values.{typed, shaped, indexDimension, unstructured, typeLawful, placed, complete, rangeOf, connectivityOf, sidsRules}
+use Rattle.model.specs.Containment.{role, validated, found, Zone, Elements}
+use Rattle.model.specs.Values.{typed, shaped, indexDimension, typeLawful, complete, rangeOf, connectivityOf, sidsRules}
 use Rattle.model.proofs.Logic.{untrue, and-first, and-second}
 use Rattle.model.proofs.Passed.{check-pass}
 use Rattle.model.proofs.Accepted.{record-rule}
 use Rattle.model.proofs.Parents.{parent-lower, lawful-at}
-use Rattle.model.proofs.Above.{validated-above, earlier-rule}
 use Rattle.model.proofs.Sections.{not-root}
 use Rattle.index.proofs.Marking.{kind-role}
-use Rattle.sids.proofs.Context.{section-zone}
+use Rattle.sids.proofs.Context.{section-held}
 use Rattle.types.specs.Given.{HasNumber}
 use Rattle.types.proofs.StoredNumbers.{whole-wide, whole-four, shaped-is, has-by}
+use Rattle.types.proofs.Roles.{based-has}
 use Rattle.elements.specs.Given.{SectionContext}
 use Rattle.elements.proofs.Stored.{type-section, stores-pair, range-ready, connectivity-stores, offsets-stores}
 
@@ -31,10 +30,6 @@ no-root : (t : Tree) (s : ℕ) → role t s ≡ Elements → s ≡ 0 → ⊥
 no-root t s e = not-root t s Elements e refl
 
 module _ (t : Tree) (s : ℕ) (e : role t s ≡ Elements) where
-  placed-is : placed t s ≡ (mayHold (role t (parent t s)) Elements && unstructured t (parent t s))
-  unfolding placed _⊃_
-  placed-is = rw (ne-eqb s 0 (no-root t s e), e)
-
   pub complete-is : complete t s ≡ (found t (rangeOf t s) && found t (connectivityOf t s))
   unfolding complete row
   complete-is = rw e
@@ -65,19 +60,17 @@ unfolding sidsRules
 section-ready {b} {s} g v e c =
     let t = treeOf b in
     let held = check-pass s (sidsRules t s) c in
-    let p = sym (placed-is t s e) ∙ held .0 in
     let full = sym (complete-is t s e) ∙ held .1 .1 .1 .0 in
     let own = sym (type-section t s e) ∙ held .1 .1 .1 .1 .0 in
-    let z = section-zone (role t (parent t s)) Elements refl (and-first (mayHold (role t (parent t s)) Elements) _ p) in
-    let low = parent-lower t s (lawful-at b (g .sound) s (g .inside)) (no-root t s e) in
-    let vz = validated-above b (g .sound) s (g .inside) (no-root t s e) v in
+    let u = section-held b s g v (held .0) e .zone in
     record {
       inside = g .inside;
       elements = e;
       kind-is = kind-role t s v e;
       own = stores-pair (g .sound) s (g .inside) (whole-four t s (and-first (typed t s (I4 ∷ [])) _ own)) (and-second (typed t s (I4 ∷ [])) _ own);
-      below = low;
-      zone = zone-has b (g .sound) (parent t s) (omega arith) z (earlier-rule b s g 24 (parent t s) low vz);
+      below = parent-lower t s (lawful-at b (g .sound) s (g .inside)) (no-root t s e);
+      zone = zone-has b (g .sound) (parent t s) (u .based .inside) (u .zone) (u .type);
+      base = based-has b (g .sound) (parent t s) (u .based);
       ranged = range-ready (g .sound) s e (and-first (found t (rangeOf t s)) _ full);
       connectivity = connectivity-stores (g .sound) s e (and-second (found t (rangeOf t s)) _ full);
       offsets = λ h. offsets-stores (g .sound) s e h;

@@ -1,30 +1,31 @@
--- Rules 29 to 32 of a section against rows of the image's bytes.
+-- Rules 29 to 33 of a section against rows of the image's bytes.
 use Prim.Native.Nat.{ℕ, zero, suc, _+_, _*_, _-_, _≤_, _<_}
 use mathlib.Core.Path.{_≡_, refl, sym, ap, _∙_}
-use mathlib.Core.Bool.{Bool, true, false}
+use mathlib.Core.Bool.{Bool, true, false, cond, _||_}
 use mathlib.Core.List.{List, []}
 use native.Mathlib.Omega.{arith}
-use lib.Dec.{ltb}
+use lib.Dec.{eqb, ltb}
 use lib.ListN.{length, getD, drop}
-use borrow.Author.Tests.{ne-eqb, eq-eqb, lt-ltb, ltb-true, ltb-false}
-use Rattle.model.specs.Lists.{_⊃_, everyFrom}
+use borrow.Author.Tests.{ne-eqb, eq-eqb, le-leb, lt-ltb, ltb-true, ltb-false}
+use Rattle.model.specs.Lists.{_⊃_, row, everyFrom}
 use Rattle.model.specs.Bytes.{le, numbers}
 use Rattle.model.specs.Rules.{check, passed, rejected, rejection}
-use Rattle.model.specs.Image.{Tree, nodeOf, nodesOf, treeOf, nodeCount, wordCount, node, dimensions}
+use Rattle.model.specs.Image.{Tree, nodeOf, nodesOf, treeOf, nodeCount, wordCount, node, parent, number, dimensions}
 use Rattle.model.specs.Given.{Sound}
 use Rattle.model.specs.Containment.{found}
-use Rattle.model.specs.Values.{size, offsetsOf}
+use Rattle.model.specs.Values.{size, cellDimension, offsetsOf}
 use Rattle.model.specs.Elements.{nodesPer, hasOffsets, elementType, elementCount, connectivityLength, lengthsFit, startOffset, startsAtZero, rises, allRise}
-use Rattle.model.specs.Elements.{endsAtLength}
+use Rattle.model.specs.Elements.{NGON, NFACE, endsAtLength, elementStart, elementSize, leastSize, largeEnough, allLargeEnough}
+use Rattle.model.proofs.Logic.{untrue}
 use Rattle.model.specs.Corner.{numberAt}
 use Rattle.model.proofs.Bounds.{node-placed}
 use Rattle.types.proofs.StoredNumbers.{flat-is}
 use Rattle.rows.specs.declared.Row.{Row}
-use Rattle.elements.specs.Arrays.{risesAt, offsetRules}
+use Rattle.elements.specs.Arrays.{risesAt, largeAt, offsetRules}
 use Rattle.elements.specs.Groups.{shapeRules}
 use Rattle.elements.specs.Given.{Indexed, RowOf, SectionContext}
 use Rattle.elements.proofs.RuleLaws.{row-number}
-use Rattle.elements.proofs.Agree.{every-same}
+use Rattle.elements.proofs.Agree.{every-same, every-holds}
 use Rattle.model.proofs.Reading.{rank-is}
 
 -- past the last node there are no dimensions
@@ -63,12 +64,46 @@ pub count-small : {b : List ℕ} {s : ℕ} → SectionContext b s → {n : ℕ} 
 unfolding elementCount
 count-small {b} {s} d e = let r = d .ranged in omega (arith, r .one, r .up, r .most)
 
+-- the least size by the CellDimension d of the base i and the type k that were read
+module _ (t : Tree) (s : ℕ) {z i d k : ℕ} (e : z ≡ parent t s) (f : i ≡ parent t z) (g : d ≡ number t i 0) (q : k ≡ elementType t s) where
+  pub least-elsewhere : (d ≡ 3 → ⊥) → 0 ≡ leastSize t s
+  unfolding leastSize cellDimension
+  least-elsewhere h = rw (← e, ← f, ← g, ne-eqb d 3 h)
+
+  module _ (h : d ≡ 3) where
+    pub least-face : k ≡ NGON → 3 ≡ leastSize t s
+    unfolding leastSize cellDimension row
+    least-face u = rw (← e, ← f, ← g, h, ← q, u)
+
+    pub least-cell : k ≡ NFACE → 4 ≡ leastSize t s
+    unfolding leastSize cellDimension row
+    least-cell u = rw (← e, ← f, ← g, h, ← q, u)
+
+    pub least-other : (k ≡ NGON → ⊥) → (k ≡ NFACE → ⊥) → 0 ≡ leastSize t s
+    unfolding leastSize cellDimension row
+    least-other u v = rw (← e, ← f, ← g, h, ← q, ne-eqb k NGON u, ne-eqb k NFACE v)
+
+-- rule 33 asks nothing of a section of a fixed type
+none-asked : (c a d : Bool) → (a || d) ≡ false → _≡_ {A = ℕ} (cond c (cond a 3 (cond d 4 0)) 0) 0
+none-asked true true d e = untrue (sym e)
+none-asked true false true e = untrue (sym e)
+none-asked true false false e = refl
+none-asked false a d e = refl
+
+fixed-least : (t : Tree) (s : ℕ) → hasOffsets (elementType t s) ≡ false → leastSize t s ≡ 0
+unfolding leastSize row hasOffsets
+fixed-least t s h = none-asked (eqb (cellDimension t (parent t (parent t s))) 3) (eqb (elementType t s) NGON) (eqb (elementType t s) NFACE) h
+
+fixed-large : (t : Tree) (s : ℕ) → hasOffsets (elementType t s) ≡ false → allLargeEnough t s ≡ true
+unfolding allLargeEnough largeEnough
+fixed-large t s h = every-holds (largeEnough t s) (λ k. rw (fixed-least t s h) (le-leb 0 (elementSize t s k) (omega arith))) (elementCount t s) 0
+
 -- a section of a fixed type
 module _ (t : Tree) (s : ℕ) (h : hasOffsets (elementType t s) ≡ false) {n m k : ℕ} (e : n ≡ elementCount t s) (l : m ≡ connectivityLength t s)
     (p : k ≡ nodesPer (elementType t s)) where
   pub fixed-kept : m ≡ n * k → passed ≡ check s (shapeRules t s)
   unfolding shapeRules check _⊃_ lengthsFit
-  fixed-kept q = rw (h, ← e, ← l, ← p, eq-eqb m (n * k) q)
+  fixed-kept q = rw (fixed-large t s h, h, ← e, ← l, ← p, eq-eqb m (n * k) q)
 
   pub fixed-broken : (m ≡ n * k → ⊥) → rejected (rejection 29 s) ≡ check s (shapeRules t s)
   unfolding shapeRules check _⊃_ lengthsFit
@@ -94,9 +129,19 @@ module _ (b : List ℕ) (s : ℕ) (h : hasOffsets (elementType (treeOf b) s) ≡
     unfolding allRise
     all-same = rw (← e) (every-same (risesAt b (r .at) (r .width)) (rises (treeOf b) s) n 0 (λ k x i. rise-same k (omega arith)))
 
-    pub offsets-fit : check s (offsetRules b (r .at) (r .width) (r .n - 1) m) ≡ check s (shapeRules (treeOf b) s)
+    large-same : (k : ℕ) → k < n → largeAt b (r .at) (r .width) (leastSize (treeOf b) s) k ≡ largeEnough (treeOf b) s k
+    unfolding largeAt largeEnough elementSize elementStart
+    large-same k i = rw (h, offset-is k (omega arith), offset-is (suc k) (omega arith))
+
+    all-large : everyFrom (largeAt b (r .at) (r .width) (leastSize (treeOf b) s)) n 0 ≡ allLargeEnough (treeOf b) s
+    unfolding allLargeEnough
+    all-large =
+        rw (← e) (every-same (largeAt b (r .at) (r .width) (leastSize (treeOf b) s)) (largeEnough (treeOf b) s) n 0 (λ k x i. large-same k (omega arith)))
+
+    pub offsets-fit : {least : ℕ} → least ≡ leastSize (treeOf b) s
+        → check s (offsetRules b (r .at) (r .width) (r .n - 1) m least) ≡ check s (shapeRules (treeOf b) s)
     unfolding offsetRules shapeRules lengthsFit _⊃_ startsAtZero endsAtLength check
-    offsets-fit =
+    offsets-fit f =
         let x : r .n - 1 ≡ n = omega arith in
         let y : size (treeOf b) j ≡ n + 1 = sym (a .long) ∙ q in
-        rw (x, h, ← e, ← o, y, eq-eqb (n + 1) (n + 1) refl, offset-is 0 (omega arith), offset-is n (omega arith), ← l, all-same)
+        rw (f, x, h, ← e, ← o, y, eq-eqb (n + 1) (n + 1) refl, offset-is 0 (omega arith), offset-is n (omega arith), ← l, all-same, all-large)

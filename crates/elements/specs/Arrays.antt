@@ -1,5 +1,5 @@
--- Rows of numbers in bytes, and what rules 31, 34 and 35 ask of each number of a row.
-use Prim.Native.Nat.{ℕ, suc, _≤_, _<_}
+-- Rows of numbers in bytes, and what rules 31, 33, 34 and 35 ask of each number of a row.
+use Prim.Native.Nat.{ℕ, suc, _-_, _≤_, _<_}
 use mathlib.Core.Path.{_≡_}
 use mathlib.Core.Bool.{Bool, true, _&&_, _||_}
 use mathlib.Core.List.{List, [], _∷_}
@@ -16,12 +16,21 @@ use Rattle.ranges.specs.Tables as Tables
 unfoldable pub risesAt : List ℕ → ℕ → ℕ → ℕ → Bool
 risesAt b at w k = below w (numberAt b at w k) (numberAt b at w (suc k))
 
--- 30 to 32, of n + 1 start offsets
-unfoldable pub offsetRules : List ℕ → ℕ → ℕ → ℕ → ℕ → List Rule
-offsetRules b at w n size =
+-- 33: number k + 1 is at least `least` above number k
+unfoldable pub largeAt : List ℕ → ℕ → ℕ → ℕ → ℕ → Bool
+largeAt b at w least k = leb least (numberAt b at w (suc k) - numberAt b at w k)
+
+-- 31 and 33
+unfoldable pub risesBy : List ℕ → ℕ → ℕ → ℕ → ℕ → Bool
+risesBy b at w least k = risesAt b at w k && largeAt b at w least k
+
+-- 30 to 33, of n + 1 start offsets
+unfoldable pub offsetRules : List ℕ → ℕ → ℕ → ℕ → ℕ → ℕ → List Rule
+offsetRules b at w n size least =
     30 unless eqb (numberAt b at w 0) 0
     ∷ 31 unless everyFrom (risesAt b at w) n 0
     ∷ 32 unless eqb (numberAt b at w n) size
+    ∷ 33 unless everyFrom (largeAt b at w least) n 0
     ∷ []
 
 -- 34: number k lies in 1 to limit

@@ -40,7 +40,7 @@ pub record Ranged (b : List ℕ) (s : ℕ) : Type 0 where
   pub up : firstElement (treeOf b) s ≤ lastElement (treeOf b) s
   pub most : lastElement (treeOf b) s ≤ maxNumber
 
--- section s meets rules 20 to 26, and its zone does
+-- section s meets rules 20 to 26, and its zone and base do
 pub record SectionContext (b : List ℕ) (s : ℕ) : Type 0 where
   pub inside : s < nodeCount b
   pub elements : role (treeOf b) s ≡ Elements
@@ -48,6 +48,7 @@ pub record SectionContext (b : List ℕ) (s : ℕ) : Type 0 where
   pub own : Stores b s 2
   pub below : parent (treeOf b) s < s
   pub zone : HasNumber b (parent (treeOf b) s) 0
+  pub base : HasNumber b (parent (treeOf b) (parent (treeOf b) s)) 0
   pub ranged : Ranged b s
   pub connectivity : Indexed b (connectivityOf (treeOf b) s)
   pub offsets : found (treeOf b) (offsetsOf (treeOf b) s) ≡ true → Indexed b (offsetsOf (treeOf b) s)

@@ -6,7 +6,7 @@ use lib.Dec.{eqb}
 use Rattle.model.specs.Lists.{_⊃_}
 use Rattle.model.specs.Rules.{Rule, _unless_}
 use Rattle.model.specs.Image.{Tree}
-use Rattle.model.specs.Elements.{NFACE, hasOffsets, elementType, lengthsFit, startsAtZero, allRise, endsAtLength, allNodes, allFaces}
+use Rattle.model.specs.Elements.{NFACE, hasOffsets, elementType, lengthsFit, startsAtZero, allRise, endsAtLength, allLargeEnough, allNodes, allFaces}
 
 unfoldable pub shapeRules : Tree → ℕ → List Rule
 shapeRules t s =
@@ -14,6 +14,7 @@ shapeRules t s =
     ∷ 30 unless (hasOffsets (elementType t s) ⊃ startsAtZero t s)
     ∷ 31 unless (hasOffsets (elementType t s) ⊃ allRise t s)
     ∷ 32 unless (hasOffsets (elementType t s) ⊃ endsAtLength t s)
+    ∷ 33 unless allLargeEnough t s
     ∷ []
 
 unfoldable pub referenceRules : Tree → ℕ → List Rule

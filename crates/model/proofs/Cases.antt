@@ -24,13 +24,13 @@ integers name label xs up = plan name label "I4" (length xs ∷ []) up (allBytes
 abbrev axis : String → Plan
 axis name = plan name "DataArray_t" "R8" (4 ∷ []) 5 (replicate 32 0)
 
--- the tetrahedron, over the faces' range, start offsets and nodes, and the cell's faces
-abbrev tetrahedron : List ℕ → List ℕ → List ℕ → List ℕ → List ℕ
-tetrahedron range offsets nodes faces =
+-- the tetrahedron, over the base's CellDimension and PhysicalDimension, and range, start offsets and connectivity of its faces and its cells
+abbrev tetrahedronIn : List ℕ → List ℕ → List ℕ → List ℕ → List ℕ → List ℕ → List ℕ → List ℕ
+tetrahedronIn base range offsets nodes cells starts faces =
     image
     (rootPlan
     ∷ plan "CGNSLibraryVersion" "CGNSLibraryVersion_t" "R4" (1 ∷ []) 0 (102 ∷ 102 ∷ 134 ∷ 64 ∷ [])
-    ∷ integers "Base" "CGNSBase_t" (3 ∷ 3 ∷ []) 0
+    ∷ integers "Base" "CGNSBase_t" base 0
     ∷ plan "Zone1" "Zone_t" "I4" (1 ∷ 3 ∷ []) 2 (allBytes 4 (4 ∷ 1 ∷ 0 ∷ []))
     ∷ plan "ZoneType" "ZoneType_t" "C1" (12 ∷ []) 3 (text "Unstructured")
     ∷ plan "GridCoordinates" "GridCoordinates_t" "MT" [] 3 []
@@ -42,10 +42,14 @@ tetrahedron range offsets nodes faces =
     ∷ integers "ElementStartOffset" "DataArray_t" offsets 9
     ∷ integers "ElementConnectivity" "DataArray_t" nodes 9
     ∷ integers "Cells" "Elements_t" (23 ∷ 0 ∷ []) 3
-    ∷ integers "ElementRange" "IndexRange_t" (5 ∷ 5 ∷ []) 13
-    ∷ integers "ElementStartOffset" "DataArray_t" (0 ∷ 4 ∷ []) 13
+    ∷ integers "ElementRange" "IndexRange_t" cells 13
+    ∷ integers "ElementStartOffset" "DataArray_t" starts 13
     ∷ integers "ElementConnectivity" "DataArray_t" faces 13
     ∷ [])
+
+-- of one cell, element 5
+abbrev tetrahedron : List ℕ → List ℕ → List ℕ → List ℕ → List ℕ
+tetrahedron range offsets nodes faces = tetrahedronIn (3 ∷ 3 ∷ []) range offsets nodes (5 ∷ 5 ∷ []) (0 ∷ length faces ∷ []) faces
 
 -- 001's faces of a tetrahedron
 abbrev fourFaces : List ℕ
@@ -59,6 +63,9 @@ withFaces f = tetrahedron (1 ∷ 4 ∷ []) (0 ∷ 3 ∷ 6 ∷ 9 ∷ 12 ∷ []) f
 
 abbrev tetra : List ℕ
 tetra = withFaces (1 ∷ 2 ∷ 3 ∷ 4 ∷ [])
+
+abbrev withCells : List ℕ → List ℕ → List ℕ → List ℕ
+withCells cells starts faces = tetrahedronIn (3 ∷ 3 ∷ []) (1 ∷ 4 ∷ []) (0 ∷ 3 ∷ 6 ∷ 9 ∷ 12 ∷ []) fourFaces cells starts faces
 
 -- 17 × 33 × 9 with rind 0 0 0 0 1 1
 abbrev layered : List ℕ
@@ -104,6 +111,21 @@ pointList n count up = plan "PointList" "IndexArray_t" "I8" (n ∷ count ∷ [])
 
 abbrev pressure : List ℕ → ℕ → Plan
 pressure sizes n = plan "Pressure" "DataArray_t" "R4" sizes 4 (replicate (4 * n) 0)
+
+-- §2: a section, node 5, of one element with two nodes, in its own base beside another
+abbrev ofTwoNodes : ℕ → List ℕ → List ℕ → List ℕ
+ofTwoNodes type other own =
+    image
+    (rootPlan
+    ∷ integers "Other" "CGNSBase_t" other 0
+    ∷ integers "Base" "CGNSBase_t" own 0
+    ∷ plan "Zone" "Zone_t" "I8" (1 ∷ 3 ∷ []) 2 (allBytes 8 (2 ∷ 1 ∷ 0 ∷ []))
+    ∷ plan "ZoneType" "ZoneType_t" "C1" (12 ∷ []) 3 (text "Unstructured")
+    ∷ integers "Section" "Elements_t" (type ∷ 0 ∷ []) 3
+    ∷ integers "ElementRange" "IndexRange_t" (1 ∷ 1 ∷ []) 5
+    ∷ plan "ElementStartOffset" "DataArray_t" "I8" (2 ∷ []) 5 (allBytes 8 (0 ∷ 2 ∷ []))
+    ∷ integers "ElementConnectivity" "DataArray_t" (1 ∷ 2 ∷ []) 5
+    ∷ [])
 
 -- what a case says of an image
 pub data Case : Type 0 where
@@ -206,6 +228,30 @@ cases =
     -- 769546 × 494770 × 48448661 = 2^64 + 4 points: an array of 4; no array
     ∷ (inBlock (pointRange (1 ∷ 1 ∷ 1 ∷ 769546 ∷ 494770 ∷ 48448661 ∷ []) ∷ pressure (4 ∷ []) 4 ∷ []) refuses 26 at 6)
     ∷ (inBlock (pointRange (1 ∷ 1 ∷ 1 ∷ 769546 ∷ 494770 ∷ 48448661 ∷ []) ∷ []) accepts record { validated = 6; skipped = 0; zones = 1; sections = 0 })
+    -- §2 a face of two nodes: the third; the last; the last, with a node 5 in the first
+    ∷ (withOffsets (0 ∷ 3 ∷ 6 ∷ 8 ∷ 12 ∷ []) refuses 33 at 9)
+    ∷ (withOffsets (0 ∷ 3 ∷ 6 ∷ 10 ∷ 12 ∷ []) refuses 33 at 9)
+    ∷ (tetrahedron (1 ∷ 4 ∷ []) (0 ∷ 3 ∷ 6 ∷ 10 ∷ 12 ∷ []) (5 ∷ 3 ∷ 2 ∷ 1 ∷ 2 ∷ 4 ∷ 2 ∷ 3 ∷ 4 ∷ 3 ∷ 1 ∷ 4 ∷ []) (1 ∷ 2 ∷ 3 ∷ 4 ∷ []) refuses 33 at 9)
+    -- 28 to 32 come before it, as in (e) and (g)
+    ∷ (withCells (4 ∷ 4 ∷ []) (0 ∷ 3 ∷ []) (1 ∷ 2 ∷ 3 ∷ []) refuses 28 at 13)
+    ∷ (withOffsets (0 ∷ 2 ∷ 6 ∷ 6 ∷ 12 ∷ []) refuses 31 at 9)
+    ∷ (withOffsets (0 ∷ 2 ∷ 6 ∷ 9 ∷ 11 ∷ []) refuses 32 at 9)
+    -- a cell of three faces; the second of two, with a face 0 in the first; one after a face with a node 5
+    ∷ (withFaces (1 ∷ 2 ∷ 3 ∷ []) refuses 33 at 13)
+    ∷ (withCells (5 ∷ 6 ∷ []) (0 ∷ 4 ∷ 7 ∷ []) (0 ∷ 2 ∷ 3 ∷ 4 ∷ 1 ∷ 2 ∷ 3 ∷ []) refuses 33 at 13)
+    ∷ (tetrahedron (1 ∷ 4 ∷ []) (0 ∷ 3 ∷ 6 ∷ 9 ∷ 12 ∷ []) (5 ∷ 3 ∷ 2 ∷ 1 ∷ 2 ∷ 4 ∷ 2 ∷ 3 ∷ 4 ∷ 3 ∷ 1 ∷ 4 ∷ []) (1 ∷ 2 ∷ 3 ∷ []) refuses 34 at 9)
+    -- repeats count, as in (k) and (l): three nodes that are one; more are lawful: a face of four nodes, a cell of five faces
+    ∷ (tetrahedron (1 ∷ 4 ∷ []) (0 ∷ 3 ∷ 6 ∷ 9 ∷ 12 ∷ []) (1 ∷ 1 ∷ 1 ∷ 1 ∷ 2 ∷ 4 ∷ 2 ∷ 3 ∷ 4 ∷ 3 ∷ 1 ∷ 4 ∷ []) (1 ∷ 2 ∷ 3 ∷ 4 ∷ []) accepts tetraCounts)
+    ∷ (tetrahedron (1 ∷ 4 ∷ []) (0 ∷ 4 ∷ 7 ∷ 10 ∷ 13 ∷ []) (1 ∷ 3 ∷ 2 ∷ 1 ∷ 1 ∷ 2 ∷ 4 ∷ 2 ∷ 3 ∷ 4 ∷ 3 ∷ 1 ∷ 4 ∷ []) (1 ∷ 2 ∷ 3 ∷ 4 ∷ minus 4 ∷ [])
+    accepts tetraCounts)
+    -- CellDimension 2: a face of two nodes; one of one node and a cell of three faces
+    ∷ (tetrahedronIn (2 ∷ 3 ∷ []) (1 ∷ 4 ∷ []) (0 ∷ 3 ∷ 6 ∷ 10 ∷ 12 ∷ []) fourFaces (5 ∷ 5 ∷ []) (0 ∷ 4 ∷ []) (1 ∷ 2 ∷ 3 ∷ 4 ∷ []) accepts tetraCounts)
+    ∷ (tetrahedronIn (2 ∷ 3 ∷ []) (1 ∷ 4 ∷ []) (0 ∷ 1 ∷ 6 ∷ 10 ∷ 12 ∷ []) fourFaces (5 ∷ 5 ∷ []) (0 ∷ 3 ∷ []) (1 ∷ 2 ∷ 3 ∷ []) accepts tetraCounts)
+    -- the zone's own base counts, of CellDimension 1 and 2 too; a BAR_2 has two nodes in any base
+    ∷ (ofTwoNodes 22 (3 ∷ 3 ∷ []) (1 ∷ 3 ∷ []) accepts record { validated = 9; skipped = 0; zones = 1; sections = 1 })
+    ∷ (ofTwoNodes 22 (3 ∷ 3 ∷ []) (2 ∷ 3 ∷ []) accepts record { validated = 9; skipped = 0; zones = 1; sections = 1 })
+    ∷ (ofTwoNodes 22 (2 ∷ 3 ∷ []) (3 ∷ 3 ∷ []) refuses 33 at 5)
+    ∷ (ofTwoNodes 3 (3 ∷ 3 ∷ []) (3 ∷ 3 ∷ []) accepts record { validated = 9; skipped = 0; zones = 1; sections = 1 })
     ∷ []
 
 infixr 5 _also_
@@ -218,4 +264,6 @@ all-right =
     refl also refl also refl also refl also refl also refl also refl also refl also refl also refl also refl also refl also refl also refl
     also (refl, refl) also refl also (refl, refl) also refl also refl
     also refl also refl also refl also refl also refl also refl also refl also refl also refl also refl
-    also refl also refl also refl also refl also refl also refl also refl also refl also refl also tt
+    also refl also refl also refl also refl also refl also refl also refl also refl also refl
+    also refl also refl also refl also refl also refl also refl also refl also refl also refl
+    also refl also refl also refl also refl also refl also refl also refl also refl also tt

@@ -1,4 +1,4 @@
--- Document 01, "Sections": rules 27 to 35.
+-- Document 01, "Sections", and document 02, §2: rules 27 to 35.
 use Prim.Native.Nat.{ℕ, zero, suc, _+_, _*_, _-_}
 use mathlib.Core.Bool.{Bool, cond, not, _&&_, _||_}
 use mathlib.Core.List.{List, [], _∷_}
@@ -8,7 +8,7 @@ use Rattle.model.specs.Bytes.{below, magnitude}
 use Rattle.model.specs.Rules.{Rule, _unless_}
 use Rattle.model.specs.Image.{Tree, parent, width, number}
 use Rattle.model.specs.Containment.{sectionOf, found}
-use Rattle.model.specs.Values.{size, vertexSize, typeLawful, valueLawful, rangeOf, offsetsOf, connectivityOf}
+use Rattle.model.specs.Values.{size, cellDimension, vertexSize, typeLawful, valueLawful, rangeOf, offsetsOf, connectivityOf}
 
 abbrev pub NGON : ℕ
 NGON = 22
@@ -101,6 +101,16 @@ allRise t s = everyFrom (rises t s) (elementCount t s) 0
 unfoldable pub endsAtLength : Tree → ℕ → Bool
 endsAtLength t s = eqb (startOffset t s (elementCount t s)) (connectivityLength t s)
 
+-- 33: in a base with CellDimension 3 a face has at least 3 nodes and a cell at least 4 faces, repeats counted; 0 where nothing is asked
+unfoldable pub leastSize : Tree → ℕ → ℕ
+leastSize t s = cond (eqb (cellDimension t (parent t (parent t s))) 3) (row (elementType t s) 0 (NGON has 3 ∷ NFACE has 4 ∷ [])) 0
+
+unfoldable pub largeEnough : Tree → ℕ → ℕ → Bool
+largeEnough t s k = leb (leastSize t s) (elementSize t s k)
+
+unfoldable pub allLargeEnough : Tree → ℕ → Bool
+allLargeEnough t s = everyFrom (largeEnough t s) (elementCount t s) 0
+
 -- 34: a node reference lies in 1 to VertexSize
 unfoldable pub isNode : Tree → ℕ → ℕ → Bool
 isNode t s k = leb 1 (reference t s k) && leb (reference t s k) (vertexSize t (parent t s) 0)
@@ -137,6 +147,7 @@ elementRules t s =
     ∷ 30 unless (hasOffsets (elementType t s) ⊃ startsAtZero t s)
     ∷ 31 unless (hasOffsets (elementType t s) ⊃ allRise t s)
     ∷ 32 unless (hasOffsets (elementType t s) ⊃ endsAtLength t s)
+    ∷ 33 unless allLargeEnough t s
     ∷ 34 unless (not (eqb (elementType t s) NFACE) ⊃ allNodes t s)
     ∷ 35 unless (eqb (elementType t s) NFACE ⊃ allFaces t s)
     ∷ []

@@ -145,6 +145,11 @@ module _ (b : List ℕ) (i : ℕ) (g : NodesTo b i) where
             let a = above i here n in
             held (parent (treeOf b) i) (a .upper) (rind-under (role (treeOf b) (parent (treeOf b) i)) (rw e at (a .holds))) .zone .based
 
+    -- a section stands under its zone
+    pub section-held : role (treeOf b) i ≡ Elements → UnderZone b i
+    unfolding among
+    section-held e = held i here (rw e)
+
     -- the zone of a coordinate or flow array
     sized-held : sizedArray (treeOf b) i ≡ true → UnderZone b (parent (treeOf b) i)
     unfolding sizedArray among

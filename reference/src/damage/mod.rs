@@ -1,7 +1,9 @@
 //! Damage to lawful images: for each rule the ways in which it may be broken. A damage that finds no place for itself
 //! leaves the image as it is.
 
+mod answer;
 mod containment;
+mod flat;
 mod header;
 mod pick;
 mod points;
@@ -18,8 +20,10 @@ use records::*;
 use sections::*;
 use values::*;
 
+pub use answer::Answer;
+pub use flat::{flat_case, FLAT_CASES};
 pub use header::flips;
-pub use points::{point_case, Answer, POINT_CASES};
+pub use points::{point_case, POINT_CASES};
 
 /// A way to break an image: its nodes, words of its header, or its length in bytes.
 #[derive(Clone, Copy)]
@@ -32,7 +36,7 @@ pub enum Damage {
 use Damage::{Length, Nodes, Words};
 
 /// The rules that an image may break, each with its damages.
-pub const DAMAGES: [(u32, &[Damage]); 32] = [
+pub const DAMAGES: [(u32, &[Damage]); 33] = [
     (1, &[Length(cut_short), Length(cut_short), Length(cut_short), Length(too_long)]),
     (2, &[Words(other_form)]),
     (3, &[Words(other_length), Length(more_bytes), Length(fewer_bytes)]),
@@ -92,6 +96,7 @@ pub const DAMAGES: [(u32, &[Damage]); 32] = [
     (30, &[Nodes(first_offset)]),
     (31, &[Nodes(offset_not_rising)]),
     (32, &[Nodes(last_offset), Nodes(connectivity_longer)]),
+    (33, &[Nodes(flat_element), Nodes(flat_element), Nodes(flat_element), Nodes(third_dimension)]),
     (34, &[Nodes(other_node_reference)]),
     (35, &[Nodes(other_face_reference), Nodes(other_face_reference), Nodes(face_section_lost)]),
 ];

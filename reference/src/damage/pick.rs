@@ -90,6 +90,23 @@ pub fn add_anywhere(image: &mut Image, random: &mut Random, parent: usize, node:
     }
 }
 
+/// Adds a node under a parent and the others under that node, in their order, each at any place behind the node
+/// `after`, which is the parent or has a higher number; answers the first one's number. Nodes up to `after` keep theirs.
+pub fn scatter(image: &mut Image, random: &mut Random, parent: usize, after: usize, nodes: Vec<Node>) -> usize {
+    let (old, least) = (image.nodes.len(), after + 1);
+    let mut places: Vec<usize> = nodes.iter().map(|_| least + random.index(old + 1 - least)).collect();
+    places.sort_unstable();
+    for (k, node) in nodes.into_iter().enumerate() {
+        image.add(if k == 0 { parent } else { old }, node);
+    }
+    let mut order: Vec<usize> = (0..old).collect();
+    for (k, &place) in places.iter().enumerate() {
+        order.insert(place + k, old + k);
+    }
+    image.reorder(&order);
+    places[0]
+}
+
 /// A node of a label with data that fit the label more or less.
 pub fn plain_node(random: &mut Random, name: &str, label: &str) -> Node {
     match label {

@@ -1,6 +1,6 @@
 //! Damage to sections (rules 27 to 35).
 
-use super::pick::{change, section, section_child};
+use super::pick::{change, labelled, section, section_child};
 use super::values::break_type;
 use crate::build::Image;
 use crate::lawful::FIXED_TYPES;
@@ -141,6 +141,44 @@ pub fn connectivity_longer(image: &mut Image, random: &mut Random) {
     }
 }
 
+/// An element of one to three references, the others given to a neighbour or left out (rule 33 in three dimensions).
+pub fn flat_element(image: &mut Image, random: &mut Random) {
+    let Some(offsets) = section_child(image, random, &[22, 23], "ElementStartOffset") else {
+        return;
+    };
+    let section = image.nodes[offsets].parent as usize;
+    let Some(array) = image.child(section, "ElementConnectivity") else {
+        return;
+    };
+    let (mut starts, mut references) = (image.nodes[offsets].numbers(), image.nodes[array].numbers());
+    let last = starts.len().saturating_sub(2);
+    let element = if random.one_in(3) { last } else { random.index(last + 1) };
+    let (Some(&start), Some(&end)) = (starts.get(element), starts.get(element + 1)) else {
+        return;
+    };
+    if start < 0 || end <= start || references.len() < end as usize {
+        return;
+    }
+    let kept = (start + random.between(1, 3)).min(end);
+    match random.below(3) {
+        0 if element < last => starts[element + 1] = kept,
+        1 if element > 0 => starts[element] = end - (kept - start),
+        _ => {
+            references.drain(kept as usize..end as usize);
+            starts[element + 1..].iter_mut().for_each(|start| *start = start.saturating_sub(end - kept));
+        }
+    }
+    image.nodes[offsets].set_list(&starts);
+    image.nodes[array].set_list(&references);
+}
+
+/// Three dimensions of a base in place of fewer (rule 33, if a section has small elements).
+pub fn third_dimension(image: &mut Image, random: &mut Random) {
+    if let Some(base) = labelled(image, random, "CGNSBase_t") {
+        image.nodes[base].set_numbers(&[3, 3]);
+    }
+}
+
 /// A node reference out of range (rule 34).
 pub fn other_node_reference(image: &mut Image, random: &mut Random) {
     let mut types = FIXED_TYPES.to_vec();
@@ -150,8 +188,11 @@ pub fn other_node_reference(image: &mut Image, random: &mut Random) {
     };
     let section = image.nodes[array].parent as usize;
     let zone = image.nodes[section].parent as usize;
-    let vertices = image.nodes[zone].numbers()[0];
-    let choices = [0, -1, vertices + 1, -vertices, i64::from(i32::MIN), MAX_NUMBER, i64::MIN, i64::MAX];
+    let Some(&vertices) = image.nodes[zone].numbers().first() else {
+        return;
+    };
+    let (above, below) = (vertices.saturating_add(1), vertices.saturating_neg());
+    let choices = [0, -1, above, below, i64::from(i32::MIN), MAX_NUMBER, i64::MIN, i64::MAX];
     let place = random.index(image.nodes[array].numbers().len());
     change(image, array, place, *random.pick(&choices));
 }
@@ -163,20 +204,23 @@ pub fn other_face_reference(image: &mut Image, random: &mut Random) {
     };
     let section = image.nodes[array].parent as usize;
     let zone = image.nodes[section].parent as usize;
-    let ranges: Vec<Vec<i64>> = image
+    let ranges: Vec<(i64, i64)> = image
         .children(zone)
         .into_iter()
         .filter_map(|n| image.child(n, "ElementRange"))
-        .map(|n| image.nodes[n].numbers())
+        .filter_map(|n| range_of(image, n))
         .collect();
-    let range = random.pick(&ranges);
+    if ranges.is_empty() {
+        return;
+    }
+    let (first, last) = *random.pick(&ranges);
     let sign = *random.pick(&[1, -1]);
     let choices = [
         0,
         0,
-        sign * (range[0] - 1),
-        sign * (range[1] + 1),
-        sign * range[0],
+        first.saturating_sub(1).saturating_mul(sign),
+        last.saturating_add(1).saturating_mul(sign),
+        first.saturating_mul(sign),
         i64::from(i32::MIN),
         i64::from(i32::MIN),
         sign * MAX_NUMBER,

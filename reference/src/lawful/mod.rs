@@ -1,6 +1,7 @@
 //! Lawful images, made at random: structured and unstructured zones, all element types, rind, flow solutions with and
 //! without ranges and lists of points, foreign subtrees, nodes in any lawful order.
 
+mod deck;
 mod foreign;
 mod order;
 mod points;
@@ -56,6 +57,7 @@ struct Limits {
     bytes: usize,
 }
 
+pub use deck::Deck;
 pub use foreign::STORING_TYPES;
 pub use points::{some_list, some_range, values_of};
 pub use sections::FIXED_TYPES;
@@ -178,7 +180,7 @@ impl Maker<'_> {
 
     /// A base with its zones.
     fn base(&mut self) {
-        let cell = self.random.between(1, 3);
+        let cell = *self.random.pick(&[1, 2, 3, 3]);
         let physical = self.random.between(cell, 3);
         let name = format!("Base{}", self.random.below(100));
         let base = self.add(0, Node::integers(&name, "CGNSBase_t", 4, &[2], &[cell, physical]));

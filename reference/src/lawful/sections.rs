@@ -1,9 +1,10 @@
 //! Element sections of an unstructured zone.
 
+use super::deck::Deck;
 use super::Maker;
 use super::STORING_TYPES;
 use crate::build::Node;
-use crate::elements::{shape_of, Shape};
+use crate::elements::{least_size, shape_of, Shape, NFACE_N, NGON_N};
 use crate::random::Random;
 use crate::sizes::MAX_NUMBER;
 
@@ -16,35 +17,43 @@ struct Plan {
     element_type: i64,
     count: i64,
     first: i64,
+    /// The fewest references of an element.
+    least: i64,
+}
+
+impl Plan {
+    /// Whether it has the type.
+    fn is(&self, element_type: i64) -> bool {
+        self.element_type == element_type
+    }
 }
 
 impl Maker<'_> {
     /// Sections of a zone, with ranges that do not meet, in any order.
-    pub(super) fn sections(&mut self, zone: usize, vertices: i64) {
-        let mut plans: Vec<Plan> = self
-            .section_types()
-            .into_iter()
-            .map(|element_type| Plan { element_type, count: self.section_count(element_type), first: 0 })
-            .collect();
+    pub(super) fn sections(&mut self, zone: usize, cell_dimension: i64, vertices: i64) {
+        let mut plans: Vec<Plan> =
+            self.section_types().into_iter().map(|element_type| self.plan(element_type, cell_dimension)).collect();
         plans.truncate(self.room() / 4);
-        if !plans.iter().any(|plan| plan.element_type == 22) {
-            plans.retain(|plan| plan.element_type != 23);
+        if !plans.iter().any(|plan| plan.is(NGON_N)) {
+            plans.retain(|plan| !plan.is(NFACE_N));
+        }
+        let sparing = !self.random.one_in(3);
+        if sparing {
+            spare_faces(&mut plans);
         }
         self.place_ranges(&mut plans);
         self.random.shuffle(&mut plans);
-        let faces: Vec<i64> = plans
-            .iter()
-            .filter(|plan| plan.element_type == 22)
-            .flat_map(|plan| plan.first..plan.first + plan.count)
-            .collect();
-        let mut deck: Vec<i64> = faces.iter().flat_map(|&face| [face, -face]).collect();
-        self.random.shuffle(&mut deck);
-        if self.random.one_in(3) {
-            deck.clear();
-        }
+        let faces = plans.iter().filter(|plan| plan.is(NGON_N)).flat_map(|plan| plan.first..plan.first + plan.count);
+        let mut deck = Deck::new(self.random, faces.collect(), sparing);
         for plan in plans {
-            self.section(zone, &plan, vertices, &faces, &mut deck);
+            self.section(zone, &plan, vertices, &mut deck);
         }
+    }
+
+    /// A section of a type, its range not yet known.
+    fn plan(&mut self, element_type: i64, cell_dimension: i64) -> Plan {
+        let least = least_size(element_type, cell_dimension as u64).unwrap_or(1) as i64;
+        Plan { element_type, count: self.section_count(element_type), first: 0, least }
     }
 
     /// The element types of a zone's sections.
@@ -54,11 +63,11 @@ impl Maker<'_> {
             0 => vec![],
             1 => vec![fixed(self.random)],
             2 => vec![fixed(self.random), fixed(self.random)],
-            3 => vec![22],
-            4 | 5 => vec![22, 23],
-            6 => vec![22, fixed(self.random), 23],
-            7 => vec![22, 22, 23],
-            _ => vec![22, 23, 23],
+            3 => vec![NGON_N],
+            4 | 5 => vec![NGON_N, NFACE_N],
+            6 => vec![NGON_N, fixed(self.random), NFACE_N],
+            7 => vec![NGON_N, NGON_N, NFACE_N],
+            _ => vec![NGON_N, NFACE_N, NFACE_N],
         }
     }
 
@@ -89,36 +98,36 @@ impl Maker<'_> {
         }
     }
 
-    /// One section with its children. Cells take their faces from the deck while it lasts, else from all faces.
-    fn section(&mut self, zone: usize, plan: &Plan, vertices: i64, faces: &[i64], deck: &mut Vec<i64>) {
+    /// One section with its children; cells take their faces from the deck.
+    fn section(&mut self, zone: usize, plan: &Plan, vertices: i64, deck: &mut Deck) {
         let name = *self.random.pick(&["Faces", "Cells", "Elem", "Section 1"]);
         let boundary = *self.random.pick(&[0, 0, 1, MAX_NUMBER]);
         let own = Node::integers(name, "Elements_t", 4, &[2], &[plan.element_type, boundary]);
         let section = self.add(zone, own);
         let (width, range) = (self.width(), [plan.first, plan.first + plan.count - 1]);
         self.add(section, Node::integers("ElementRange", "IndexRange_t", width, &[2], &range));
-        let sizes = self.element_sizes(plan, deck.len());
+        let sizes = self.element_sizes(plan, deck.unused());
         let length: i64 = sizes.iter().sum();
-        let connectivity: Vec<i64> = if plan.element_type != 23 {
-            (0..length).map(|_| self.node_reference(vertices)).collect()
-        } else if length <= deck.len() as i64 {
-            deck.drain(..length as usize).collect()
+        let connectivity: Vec<i64> = if plan.is(NFACE_N) {
+            deck.take(self.random, length as usize)
         } else {
-            (0..length).map(|_| *self.random.pick(faces) * *self.random.pick(&[1, -1])).collect()
+            (0..length).map(|_| self.node_reference(vertices)).collect()
         };
         let width = self.width();
         self.add(section, Node::list("ElementConnectivity", width, &connectivity));
         self.section_extras(section, plan, &sizes);
     }
 
-    /// How many references each element of a section has.
-    fn element_sizes(&mut self, plan: &Plan, deck: usize) -> Vec<i64> {
+    /// How many references each element of a section has: those of cells no more than the unused ones of a deck, where
+    /// these are enough.
+    fn element_sizes(&mut self, plan: &Plan, unused: usize) -> Vec<i64> {
         let count = plan.count;
         if let Some(Shape::Fixed(nodes)) = shape_of(plan.element_type) {
             return vec![nodes as i64; count as usize];
         }
-        let most = if deck as i64 >= count && plan.element_type == 23 { (deck as i64 / count).min(4) } else { 4 };
-        (0..count).map(|_| self.random.between(1, most)).collect()
+        let (usual, each) = ((plan.least + 2).max(4), unused as i64 / count);
+        let most = if plan.is(NFACE_N) && each >= plan.least { each.min(usual) } else { usual };
+        (0..count).map(|_| self.random.between(plan.least, most)).collect()
     }
 
     /// A node number, the least and the greatest among them.
@@ -133,12 +142,8 @@ impl Maker<'_> {
     /// Start offsets, where they are needed or now and then, and other children of a section.
     fn section_extras(&mut self, section: usize, plan: &Plan, sizes: &[i64]) {
         let width = self.width();
-        if matches!(plan.element_type, 22 | 23) {
-            let mut offsets = vec![0];
-            for size in sizes {
-                offsets.push(offsets[offsets.len() - 1] + size);
-            }
-            self.add(section, Node::list("ElementStartOffset", width, &offsets));
+        if plan.is(NGON_N) || plan.is(NFACE_N) {
+            self.add(section, Node::start_offsets(width, sizes));
         } else if self.chance(6, 1) {
             let offsets: Vec<i64> = (0..1 + self.random.below(3)).map(|_| self.random.between(-2, 9)).collect();
             self.add(section, Node::list("ElementStartOffset", width, &offsets));
@@ -154,5 +159,17 @@ impl Maker<'_> {
             self.add(section, array);
         }
         self.documents(section, 14);
+    }
+}
+
+/// Lets the cells be so few, and the faces so many, that no cell has to use a face twice with one sign.
+fn spare_faces(plans: &mut [Plan]) {
+    let needed: i64 = plans.iter().filter(|plan| plan.is(NFACE_N)).map(|plan| plan.least).sum();
+    if let Some(faces) = plans.iter_mut().find(|plan| plan.is(NGON_N)) {
+        faces.count = faces.count.max((needed + 1) / 2);
+    }
+    let uses: i64 = plans.iter().filter(|plan| plan.is(NGON_N)).map(|plan| 2 * plan.count).sum();
+    for plan in plans.iter_mut().filter(|plan| plan.is(NFACE_N)) {
+        plan.count = plan.count.min(uses / needed);
     }
 }

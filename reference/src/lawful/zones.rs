@@ -13,7 +13,7 @@ impl Maker<'_> {
         if self.random.one_in(3) {
             self.structured_zone(base, cell_dimension);
         } else {
-            self.unstructured_zone(base);
+            self.unstructured_zone(base, cell_dimension);
         }
     }
 
@@ -48,7 +48,7 @@ impl Maker<'_> {
     }
 
     /// An unstructured zone with sections.
-    fn unstructured_zone(&mut self, base: usize) {
+    fn unstructured_zone(&mut self, base: usize, cell_dimension: i64) {
         let vertices = match self.random.below(8) {
             0 => MAX_NUMBER,
             1 => 1,
@@ -58,7 +58,7 @@ impl Maker<'_> {
         let boundary = *self.random.pick(&[0, 0, 1, vertices]);
         let rows = [vec![vertices], vec![cells], vec![boundary]];
         let zone = self.zone_node(base, &rows, "Unstructured");
-        self.sections(zone, vertices);
+        self.sections(zone, cell_dimension, vertices);
         self.zone_extras(zone, &[vertices], &[cells]);
     }
 

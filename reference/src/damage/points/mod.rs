@@ -7,34 +7,15 @@ mod placing;
 mod site;
 mod sizes;
 
+use super::Answer;
 use crate::build::Image;
 use crate::random::Random;
-use crate::rejection::Rejection;
-use crate::validation::Counts;
 
 use accepted::*;
 use broken::*;
 use placing::*;
 use site::Site;
 use sizes::*;
-
-/// How an image is to be answered.
-#[derive(Clone, Copy, Debug, PartialEq, Eq)]
-pub enum Answer {
-    Accepted,
-    Refused { rule: u32, node: usize },
-}
-
-impl Answer {
-    /// Whether a verdict is this one; the counts are left open.
-    pub fn is(self, verdict: &Result<Counts, Rejection>) -> bool {
-        match (self, verdict) {
-            (Answer::Accepted, Ok(_)) => true,
-            (Answer::Refused { rule, node }, Err(rejection)) => *rejection == Rejection::at_node(rule, node),
-            _ => false,
-        }
-    }
-}
 
 /// A case: it changes a lawful image and answers how that is to be answered; nothing where the image has no place for it.
 pub type PointCase = fn(&mut Site) -> Option<Answer>;

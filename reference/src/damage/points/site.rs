@@ -2,7 +2,7 @@
 
 use super::Answer;
 use crate::build::{Image, Node};
-use crate::damage::pick::{is_validated, some_node};
+use crate::damage::pick::{is_validated, scatter, some_node};
 use crate::lawful::{some_list, some_range, values_of};
 use crate::random::Random;
 use crate::sizes::MAX_NUMBER;
@@ -164,18 +164,7 @@ impl<'a> Site<'a> {
     /// Adds a node under a parent and the others under that node, in their order, each at any place behind the parent;
     /// answers the first one's number. The zone keeps its number.
     pub fn scatter(&mut self, parent: usize, nodes: Vec<Node>) -> usize {
-        let (old, least) = (self.image.nodes.len(), parent.max(self.zone) + 1);
-        let mut places: Vec<usize> = nodes.iter().map(|_| least + self.random.index(old + 1 - least)).collect();
-        places.sort_unstable();
-        for (k, node) in nodes.into_iter().enumerate() {
-            self.image.add(if k == 0 { parent } else { old }, node);
-        }
-        let mut order: Vec<usize> = (0..old).collect();
-        for (k, &place) in places.iter().enumerate() {
-            order.insert(place + k, old + k);
-        }
-        self.image.reorder(&order);
-        places[0]
+        scatter(self.image, self.random, parent, parent.max(self.zone), nodes)
     }
 
     /// Refused by a rule at the child of a node with this name.

@@ -10,13 +10,13 @@ use Rattle.elements.proofs.lengths.all_rise.Statement.{statement}
 use Rattle.elements.proofs.lengths.all_rise.Tie as tie
 
 abbrev Inv-loop : tie.InvT-loop
-Inv-loop image row n width last₀ k₀ last k = Rising image (row .at) width n k last
+Inv-loop image row least n width last₀ k₀ last k = Rising image (row .at) width least n k last
 
 abbrev μ-loop : tie.MeasureT-loop
-μ-loop image row n width last₀ k₀ last k = n - k
+μ-loop image row least n width last₀ k₀ last k = n - k
 
 loop-holds : tie.Need-loop-holds Inv-loop μ-loop
-loop-holds c = rising-start (c .before .before .pre .1)
+loop-holds c = rising-start (c .before .before .pre .1 .0)
 
 returns : tie.Need-returns Inv-loop μ-loop
 returns c =
@@ -31,7 +31,12 @@ loop-again c =
 returns-2 : tie.Need-returns-2 Inv-loop μ-loop
 returns-2 c = every-done (c .before .loop .inv .left) (omega arith)
 
+rises-requires : tie.Need-rises-requires Inv-loop μ-loop
+rises-requires c κs =
+    let l = c .before .before in
+    let p = l .before .before .before .pre in
+    ((p .0 .0 .wide, l .loop .inv .low), p .1 .1)
+
 pub all-rise-spec : {M : Type 1} → statement M
 all-rise-spec = tie.close (tie.spec Inv-loop μ-loop (search needs) loop-holds (search needs) (λ c κs. search needs)
-    (λ c κs. (c .before .before .before .before .before .pre .0 .0 .wide, c .before .before .loop .inv .low)) returns (search needs) (search needs) loop-again
-    returns-2)
+    rises-requires returns (search needs) (search needs) loop-again returns-2)

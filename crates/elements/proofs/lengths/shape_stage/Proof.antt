@@ -12,7 +12,7 @@ use Rattle.elements.proofs.lengths.shape_stage.Tie as tie
 offset-shape-requires : tie.Need-offset-shape-requires
 offset-shape-requires c κs =
     let p = c .before .before .before .before .pre in
-    (p .0, (p .1 .0, ap hasOffsets (sym (p .1 .1)) ∙ (sym (c .before .has-offsets .ensures) ∙ c .if1 .taken)))
+    (p .0, (p .1 .0, (p .1 .1, ap hasOffsets (sym (p .1 .1)) ∙ (sym (c .before .has-offsets .ensures) ∙ c .if1 .taken))))
 
 mul-if2 : tie.Need-mul-if2
 mul-if2 c =
