@@ -6,16 +6,13 @@ use mathlib.Core.List.{List}
 use native.Mathlib.Nat.{one-le-pow}
 use native.Mathlib.Numerals.{add-one}
 use native.Mathlib.Omega.{arith}
-use native.Mathlib.Decide.{ℕ-discrete}
-use lib.Dec.{T, ltb, leb}
+use lib.Dec.{ltb, leb}
 use borrow.Author.Tests.{lt-leb, le-leb, lt-ltb, leb-true, leb-false, not-true}
 use Rattle.model.specs.Lists.{everyFrom}
 use Rattle.model.specs.Bytes.{half, negative, below}
 use Rattle.model.specs.Corner.{numberAt}
 use Rattle.model.proofs.Logic.{and-first, and-second, and-true}
 use Rattle.model.proofs.Loops.{EveryLeft, every-start, every-more, every-stop}
-use Rattle.words.specs.Width.{isWidth}
-use Rattle.words.proofs.Signed.{eight}
 use Rattle.elements.specs.Arrays.{risesAt, largeAt, risesBy}
 use Rattle.elements.proofs.Agree.{every-same, every-both}
 
@@ -30,14 +27,6 @@ still-low w x y h e = leb-false (half w) y (not-true _ (and-first (not (leb (hal
 pub half-some : (w : ℕ) → 0 < half w
 unfolding half
 half-some w = one-le-pow (8 * w - 1) 2 (omega arith)
-
-pub half-most : (w : ℕ) → T (isWidth w) → half w ≤ 9223372036854775808
-unfolding half
-half-most w h =
-    elim (ℕ-discrete w 4) [
-      | yes q ↦ rw q (omega arith)
-      | no n ↦ rw (eight w h n) (omega arith)
-    ]
 
 -- rules 31 and 33 of two numbers of which x is not negative: where y is negative, and where it is not
 module _ (w x y : ℕ) (h : x < half w) where

@@ -91,10 +91,11 @@ fn offsets_stage(image: &[u8], s: usize, row: Row, length: u64, least: u64) -> S
     requires { ⌜ (Numbers (now image) (row .at) (row .width) (row .n) × (0 < row .n)) × (least ≤ 4) ⌝ }
     ensures { λ r. ⌜ stageTells r ≡ check s (offsetRules (now (image .entry)) (row .at) (row .width) (row .n - 1) length least) ⌝ }
 {
+    let n = row.n - 1;
     if rows::number_at(image, row, 0) != 0 {
         return Stage::Rejected(Rejection::at(30, s as u64));
     }
-    let ends = rows::number_at(image, row, row.n - 1) == length;
+    let ends = rows::number_at(image, row, n) == length;
     if all_rise(image, row, least) {
         if ends {
             return Stage::Pass;

@@ -1,12 +1,11 @@
 -- A PointRange: the distances of its numbers, what its directions tell, and their product.
-use Prim.Native.Nat.{ℕ, zero, suc, _+_, _*_, _-_, _/_, _^_, _≤_, _<_}
+use Prim.Native.Nat.{ℕ, zero, suc, _+_, _*_, _-_, _/_, _≤_, _<_}
 use mathlib.Core.Path.{_≡_, refl, sym, ap, _∙_}
 use mathlib.Core.Bool.{Bool, true, false, cond, not, _&&_, _||_}
 use mathlib.Core.List.{List, [], _∷_}
 use native.Mathlib.Omega.{arith}
-use native.Mathlib.Decide.{ℕ-discrete}
 use native.Mathlib.Nat.{one-mul, mul-one, mul-pos, mul-assoc, mul-le-mul-left, le-div-iff-mul-le, div-lt-iff-lt-mul}
-use lib.Dec.{T, eqb, leb, ltb}
+use lib.Dec.{eqb, leb, ltb}
 use borrow.Author.Tests.{leb-true, leb-false, ltb-false, le-leb, le-ltb, lt-leb, ne-eqb, not-true}
 use Rattle.model.specs.Lists.{row}
 use Rattle.model.specs.Bytes.{half, negative, magnitude, below, distance}
@@ -17,21 +16,10 @@ use Rattle.model.specs.Values.{typed, shaped, typeLawful, rangeShape, indexDime
 use Rattle.model.specs.Values.{pointsIn, pointsFrom, points}
 use Rattle.model.proofs.Logic.{untrue, and-first, and-second, and-both}
 use Rattle.model.proofs.Walks.{every-at}
-use Rattle.words.specs.Width.{isWidth}
-use Rattle.words.proofs.Signed.{eight}
 use Rattle.types.specs.Given.{HasNumber}
 use Rattle.types.proofs.StoredNumbers.{whole-wide, shaped-is, has-by}
 use Rattle.points.specs.Given.{TypedRange}
 use Rattle.points.specs.Between.{lawfulBetween}
-
--- half of the patterns of 4 or 8 bytes
-pub half-is : (w : ℕ) → T (isWidth w) → (256 ^ w ≡ half w + half w) × ((2147483648 ≤ half w) × (half w ≤ 9223372036854775808))
-unfolding half
-half-is w t =
-    elim (ℕ-discrete w 4) [
-      | yes q ↦ rw q (refl, (omega arith, omega arith))
-      | no z ↦ rw (eight w t z) (refl, (omega arith, omega arith))
-    ]
 
 pub distance-low : (w x : ℕ) → x < half w → x + half w ≡ distance w x
 unfolding distance negative

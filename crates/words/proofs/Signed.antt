@@ -3,6 +3,7 @@ use mathlib.Core.Path.{_≡_, refl, ap, _∙_}
 use mathlib.Core.Bool.{Bool, true, false, cond}
 use Prim.Native.Nat.{ℕ, zero, suc, _+_, _*_, _-_, _%_, _^_, _≤_, _<_}
 use native.Mathlib.Omega.{arith}
+use native.Mathlib.Decide.{ℕ-discrete}
 use borrow.Author.Tests.{lt-leb, le-leb, lt-ltb, le-ltb, ne-eqb, ltb-true, leb-true, leb-false}
 use lib.IntN.{ℤ, pos, negsuc, natAbs, _-ℤ_}
 use lib.Signed.{ltZ, mag, nonNeg}
@@ -66,6 +67,15 @@ module _ (w : Width) where
 
 pub eight : (k : ℕ) → T (isWidth k) → (k ≡ 4 → ⊥) → k ≡ 8
 eight k t n = eqb→eq k 8 (simp (ne-eqb k 4 n) at t)
+
+-- half of the patterns of 4 or 8 bytes
+pub half-is : (w : ℕ) → T (isWidth w) → (256 ^ w ≡ half w + half w) × ((2147483648 ≤ half w) × (half w ≤ 9223372036854775808))
+unfolding half
+half-is w t =
+    elim (ℕ-discrete w 4) [
+      | yes q ↦ rw q (refl, (omega arith, omega arith))
+      | no z ↦ rw (eight w t z) (refl, (omega arith, omega arith))
+    ]
 
 -- the model's signed number is this, at half the patterns of its width
 pub signed-is : (w x : ℕ) → twos (half w) x ≡ signed w x

@@ -1,6 +1,7 @@
 -- By the sign.
 use native.Mathlib.Omega.{arith}
-use Rattle.points.proofs.PointRanges.{half-is, distance-low, distance-high}
+use Rattle.words.proofs.Signed.{half-is}
+use Rattle.points.proofs.PointRanges.{distance-low, distance-high}
 use Rattle.points.proofs.distance.Statement.{statement}
 use Rattle.points.proofs.distance.Tie as tie
 

@@ -5,7 +5,8 @@ use mathlib.Core.Bool.{cond}
 use native.Mathlib.Omega.{arith}
 use Rattle.model.specs.Bytes.{half, distance}
 use Rattle.points.specs.Between.{lawfulBetween}
-use Rattle.points.proofs.PointRanges.{Near, half-is, none-between, some-between}
+use Rattle.words.proofs.Signed.{half-is}
+use Rattle.points.proofs.PointRanges.{Near, none-between, some-between}
 use Rattle.points.proofs.points_between.Statement.{statement}
 use Rattle.points.proofs.points_between.Tie as tie
 

@@ -18,8 +18,8 @@ returns c =
 
 all-rise-requires : tie.Need-all-rise-requires
 all-rise-requires c κs =
-    let z = c .before .before in
-    let p = z .before .before .before .pre in
+    let z = c .before in
+    let p = z .before .before .before .before .pre in
     (p .0, (sym (z .before .number-at .ensures) ∙ z .if1 .left, p .1))
 
 returns-2 : tie.Need-returns-2
@@ -27,7 +27,7 @@ unfolding offsetRules
 returns-2 c =
     let e = c .before .before in
     let l = e .before in
-    let z = l .before .before in
+    let z = l .before in
     let a = sym (e .all-rise .ensures) ∙ c .before .if2 .taken in
     holds _ 30 _ (same-read (z .before .number-at .ensures) (z .if1 .left))
     (holds _ 31 _ (rise-holds _ _ _ _ _ a)
@@ -39,7 +39,7 @@ unfolding offsetRules
 returns-3 c =
     let e = c .before .before .before in
     let l = e .before in
-    let z = l .before .before in
+    let z = l .before in
     let a = sym (e .all-rise .ensures) ∙ c .before .before .if2 .taken in
     holds _ 30 _ (same-read (z .before .number-at .ensures) (z .if1 .left))
     (holds _ 31 _ (rise-holds _ _ _ _ _ a)
@@ -47,15 +47,15 @@ returns-3 c =
 
 all-rise-requires-2 : tie.Need-all-rise-requires-2
 all-rise-requires-2 c κs =
-    let z = c .before .before .before .before in
-    let p = z .before .before .before .pre in
+    let z = c .before .before .before in
+    let p = z .before .before .before .before .pre in
     (p .0, (sym (z .before .number-at .ensures) ∙ z .if1 .left, search needs))
 
 returns-4 : tie.Need-returns-4
 unfolding offsetRules
 returns-4 c =
     let f = c .before .before in
-    let z = f .before .before .before .before .before in
+    let z = f .before .before .before .before in
     holds _ 30 _ (same-read (z .before .number-at .ensures) (z .if1 .left))
     (fails _ 31 _ (sym (rise-alone _ _ _ _) ∙ (sym (f .all-rise2 .ensures) ∙ not-true _ (c .before .if4 .taken))) (ap rejected (c .at3 .ensures)))
 
@@ -64,7 +64,7 @@ unfolding offsetRules
 returns-5 c =
     let f = c .before .before .before in
     let l = f .before .before .before in
-    let z = l .before .before in
+    let z = l .before in
     holds _ 30 _ (same-read (z .before .number-at .ensures) (z .if1 .left))
     (holds _ 31 _ (sym (rise-alone _ _ _ _) ∙ (sym (f .all-rise2 .ensures) ∙ not-false _ (c .before .before .if4 .left)))
     (fails _ 32 _ (rw (← l .number-at2 .ensures) (not-true _ (c .before .if5 .taken))) (ap rejected (c .at4 .ensures))))
@@ -75,7 +75,7 @@ returns-6 c =
     let f = c .before .before .before in
     let e = f .before .before in
     let l = e .before in
-    let z = l .before .before in
+    let z = l .before in
     let u = sym (rise-alone _ _ _ _) ∙ (sym (f .all-rise2 .ensures) ∙ not-false _ (c .before .before .if4 .left)) in
     holds _ 30 _ (same-read (z .before .number-at .ensures) (z .if1 .left))
     (holds _ 31 _ u
@@ -85,5 +85,5 @@ returns-6 c =
 pub offsets-stage-spec : {M : Type 1} → statement M
 offsets-stage-spec =
     tie.close
-    (tie.spec (λ c κs. search needs) (search needs) returns (search needs) (λ c κs. search needs) all-rise-requires returns-2 (search needs) returns-3
+    (tie.spec (search needs) (λ c κs. search needs) (search needs) returns (λ c κs. search needs) all-rise-requires returns-2 (search needs) returns-3
     all-rise-requires-2 (search needs) returns-4 (search needs) returns-5 (search needs) returns-6)

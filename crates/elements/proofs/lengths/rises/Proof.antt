@@ -1,7 +1,8 @@
 -- Of numbers that are not negative the bits tell the order.
 use borrow.Author.Needs.{needs}
 use native.Mathlib.Omega.{arith}
-use Rattle.elements.proofs.Offsets.{half-most, rise-negative, rise-any, rise-by}
+use Rattle.words.proofs.Signed.{half-is}
+use Rattle.elements.proofs.Offsets.{rise-negative, rise-any, rise-by}
 use Rattle.elements.proofs.lengths.rises.Statement.{statement}
 use Rattle.elements.proofs.lengths.rises.Tie as tie
 
@@ -14,7 +15,7 @@ returns-2 c =
     rw (c .if2 .taken) (rise-any _ _ _ (d .pre .0 .1) (rw (← c .before .before .half-of .ensures) (c .before .if1 .left)))
 
 add-result : tie.Need-add-result
-add-result c = let d = c .before .before .before in omega (arith, half-most (d .args .width) (d .pre .0 .0))
+add-result c = let d = c .before .before .before in omega (arith, half-is (d .args .width) (d .pre .0 .0) .1 .1)
 
 returns-3 : tie.Need-returns-3
 returns-3 c =
