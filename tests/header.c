@@ -136,6 +136,116 @@ static void check_path(const char *folder)
     CHECK(answer.rule == GONGAURORA_RULE_NO_SUCH_NODE && answer.node == 0 && answer.count == 0);
 }
 
+enum { HEADER = 32, RECORD = 84, NAME = 32, PARENT = 72 };
+
+static uint32_t word_at(size_t at)
+{
+    return image[at] | (uint32_t)image[at + 1] << 8 | (uint32_t)image[at + 2] << 16 | (uint32_t)image[at + 3] << 24;
+}
+
+static void set_word(size_t at, uint32_t word)
+{
+    int k;
+    for (k = 0; k < 4; k++) image[at + k] = (uint8_t)(word >> 8 * k);
+}
+
+static uint8_t *name_of(size_t node)
+{
+    return image + HEADER + RECORD * node;
+}
+
+/* What gongaurora_name_bytes answers, by two loops over the records. */
+static uint64_t name_bytes(void)
+{
+    size_t count = word_at(8), a, b, place;
+    uint64_t sum = 0;
+    for (a = 0; a < count; a++)
+        for (b = a + 1; b < count; b++) {
+            if (word_at(HEADER + RECORD * a + PARENT) != word_at(HEADER + RECORD * b + PARENT)) continue;
+            for (place = 1; place < NAME && name_of(a)[place - 1] == name_of(b)[place - 1]; place++) {}
+            sum += place;
+        }
+    return sum;
+}
+
+/* Leaves the root of the image alone. */
+static void cut_to_root(void)
+{
+    length = HEADER + RECORD;
+    set_word(4, HEADER + RECORD);
+    set_word(8, 1);
+    set_word(16, HEADER + RECORD);
+    set_word(20, 0);
+    set_word(24, HEADER + RECORD);
+    set_word(28, 0);
+}
+
+static void check_name_bytes(const char *folder)
+{
+    static const struct {
+        const char *name;
+        uint64_t count;
+    } known[] = {{"tetrahedron.img", 88}, {"polyhedra.img", 116}, {"hexahedra.img", 45}, {"structured_rind.img", 41},
+                 {"wall.img", 43},        {"near_29.img", 88},    {"near_30.img", 88},   {"near_31.img", 88},
+                 {"near_32.img", 88},     {"near_33.img", 88},    {"near_34.img", 88},   {"near_35.img", 88}};
+    gongaurora_count answer;
+    size_t k;
+    for (k = 0; k < sizeof known / sizeof *known; k++) {
+        load(folder, known[k].name);
+        answer = gongaurora_name_bytes(image, length);
+        CHECK(answer.rule == 0 && answer.node == 0 && answer.count == known[k].count && name_bytes() == known[k].count);
+    }
+    load(folder, "tetrahedron.img");
+    cut_to_root();
+    answer = gongaurora_name_bytes(image, length);
+    CHECK(answer.rule == 0 && answer.node == 0 && answer.count == 0 && name_bytes() == 0);
+}
+
+/* The tetrahedron with other names of nodes 6 and 7, two of three siblings. */
+static void check_changed_names(const char *folder)
+{
+    gongaurora_count answer;
+    load(folder, "tetrahedron.img");
+    memset(name_of(6), 'x', NAME);
+    memset(name_of(7), 'x', NAME - 1);
+    name_of(7)[NAME - 1] = 'y'; /* the last byte alone differs */
+    answer = gongaurora_name_bytes(image, length);
+    CHECK(answer.rule == 0 && answer.node == 0 && answer.count == 88 - 3 * 11 + 32 + 1 + 1 && answer.count == name_bytes());
+    name_of(7)[NAME - 1] = 'x';
+    answer = gongaurora_name_bytes(image, length);
+    CHECK(answer.rule == GONGAURORA_RULE_SIBLING_NAME && answer.node == 7 && answer.count == 0);
+    memcpy(name_of(4), name_of(6), NAME); /* nodes 4 and 6 are no siblings */
+    name_of(7)[0] = 'y';
+    answer = gongaurora_name_bytes(image, length);
+    CHECK(answer.rule == 0 && answer.count == 88 - 3 * 11 + 1 + 1 + 1 && answer.count == name_bytes());
+}
+
+static void check_name_bytes_refused(const char *folder)
+{
+    uint8_t words[17], known[17];
+    gongaurora_count answer;
+    load(folder, "tetrahedron.img");
+    memset(words, 9, sizeof words);
+    memset(known, 9, sizeof known);
+    CHECK(gongaurora_export_name_bytes(image, length, words, 15) == GONGAURORA_RULE_ROOM);
+    CHECK(gongaurora_export_name_bytes(image, length, NULL, 0) == GONGAURORA_RULE_ROOM);
+    CHECK(gongaurora_export_name_bytes(image, 31, words, 15) == GONGAURORA_RULE_ROOM);
+    CHECK(memcmp(words, known, sizeof words) == 0);
+    memset(known, 0, 16);
+    known[8] = 88;
+    CHECK(gongaurora_export_name_bytes(image, length, words, 17) == 0);
+    CHECK(memcmp(words, known, sizeof words) == 0);
+    answer = gongaurora_name_bytes(image, 31);
+    CHECK(answer.rule == GONGAURORA_RULE_IMAGE_LENGTH && answer.node == 0 && answer.count == 0);
+    answer = gongaurora_name_bytes(NULL, 0);
+    CHECK(answer.rule == GONGAURORA_RULE_IMAGE_LENGTH && answer.node == 0 && answer.count == 0);
+    answer = gongaurora_name_bytes(image, length - 1);
+    CHECK(answer.rule == GONGAURORA_RULE_TOTAL_LENGTH && answer.node == 0 && answer.count == 0);
+    set_word(HEADER + RECORD * 5 + PARENT, 9);
+    answer = gongaurora_name_bytes(image, length);
+    CHECK(answer.rule == GONGAURORA_RULE_PARENT && answer.node == 5 && answer.count == 0);
+}
+
 static void check_arrays(const char *folder)
 {
     gongaurora_sizes sizes;
@@ -190,6 +300,9 @@ int main(int argc, char **argv)
     check_sections(argv[1]);
     check_face_usage(argv[1]);
     check_path(argv[1]);
+    check_name_bytes(argv[1]);
+    check_changed_names(argv[1]);
+    check_name_bytes_refused(argv[1]);
     check_arrays(argv[1]);
     check_rule_texts();
     check_version();

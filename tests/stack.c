@@ -34,6 +34,7 @@ static uint64_t read_element(void)
 }
 static uint64_t face_usage(void) { return gongaurora_face_usage(image, length, zone, bytes, sizeof bytes).rule; }
 static uint64_t path(void) { return gongaurora_path(image, length, array, bytes, sizeof bytes).rule; }
+static uint64_t name_bytes(void) { return gongaurora_name_bytes(image, length).rule; }
 static uint64_t data_size(void) { return gongaurora_data_size(image, length, array).rule; }
 static uint64_t array_value(void) { return gongaurora_array_value(image, length, array, 1).rule; }
 
@@ -49,6 +50,7 @@ static const struct {
     {"read_element", read_element, READ},
     {"face_usage", face_usage, VALIDATION},
     {"path", path, TABLE},
+    {"name_bytes", name_bytes, TABLE},
     {"data_size", data_size, VALIDATION},
     {"array_value", array_value, TABLE},
 };

@@ -1,4 +1,4 @@
-//! The functions of walks.c.
+//! The functions of walks.c and names.c.
 
 use reference::Section;
 
@@ -10,7 +10,7 @@ pub struct Validation {
     pub counts: [u64; 4],
 }
 
-/// The answer of the sections call: rule, node, count.
+/// The answer of the calls that count: rule, node, count.
 #[repr(C)]
 pub struct Count {
     pub rule: u64,
@@ -42,6 +42,9 @@ extern "C" {
     fn bench_validate(image: *const u8, length: usize) -> Validation;
     fn bench_sections(image: *const u8, length: usize, zone: u64, out: *mut u64, room: usize) -> Count;
     fn bench_face_usage(image: *const u8, length: usize, zone: u64, out: *mut u8, room: usize) -> Usage;
+    fn bench_table(image: *const u8, length: usize) -> Count;
+    fn bench_name_bytes(image: *const u8, length: usize) -> Count;
+    fn bench_plain_name_bytes(image: *const u8) -> u64;
     fn bench_walk_elements(image: *const u8, length: usize, sections: *const u64, count: usize) -> Walked;
     fn bench_walk_checked(image: *const u8, length: usize, sections: *const u64, count: usize) -> Walked;
     fn bench_walk_corners(image: *const u8, length: usize, sections: *const u64, count: usize) -> Walked;
@@ -75,6 +78,24 @@ pub fn sections(image: &[u8], zone: u64) -> Vec<u64> {
 pub fn face_usage(image: &[u8], zone: u64, out: &mut [u8]) -> Usage {
     // SAFETY: writes up to the room lent.
     unsafe { bench_face_usage(image.as_ptr(), image.len(), zone, out.as_mut_ptr(), out.len()) }
+}
+
+/// The library's answer of rules 1 to 18 alone.
+pub fn check_table(image: &[u8]) -> Count {
+    // SAFETY: reads the image alone.
+    unsafe { bench_table(image.as_ptr(), image.len()) }
+}
+
+/// The library's count of name bytes.
+pub fn name_bytes(image: &[u8]) -> Count {
+    // SAFETY: reads the image alone.
+    unsafe { bench_name_bytes(image.as_ptr(), image.len()) }
+}
+
+/// The same count with no check.
+pub fn plain_name_bytes(image: &[u8]) -> u64 {
+    // SAFETY: an image that meets rules 1 to 18; nothing is written.
+    unsafe { bench_plain_name_bytes(image.as_ptr()) }
 }
 
 fn walk(walk: Walk, image: &[u8], sections: &[u64]) -> Walked {

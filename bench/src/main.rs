@@ -1,12 +1,15 @@
 //! `bench [REPETITIONS]`: prints tables of times and ratios, all from one run: validation against the reference and against
-//! one pass over the bytes, the walk against C with no check and with the same checks, face usage against the reference, peak memory.
+//! one pass over the bytes, rules 1 to 18 alone against the same, name bytes against the reference and plain C, the walk against C
+//! with no check and with the same checks, face usage against the reference, peak memory.
 //!
 //! `bench images FOLDER`: writes the odd images of the tables as files.
 
 mod calls;
 mod measure;
+mod names;
 mod odd;
 mod parts;
+mod siblings;
 
 use std::path::Path;
 use std::process::Command;
@@ -14,6 +17,7 @@ use std::{env, fs};
 
 use calls::{face_count, face_usage, sections, sum, validate, walk_checked, walk_corners, walk_elements, walk_plain};
 use measure::{medians, peak_growth, processor, TURN};
+use names::{name_bytes_table, rules_table};
 use odd::Odd;
 use reference::mesh::mesh;
 use reference::Counts;
@@ -30,13 +34,16 @@ struct Subject {
     faces: bool,
     /// The rule that it breaks; 0 where it is lawful.
     rule: u64,
+    /// Whether it has many siblings, whose names are compared.
+    siblings: bool,
 }
 
 /// The meshes, each near the largest that there may be.
 fn meshes() -> Vec<Subject> {
     let subject = |name, kind, n, width| {
         let image = mesh(kind, n, width).expect("a lawful mesh");
-        Subject { name, image, walked: kind != "zones", faces: kind == "poly", rule: 0 }
+        let zones = kind == "zones";
+        Subject { name, image, walked: !zones, faces: kind == "poly", rule: 0, siblings: zones }
     };
     vec![
         subject("polyhedra I4, 52 x 52 x 52", "poly", 52, 4),
@@ -48,7 +55,10 @@ fn meshes() -> Vec<Subject> {
 
 /// The odd images.
 fn odd_images() -> Vec<Subject> {
-    let subject = |Odd { name, image, usage, rule, .. }| Subject { name, image, walked: false, faces: usage, rule };
+    let subject = |odd| {
+        let Odd { name, image, usage: faces, rule, siblings, .. } = odd;
+        Subject { name, image, walked: false, faces, rule, siblings }
+    };
     odd::images().into_iter().map(subject).collect()
 }
 
@@ -79,6 +89,8 @@ fn tables(repetitions: usize) {
     println!("Processor: {}. C is compiled with -O2.", processor());
     println!("Times are processor time in milliseconds, medians of {repetitions} turns; a turn repeats what takes under {TURN} ms. A ratio is the quotient of two medians in its row.\n");
     validation_table(&all, repetitions);
+    rules_table(&all, repetitions);
+    name_bytes_table(&all, repetitions);
     walk_table(&meshes, repetitions);
     usage_table(&all, repetitions);
     memory_table(&meshes);

@@ -9,6 +9,7 @@ use crate::parts::{
     add_bare_zone, add_faces, add_triangles, add_zone, add_zone_type, at_random, children_last, falling, in_turn,
     rising, with_base, with_zone, Section, APART, MAX_NODES, NFACE_N, NGON_N, TRI_3,
 };
+use crate::siblings;
 
 /// Face references of an image with one cell section, and of each cell section where there are many.
 const REFERENCES: usize = 3_000_000;
@@ -23,16 +24,19 @@ pub struct Odd {
     pub usage: bool,
     /// The rule that it breaks; 0 where it is lawful.
     pub rule: u64,
+    /// Whether nearly all its nodes are siblings.
+    pub siblings: bool,
 }
 
-fn odd(name: &'static str, file: &'static str, image: Image) -> Odd {
-    Odd { name, file, image: image.to_bytes(), usage: false, rule: 0 }
+pub fn odd(name: &'static str, file: &'static str, image: Image) -> Odd {
+    Odd { name, file, image: image.to_bytes(), usage: false, rule: 0, siblings: false }
 }
 
-/// All odd images: many references to faces in many sections, then many nodes with few data.
+/// All odd images: many references to faces in many sections, then many nodes with few data, then many siblings.
 pub fn images() -> Vec<Odd> {
     let mut images = of_faces();
     images.extend(of_nodes());
+    images.extend(siblings::images());
     images
 }
 
@@ -149,12 +153,6 @@ fn of_nodes() -> Vec<Odd> {
                 ranges_alone(NGON_N, &falling(2_040, APART / 2)),
             )
         },
-        odd("4,088 arrays of a section, named ElementX..", "named_7", named(|k| format!("ElementX{k:04}"))),
-        odd(
-            "4,088 arrays of a section, names that share 28 bytes with ElementConnectivity",
-            "named_28",
-            named(|k| format!("{:<28}{k:04}", "ElementConnectivity")),
-        ),
         odd("2,046 zones, ZoneType at the end of the table", "zone_types_last", zone_types_last()),
         odd("1,020 sections of a triangle, Rind at the end of the table", "rinds_last", rinds_last(&up)),
     ]
@@ -290,18 +288,6 @@ fn flow_arrays_by_range(count: usize) -> Image {
     arrays.for_each(|array| array.reshape(&[2]));
     let flow = image.nodes.iter().position(|node| node.is_labelled("FlowSolution_t")).expect("a flow solution");
     image.add(flow, Node::point_range(4, &[[1, 2], [1, 1], [1, 1]]));
-    image
-}
-
-/// A section with as many arrays as there may be, and behind them those that it needs.
-fn named(name: impl Fn(usize) -> String) -> Image {
-    let (mut image, zone) = with_zone();
-    let own = Section::triangle(TRI_3, 1);
-    let section = own.add_bare(&mut image, zone);
-    for k in 0..MAX_NODES - image.nodes.len() - 2 {
-        image.add(section, Node::list(&name(k), 4, &[0]));
-    }
-    own.add_children(&mut image, section);
     image
 }
 

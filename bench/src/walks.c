@@ -39,6 +39,18 @@ gongaurora_usage bench_face_usage(const uint8_t *image, size_t length, uint64_t 
     return gongaurora_face_usage(image, length, zone, out, room);
 }
 
+/* Rules 1 to 18 alone, by the call that asks nothing else: the root's path is one byte. */
+gongaurora_count bench_table(const uint8_t *image, size_t length)
+{
+    uint8_t path[1];
+    return gongaurora_path(image, length, 0, path, sizeof path);
+}
+
+gongaurora_count bench_name_bytes(const uint8_t *image, size_t length)
+{
+    return gongaurora_name_bytes(image, length);
+}
+
 /* The face section that holds a face number. */
 static const gongaurora_section *section_of_face(const gongaurora_section *sections, size_t count, uint64_t number)
 {

@@ -1,6 +1,7 @@
 //! The answers of the calls as lines of text, one for each call.
 
 use crate::faces::{face_count, face_usage};
+use crate::name_bytes::name_bytes;
 use crate::path::{path, path_into};
 use crate::reader::{array_value, corner, corner_reads_into, data_size, element_corners, section_entries};
 use crate::reader::{section_entries_into, Section, Value, ENTRY_LENGTH};
@@ -37,6 +38,11 @@ pub fn validate_line(image: &[u8]) -> String {
 /// `accept N`.
 pub fn table_line(image: &[u8]) -> String {
     line(check_table(image), |count| format!("accept {count}"))
+}
+
+/// `bytes COUNT`.
+pub fn name_bytes_line(image: &[u8]) -> String {
+    line(name_bytes(image), |count| format!("bytes {count}"))
 }
 
 /// The path.

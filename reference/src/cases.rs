@@ -3,6 +3,7 @@
 
 use crate::build::{Image, Node};
 use crate::flat_cases::flat_cases;
+use crate::name_cases::name_cases;
 use crate::point_cases::point_cases;
 
 /// The nodes of a tetrahedron's four faces (001).
@@ -93,7 +94,7 @@ pub fn rind_planes() -> Vec<u8> {
 pub const RIND_ARRAY: u64 = 7;
 
 /// All cases, each with its name; (j) has three, those of points begin with `p1_`, those of flat faces and cells with
-/// `f2_`.
+/// `f2_`, those of name bytes with `n3_`.
 pub fn cases() -> Vec<(&'static str, Vec<u8>)> {
     let a = tetrahedron().to_bytes();
     let b = a[..31].to_vec();
@@ -117,6 +118,7 @@ pub fn cases() -> Vec<(&'static str, Vec<u8>)> {
     ];
     cases.extend(point_cases());
     cases.extend(flat_cases());
+    cases.extend(name_cases());
     cases
 }
 

@@ -4,7 +4,7 @@
 use std::collections::BTreeMap;
 
 use crate::build::Image;
-use crate::damage::{damages_of, flat_case, flips, point_case, Answer, Damage, DAMAGES};
+use crate::damage::{damages_of, flat_case, flips, name_case, point_case, Answer, Damage, DAMAGES};
 use crate::lawful::{chain, lawful, SizeClass};
 use crate::random::Random;
 use crate::validation::validate;
@@ -24,24 +24,27 @@ enum Target {
     Points(usize),
     /// A case of flat faces and cells (document 02, §2) of this number.
     Flat(usize),
+    /// A case of name bytes (document 02, §3) of this number.
+    Names(usize),
 }
 
 /// How many indices make a round: each rule once, a lawful image before every second one, five others; eleven cases of
-/// points, a third of their list, and eleven of flat faces and cells, half of theirs.
-const ROUND: u64 = 33 + 17 + 5 + 2 * CASES;
+/// points, a third of their list, eleven of flat faces and cells and eleven of name bytes, half of theirs.
+const ROUND: u64 = 33 + 17 + 5 + 3 * CASES;
 const CASES: u64 = 11;
 
-/// The target of an index: of every seven the last two are cases, each case in its turn.
+/// The target of an index: of every eight the last three are cases, each case in its turn.
 fn target(index: u64) -> Target {
     let (round, place) = (index / ROUND, index % ROUND);
-    let (seven, within) = (place / 7, place % 7);
-    let case = (round * CASES + seven) as usize;
+    let (eight, within) = (place / 8, place % 8);
+    let case = (round * CASES + eight) as usize;
     match within {
         5 => return Target::Points(case),
         6 => return Target::Flat(case),
+        7 => return Target::Names(case),
         _ => (),
     }
-    let place = (5 * seven + within) as usize;
+    let place = (5 * eight + within) as usize;
     match place {
         0..50 if place.is_multiple_of(3) => Target::Lawful,
         0..50 => Target::Rule(DAMAGES[place - place / 3 - 1].0),
@@ -68,8 +71,15 @@ pub fn image(seed: u64, index: u64, class: SizeClass) -> Vec<u8> {
             bytes
         }
         Target::Several => several(&mut random, class),
-        Target::Points(number) => with_case(&mut random, class, |image, random| point_case(image, random, number)),
-        Target::Flat(number) => with_case(&mut random, class, |image, random| flat_case(image, random, number)),
+        Target::Points(number) => {
+            with_case(&mut random, class, SizeClass::holds, |image, random| point_case(image, random, number))
+        }
+        Target::Flat(number) => {
+            with_case(&mut random, class, SizeClass::holds, |image, random| flat_case(image, random, number))
+        }
+        Target::Names(number) => with_case(&mut random, class, SizeClass::holds_family, |image, random| {
+            name_case(image, random, class, number)
+        }),
     }
 }
 
@@ -87,15 +97,16 @@ fn breaking(random: &mut Random, class: SizeClass, rule: u32) -> Vec<u8> {
     bytes
 }
 
-/// An image with a case that keeps within the bounds of the class; a lawful one where none was found.
+/// An image with a case that keeps within these bounds of the class; a lawful one where none was found.
 fn with_case(
     random: &mut Random,
     class: SizeClass,
+    holds: fn(SizeClass, &Image) -> bool,
     case: impl Fn(&mut Image, &mut Random) -> Option<Answer>,
 ) -> Vec<u8> {
     for _ in 0..TRIES {
         let mut image = lawful(random, class);
-        if case(&mut image, random).is_some() && class.holds(&image) {
+        if case(&mut image, random).is_some() && holds(class, &image) {
             return image.to_bytes();
         }
     }

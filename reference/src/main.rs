@@ -16,6 +16,7 @@ use reference::samples::samples;
 const USAGE: &str = "\
 reference validate FILE
 reference table FILE
+reference name-bytes FILE
 reference path FILE NODE
 reference sizes FILE NODE
 reference entries FILE ZONE
@@ -74,6 +75,7 @@ fn answer(call: &str, file: &str, numbers: &[u64]) -> Result<String, String> {
     Ok(match (call, numbers) {
         ("validate", []) => validate_line(&image()?),
         ("table", []) => table_line(&image()?),
+        ("name-bytes", []) => name_bytes_line(&image()?),
         ("path", [node]) => path_line(&image()?, *node),
         ("sizes", [node]) => sizes_line(&image()?, *node),
         ("entries", [zone]) => entries_line(&image()?, *zone),

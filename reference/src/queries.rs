@@ -49,10 +49,11 @@ impl Asker<'_> {
         self.lines.push(format!("{query} = {answer}"));
     }
 
-    /// The two verdicts.
+    /// The two verdicts, and the name bytes.
     fn verdicts(&mut self) {
         self.note("validate".into(), validate_line(self.image));
         self.note("table".into(), table_line(self.image));
+        self.note("name-bytes".into(), name_bytes_line(self.image));
     }
 
     /// The node numbers to be asked for: all of them, or 40 and some arrays beside points where there are many, and some

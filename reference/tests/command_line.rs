@@ -20,11 +20,13 @@ fn folder(name: &str) -> PathBuf {
 #[test]
 fn calls() {
     let place = folder("cases");
-    assert_eq!(run(&["cases", place.to_str().unwrap()]), "cases 44\n");
+    assert_eq!(run(&["cases", place.to_str().unwrap()]), "cases 61\n");
     let file = |name: &str| place.join(format!("{name}.img")).to_str().unwrap().to_string();
     let (a, l) = (file("a"), file("l"));
     assert_eq!(run(&["validate", &a]), "accept 17 0 1 2\n");
     assert_eq!(run(&["table", &file("i")]), "accept 17\n");
+    assert_eq!(run(&["name-bytes", &file("i")]), "bytes 88\n");
+    assert_eq!(run(&["name-bytes", &file("c")]), "refuse 4 0\n");
     assert_eq!(run(&["path", &a, "10"]), "/Base/Zone1/Faces/ElementRange\n");
     assert_eq!(run(&["sizes", &file("m"), "7"]), "sizes 3 17 33 11\n");
     assert_eq!(run(&["sizes", &file("p1_wall"), "7"]), "sizes 1 12\n");
@@ -44,7 +46,8 @@ fn calls() {
     let element = ["element-into", &a, "9", "22", "1", "4", "1736", "4", "1756", "4", "12", "4", "4"];
     assert_eq!(run(&element), "corners 3 room 3 1 4 170\n");
     assert!(run(&["answers", place.to_str().unwrap()]).starts_with("a.img accept 17 0 1 2\nb.img refuse 1 0\n"));
-    assert!(run(&["queries", "1", &a]).starts_with("validate = accept 17 0 1 2\ntable = accept 17\npath 0 = /\n"));
+    let first = "validate = accept 17 0 1 2\ntable = accept 17\nname-bytes = bytes 88\npath 0 = /\n";
+    assert!(run(&["queries", "1", &a]).starts_with(first));
     assert_eq!(run(&["corner", &a]), "");
 }
 

@@ -4,7 +4,7 @@
 use std::collections::BTreeMap;
 
 use reference::build::Image;
-use reference::damage::{flat_case, point_case, Answer, DAMAGES, FLAT_CASES, POINT_CASES};
+use reference::damage::{flat_case, name_case, point_case, Answer, DAMAGES, FLAT_CASES, NAME_CASES, POINT_CASES};
 use reference::generate::{image, Summary};
 use reference::lawful::{lawful, SizeClass};
 use reference::points::point_count;
@@ -73,8 +73,38 @@ fn cases_of_flat_elements_are_answered_as_they_say() {
 }
 
 #[test]
+fn cases_of_names_are_answered_as_they_say() {
+    check_cases(&NAME_CASES.map(|case| case.0), 2, |image, random, number| {
+        name_case(image, random, SizeClass::Small, number)
+    });
+}
+
+#[test]
+fn cases_of_names_are_made_in_every_class() {
+    for (class, longest) in [(SizeClass::Small, 30), (SizeClass::Medium, 300), (SizeClass::Large, 3_000)] {
+        let mut siblings = 0;
+        for number in 0..3 * NAME_CASES.len() {
+            let name = NAME_CASES[number % NAME_CASES.len()].0;
+            let mut random = Random::new(31, number as u64);
+            let made = (0..60).find_map(|_| {
+                let mut image = lawful(&mut random, class);
+                let answer = name_case(&mut image, &mut random, class, number)?;
+                class.holds_family(&image).then_some((image, answer))
+            });
+            let (image, answer) = made.expect(name);
+            let verdict = validate(&image.to_bytes());
+            assert!(answer.is(&verdict), "{class:?}, {name}: {answer:?} {verdict:?}");
+            let mut of_parents: BTreeMap<u32, usize> = BTreeMap::new();
+            image.nodes.iter().for_each(|node| *of_parents.entry(node.parent).or_default() += 1);
+            siblings = siblings.max(of_parents.into_values().max().unwrap_or(0));
+        }
+        assert!(siblings > longest, "{class:?} {siblings}");
+    }
+}
+
+#[test]
 fn sizes_of_arrays_beside_points_are_asked_for() {
-    for (class, count) in [(SizeClass::Small, 1_000), (SizeClass::Medium, 77)] {
+    for (class, count) in [(SizeClass::Small, 1_000), (SizeClass::Medium, 88)] {
         let (mut answered, mut structured) = (0, 0);
         for index in 0..count {
             let image = image(6, index, class);

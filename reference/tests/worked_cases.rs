@@ -1,5 +1,5 @@
-//! The worked cases (a) to (m) of document 01, with their face usage and sizes, and those of points and of flat faces
-//! and cells (document 02, §1 and §2).
+//! The worked cases (a) to (m) of document 01, with their face usage and sizes, and those of points, of flat faces and
+//! cells and of name bytes (document 02, §1 to §3).
 
 use reference::answers::validate_line;
 use reference::bytes::u32_at;
@@ -8,7 +8,7 @@ use reference::cases::{case, cases, RIND_ARRAY};
 use reference::{check_table, data_size, face_usage, validate, Counts, Rejection};
 
 /// The cases with their verdicts.
-const VERDICTS: [(&str, &str); 44] = [
+const VERDICTS: [(&str, &str); 61] = [
     ("a", "accept 17 0 1 2"),
     ("b", "refuse 1 0"),
     ("c", "refuse 4 0"),
@@ -53,6 +53,23 @@ const VERDICTS: [(&str, &str); 44] = [
     ("f2_bars", "accept 21 0 1 3"),
     ("f2_cells_first", "refuse 33 13"),
     ("f2_cells_first_bad", "refuse 35 9"),
+    ("n3_root", "refuse 23 0"),
+    ("n3_chain", "accept 3 2 0 0"),
+    ("n3_first_byte", "accept 4 0 0 0"),
+    ("n3_last_byte", "accept 4 0 0 0"),
+    ("n3_padding", "accept 4 0 0 0"),
+    ("n3_blanks", "accept 5 0 0 0"),
+    ("n3_ladder", "accept 2 33 0 0"),
+    ("n3_prefixes", "accept 2 32 0 0"),
+    ("n3_skipped", "accept 3 6 0 0"),
+    ("n3_mixed", "accept 3 2 0 0"),
+    ("n3_cousins", "accept 9 0 0 0"),
+    ("n3_zones", "accept 26 0 12 0"),
+    ("n3_no_types", "refuse 23 2"),
+    ("n3_twin", "refuse 11 4"),
+    ("n3_twins", "refuse 11 5"),
+    ("n3_far_twin", "refuse 11 21"),
+    ("n3_skipped_twin", "refuse 11 9"),
 ];
 
 #[test]

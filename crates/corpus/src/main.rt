@@ -217,6 +217,9 @@ fn one_call(image: &[u8]) -> bool {
         let section = entry(&call);
         element_into(image, section, word(&call, 10), word(&call, 11));
     }
+    if kind == 12 {
+        print::count(table::name_bytes(image), b"bytes ");
+    }
     io::write_all(1, b"\n");
     true
 }

@@ -6,6 +6,7 @@ ghost use lib.ListN.{length};
 ghost use Rattle.model.specs.Validation.{validation};
 ghost use Rattle.model.specs.Sections.{sectionsAnswer, sectionNumbersMemory};
 ghost use Rattle.model.specs.FaceUsage.{usageAnswer, usageMemory};
+ghost use Rattle.model.specs.NameBytes.{nameBytesAnswer};
 ghost use Rattle.model.specs.Path.{pathAnswer, pathMemory};
 ghost use Rattle.model.specs.ArrayValue.{valueAnswer};
 ghost use Rattle.model.specs.DataSize.{dataSizeAnswer};
@@ -28,6 +29,8 @@ const SECTIONS_WORDS: usize = 2;
 const USAGE_WORDS: usize = 3;
 
 const PATH_WORDS: usize = 2;
+
+const NAMES_WORDS: usize = 2;
 
 const VALUE_WORDS: usize = 3;
 
@@ -165,6 +168,18 @@ pub extern "C" fn gongaurora_export_path(
         count_answer(paths::path(image, node, out)),
         PATH_WORDS,
     )
+}
+
+// The name bytes compared where each two siblings are, up to the first byte that differs. The answer, two words: node, count of bytes.
+#[no_mangle]
+pub extern "C" fn gongaurora_export_name_bytes(image: &[u8], answer: &mut [u8]) -> u64
+    ensures { λ r. ⌜ r ≡ exportRule 2 (now (answer .entry)) (nameBytesAnswer (now (image .entry))) ⌝ }
+    ensures { λ _. ⌜ now (answer .exit) ≡ exportBytes (now (answer .entry)) (countWords (nameBytesAnswer (now (image .entry)))) ⌝ }
+{
+    if answer.len() < 8 * NAMES_WORDS {
+        return 46; // no name is compared
+    }
+    put_answer(answer, count_answer(table::name_bytes(image)), NAMES_WORDS)
 }
 
 // Value k of a node's array, counted from 1. The answer, three words: node, kind (1 whole, 2 single, 3 double), bits (a whole number's at 64 bits).

@@ -7,12 +7,13 @@ use lib.ListN.{length, replicate}
 use Rattle.model.specs.Bytes.{allBytes, text, numbers}
 use Rattle.model.specs.Rules.{Answer, rejected, answer, rejection, repetition}
 use Rattle.model.specs.Validation.{Counts, validation}
+use Rattle.model.specs.NameBytes.{nameBytesAnswer}
 use Rattle.model.specs.DataSize.{Sizes, dataSizeAnswer}
 use Rattle.model.specs.FaceUsage.{usageAnswer, usageMemory}
 use Rattle.model.specs.Build.{minus, Plan, plan, image}
 use Rattle.model.specs.Computed.{computed}
 
-infix 10 _refuses_at_ _accepts_ _starts_ _sizes_is_ _uses_leaving_ _repeats_
+infix 10 _refuses_at_ _accepts_ _starts_ _sizes_is_ _uses_leaving_ _repeats_ _compares_
 -- the root that real files have
 abbrev rootPlan : Plan
 rootPlan = plan "HDF5 MotherNode" "Root Node of HDF5 File" "MT" [] 4294967295 []
@@ -127,6 +128,14 @@ ofTwoNodes type other own =
     ∷ integers "ElementConnectivity" "DataArray_t" (1 ∷ 2 ∷ []) 5
     ∷ [])
 
+-- §3: a root and nodes of these names and parents, their label unknown
+abbrev named : List (String × ℕ) → List ℕ
+named names = image (rootPlan ∷ plans names)
+  where
+    plans : List (String × ℕ) → List Plan
+    plans [] = []
+    plans ((name, up) ∷ rest) = plan name "Any" "MT" [] up [] ∷ plans rest
+
 -- what a case says of an image
 pub data Case : Type 0 where
   -- the header's words
@@ -141,6 +150,8 @@ pub data Case : Type 0 where
   _repeats_ : List ℕ → Answer ℕ → Case
   -- the DataSize of a node
   _sizes_is_ : List ℕ → ℕ → Sizes → Case
+  -- the name bytes compared
+  _compares_ : List ℕ → Answer ℕ → Case
 
 abbrev lent : List ℕ
 lent = replicate 6 9
@@ -153,6 +164,7 @@ Right ((b refuses r at n) ∷ cs) = (validation b ≡ rejected (rejection r n)) 
 Right ((b uses f leaving bytes) ∷ cs) = ((usageAnswer b 3 6 ≡ answer f) × (usageMemory b 3 lent ≡ bytes)) × Right cs
 Right ((b repeats a) ∷ cs) = ((usageAnswer b 3 6 ≡ a) × (usageMemory b 3 lent ≡ (0 ∷ 0 ∷ 0 ∷ 0 ∷ 9 ∷ 9 ∷ []))) × Right cs
 Right ((b sizes i is s) ∷ cs) = (dataSizeAnswer b i ≡ answer s) × Right cs
+Right ((b compares a) ∷ cs) = (nameBytesAnswer b ≡ a) × Right cs
 
 abbrev tetraCounts : Counts
 tetraCounts = record { validated = 17; skipped = 0; zones = 1; sections = 2 }
@@ -252,6 +264,20 @@ cases =
     ∷ (ofTwoNodes 22 (3 ∷ 3 ∷ []) (2 ∷ 3 ∷ []) accepts record { validated = 9; skipped = 0; zones = 1; sections = 1 })
     ∷ (ofTwoNodes 22 (2 ∷ 3 ∷ []) (3 ∷ 3 ∷ []) refuses 33 at 5)
     ∷ (ofTwoNodes 3 (3 ∷ 3 ∷ []) (3 ∷ 3 ∷ []) accepts record { validated = 9; skipped = 0; zones = 1; sections = 1 })
+    -- §3 a root alone; the tetrahedron: 1 below the root, 6 in the zone, 33 in the coordinates, 24 in each section
+    ∷ (image (rootPlan ∷ []) compares answer 0)
+    ∷ (tetra compares answer 88)
+    -- names that differ in the first byte; in the second, where the padding begins; in the last one
+    ∷ (named (("A", 0) ∷ ("B", 0) ∷ []) compares answer 1)
+    ∷ (named (("A", 0) ∷ ("AB", 0) ∷ []) compares answer 2)
+    ∷ (named (("AbcdefghijklmnopqrstuvwxyzabcdeX", 0) ∷ ("Abcdefghijklmnopqrstuvwxyzabcdef", 0) ∷ []) compares answer 32)
+    -- each pair once: 2, 3 and 2 bytes
+    ∷ (named (("Ab", 0) ∷ ("Ac", 0) ∷ ("Abd", 0) ∷ []) compares answer 7)
+    -- one name under two parents: no siblings
+    ∷ (named (("A", 0) ∷ ("B", 0) ∷ ("X", 1) ∷ ("X", 2) ∷ []) compares answer 1)
+    -- the name of an earlier sibling; an image that breaks rule 20 alone
+    ∷ (named (("Ab", 0) ∷ ("Ac", 0) ∷ ("Ab", 0) ∷ []) compares rejected (rejection 11 3))
+    ∷ (inMesh (pointList 1 5 2 ∷ []) compares answer 3)
     ∷ []
 
 infixr 5 _also_
@@ -266,4 +292,5 @@ all-right =
     also refl also refl also refl also refl also refl also refl also refl also refl also refl also refl
     also refl also refl also refl also refl also refl also refl also refl also refl also refl
     also refl also refl also refl also refl also refl also refl also refl also refl also refl
-    also refl also refl also refl also refl also refl also refl also refl also refl also tt
+    also refl also refl also refl also refl also refl also refl also refl also refl
+    also refl also refl also refl also refl also refl also refl also refl also refl also refl also tt

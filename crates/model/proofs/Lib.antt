@@ -30,6 +30,7 @@ pub mod Demand3
 pub mod Demand3Calls
 pub mod Staging
 pub mod Parents
+pub mod NameBytes
 pub mod SameNodes
 pub mod Known
 pub mod Joins

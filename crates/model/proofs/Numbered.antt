@@ -15,6 +15,7 @@ use Rattle.model.specs.Containment.{role, Elements, validated}
 use Rattle.model.specs.Values.{sidsRules}
 use Rattle.model.specs.Elements.{elementRules}
 use Rattle.model.specs.Validation.{nodeRules, nodeCheckAt, nodeCheck, imageCheck, validation}
+use Rattle.model.specs.NameBytes.{nameBytesAnswer}
 use Rattle.model.specs.Path.{pathCheck, pathAnswer}
 use Rattle.model.specs.DataSize.{dataSizeAnswer}
 use Rattle.model.specs.Sections.{sectionsCheck, sectionsAnswer}
@@ -99,8 +100,8 @@ of-nodes t z zero s bytes = tt
 of-nodes t z (suc n) s bytes = of-into (useEntries t s (usesIn t z s) 0 bytes) _ (of-entries t s (usesIn t z s) 0 bytes) (λ later. of-nodes t z n (suc s) later)
 
 pub all-numbered : (b : List ℕ) → AllNumbered b
-unfolding validation sectionsAnswer sectionsCheck cornerAnswer cornerCheck elementCornersAnswer elementCornersCheck usageAnswer usageCheck usage pathAnswer
-    pathCheck dataSizeAnswer valueAnswer valueCheck fromOne
+unfolding validation sectionsAnswer sectionsCheck cornerAnswer cornerCheck elementCornersAnswer elementCornersCheck usageAnswer usageCheck usage
+    nameBytesAnswer pathAnswer pathCheck dataSizeAnswer valueAnswer valueCheck fromOne
 all-numbered b =
     record {
       of-validation = of-gives (imageCheck b) _ (of-image b);
@@ -110,6 +111,7 @@ all-numbered b =
       of-usage = λ z room.
           of-into _ _ (of-then _ _ (of-then (imageCheck b) _ (of-image b) (of-check 0 _ refl)) (of-nodes (treeOf b) z _ 0 _))
           (λ bytes. tt);
+      of-name-bytes = of-gives (tableCheck b) _ (of-table b);
       of-path = λ i room. of-gives _ _ (of-then (tableCheck b) _ (of-table b) (of-check 0 _ refl));
       of-sizes = λ i. of-gives _ _ (of-then (imageCheck b) _ (of-image b) (of-check 0 _ refl));
       of-value = λ i k. of-gives _ _ (of-then (tableCheck b) _ (of-table b) (of-check 0 _ refl));

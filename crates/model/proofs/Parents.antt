@@ -1,13 +1,13 @@
 -- What rule 7 says of a node's parent, and of the nodes before it.
-use Prim.Native.Nat.{ℕ, zero, suc, _≤_, _<_}
+use Prim.Native.Nat.{ℕ, _≤_, _<_}
 use mathlib.Core.Path.{_≡_, subst}
-use mathlib.Core.Bool.{true, false}
+use mathlib.Core.Bool.{true}
 use mathlib.Core.List.{List}
 use native.Mathlib.Omega.{arith}
 use native.Mathlib.Decide.{ℕ-discrete}
 use borrow.Author.Tests.{eqb-true, ltb-true, ne-eqb}
 use Rattle.model.specs.Image.{Tree, treeOf, nodeCount, parent}
-use Rattle.model.specs.Records.{parentLawful, noParent, sibling, namesake, recordCheckAt, recordRules}
+use Rattle.model.specs.Records.{parentLawful, noParent, recordCheckAt, recordRules}
 use Rattle.model.specs.Rules.{passed}
 use Rattle.model.specs.Given.{Sound}
 use Rattle.model.proofs.Passed.{check-pass}
@@ -22,19 +22,6 @@ module _ (t : Tree) where
   pub parent-none : parentLawful t 0 ≡ true → parent t 0 ≡ noParent
   unfolding parentLawful
   parent-none e = eqb-true (parent t 0) noParent e
-
-  -- a node up to the parent of i is no sibling of i
-  pub no-sibling : (i j : ℕ) → parentLawful t j ≡ true → j ≤ parent t i → parent t i < noParent → sibling t i j ≡ false
-  unfolding sibling
-  no-sibling i zero e l h =
-      let q = parent-none e in ne-eqb (parent t 0) (parent t i) (λ (z : parent t 0 ≡ parent t i). absurd (omega arith))
-  no-sibling i (suc j) e l h =
-      let q : parent t (suc j) < suc j = parent-lower (suc j) e (λ (z : suc j ≡ 0). absurd (omega arith)) in
-      ne-eqb (parent t (suc j)) (parent t i) (λ (z : parent t (suc j) ≡ parent t i). absurd (omega arith))
-
-  pub no-namesake : (i j : ℕ) → parentLawful t j ≡ true → j ≤ parent t i → parent t i < noParent → namesake t i j ≡ false
-  unfolding namesake
-  no-namesake i j e l h = rw (no-sibling i j e l h)
 
   -- where the check has come to node i and rule 7 holds at it, rule 7 holds at each node up to it
   pub lawful-to : (i : ℕ) → ((j : ℕ) → j < i → recordCheckAt t j ≡ passed) → parentLawful t i ≡ true → (j : ℕ) → j ≤ i → parentLawful t j ≡ true

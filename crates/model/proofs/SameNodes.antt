@@ -1,15 +1,16 @@
--- Two trees that have the same nodes: what is said of a node by its record, and rules 7 to 14 at it, is the same in both.
+-- Two trees that have the same nodes: what is said of a node by its record, and rules 7 to 14 at it, is the same in both; so are sums over siblings.
 use Prim.Native.Nat.{ℕ, zero, suc, _+_, _≤_, _<_}
 use mathlib.Core.Path.{_≡_, refl, ap, _∙_}
 use mathlib.Core.Bool.{Bool, true, false, not, _&&_}
 use native.Mathlib.Omega.{arith}
 use lib.Dec.{eqb}
 use borrow.Author.Tests.{eqb-false}
-use Rattle.model.specs.Lists.{someFrom}
+use Rattle.model.specs.Lists.{someFrom, sumBefore}
 use Rattle.model.specs.Image.{Node, Tree, node, name, label, parent, dataType, width}
 use Rattle.model.specs.Records.{parentLawful, deeperThan, sibling, namesake, nameTaken, link, rankLawful}
+use Rattle.model.specs.NameBytes.{pairBytes, bytesWithEarlier}
 use Rattle.model.proofs.Parents.{parent-lower}
-use Rattle.model.proofs.Walks.{some-same}
+use Rattle.model.proofs.Walks.{some-same, sum-same}
 
 -- one node
 module _ (t u : Tree) (i : ℕ) (e : node t i ≡ node u i) where
@@ -50,6 +51,13 @@ module _ (t u : Tree) (n : ℕ) (e : (j : ℕ) → j < n → node t j ≡ node u
   pub same-taken : (i : ℕ) → i < n → nameTaken t i ≡ nameTaken u i
   unfolding nameTaken namesake sibling
   same-taken i h = some-same (namesake t i) (namesake u i) i 0 λ j l m.
+      let f = e j (omega arith) in
+      rw (same-parent t u j f, same-name t u j f, same-parent t u i (e i h), same-name t u i (e i h))
+
+  pub same-bytes : sumBefore (bytesWithEarlier t) n ≡ sumBefore (bytesWithEarlier u) n
+  unfolding bytesWithEarlier pairBytes sibling
+  same-bytes = sum-same (bytesWithEarlier t) (bytesWithEarlier u) n λ i h.
+      sum-same (pairBytes t i) (pairBytes u i) i λ j l.
       let f = e j (omega arith) in
       rw (same-parent t u j f, same-name t u j f, same-parent t u i (e i h), same-name t u i (e i h))
 

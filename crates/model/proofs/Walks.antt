@@ -67,6 +67,11 @@ unfolding someFrom
 some-same p q zero i e = refl
 some-same p q (suc k) i e = rw (e i (omega arith) (omega arith), some-same p q k (suc i) (λ j l h. e j (omega arith) (omega arith)))
 
+pub sum-same : (f g : ℕ → ℕ) (n : ℕ) → ((j : ℕ) → j < n → f j ≡ g j) → sumBefore f n ≡ sumBefore g n
+unfolding sumBefore
+sum-same f g zero e = refl
+sum-same f g (suc n) e = rw (sum-same f g n (λ j h. e j (omega arith)), e n (omega arith))
+
 -- what holds of every number holds of each
 pub every-at : (p : ℕ → Bool) (k i j : ℕ) → everyFrom p k i ≡ true → i ≤ j → j < i + k → p j ≡ true
 unfolding everyFrom

@@ -13,6 +13,7 @@ use Rattle.model.specs.Lists.{over}
 use Rattle.model.specs.Bytes.{leBytes, allBytes, numbers}
 use Rattle.model.specs.Rules.{_unless_, Answer, rejected, answer, Check, check, _then_, leaves}
 use Rattle.model.specs.Validation.{Counts, validation}
+use Rattle.model.specs.NameBytes.{nameBytesAnswer}
 use Rattle.model.specs.Path.{pathAnswer}
 use Rattle.model.specs.DataSize.{Sizes, dataSizeAnswer}
 use Rattle.model.specs.Sections.{entryLength, sectionsAnswer}
@@ -76,6 +77,7 @@ pub record AllNumbered (b : List ℕ) : Type 0 where
   pub of-corner : (e : Section) (element corner : ℕ) → Numbered (cornerAnswer b e element corner)
   pub of-element : (e : Section) (element room : ℕ) → Numbered (elementCornersAnswer b e element room)
   pub of-usage : (z room : ℕ) → Numbered (usageAnswer b z room)
+  pub of-name-bytes : Numbered (nameBytesAnswer b)
   pub of-path : (i room : ℕ) → Numbered (pathAnswer b i room)
   pub of-sizes : (i : ℕ) → Numbered (dataSizeAnswer b i)
   pub of-value : (i k : ℕ) → Numbered (valueAnswer b i k)

@@ -9,6 +9,7 @@ pub mod Containment
 pub mod Values
 pub mod Elements
 pub mod Validation
+pub mod NameBytes
 pub mod Path
 pub mod DataSize
 pub mod Sections

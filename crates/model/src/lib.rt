@@ -73,7 +73,7 @@ pub enum Validation {
     Rejected(Rejection),
 }
 
-// A path's length in bytes, or how many section entries were written.
+// A count: a path's length in bytes, the section entries written, the corners of an element, the name bytes compared.
 pub enum Count {
     Of(u64),
     Rejected(Rejection),

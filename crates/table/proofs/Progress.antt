@@ -6,7 +6,7 @@ use mathlib.Core.List.{List, [], _++_}
 use native.Mathlib.Omega.{arith}
 use lib.Dec.{eqb, leb}
 use borrow.Author.Count.{below-more}
-use borrow.Author.Tests.{leb-true}
+use borrow.Author.Tests.{leb-true, not-true}
 use lib.ListN.{length}
 use Rattle.records.specs.declared.Header.{Header}
 use Rattle.records.specs.declared.RecordNumbers.{RecordNumbers}
@@ -18,7 +18,7 @@ use Rattle.model.specs.Lists.{sumBefore}
 use Rattle.model.specs.Rules.{Check, passed, rejected, rejection, check, checkFrom, _then_}
 use Rattle.model.specs.Image.{Tree, node, parent, dimensions, dataType, width}
 use Rattle.model.specs.Header.{headerCheck, headerRules, lengthLawful, nodeCountLawful, laidOut}
-use Rattle.model.specs.Records.{parentLawful, wordsBefore, wordsLawful, bytesBefore, dataAtLawful, dataSizeLawful}
+use Rattle.model.specs.Records.{parentLawful, nameTaken, wordsBefore, wordsLawful, bytesBefore, dataAtLawful, dataSizeLawful}
 use Rattle.model.specs.Records.{recordRules, recordCheckAt, recordCheck, nothingTrails, trailingCheck}
 use Rattle.model.proofs.Logic.{and-second}
 use Rattle.model.proofs.Walks.{sumBefore-step}
@@ -72,6 +72,14 @@ module _ {s : List ℕ} {size : TableSize} {i : ℕ} (r : TableTo s size i) wher
       (check-append i (placeRules t i) (textRules t i ++ typeRules t i ++ sizeRules t i) ∙ ap (λ (c : Check). check i (placeRules t i) then c)
       (check-append i (textRules t i) (typeRules t i ++ sizeRules t i) ∙ ap (λ (c : Check). check i (textRules t i) then c)
       (check-append i (typeRules t i) (sizeRules t i))))
+
+  -- rule 11 holds before node i
+  pub free-before : (j : ℕ) → j < i → nameTaken (allRecords s) j ≡ false
+  unfolding recordCheckAt recordRules
+  free-before j h =
+      let l = r .inside in
+      same-taken _ _ (size .nodes) same j (omega arith)
+      ∙ not-true (nameTaken (tableTree s size) j) (check-pass j (recordRules (tableTree s size) j) (r .before j h) .1 .1 .1 .1 .0)
 
 -- rules 15 to 17 by the running sums; rule 16 asks the records and the words after them
 module _ {s : List ℕ} {size : TableSize} {i w x : ℕ} (z : Sums s size i w x) {r : RecordNumbers} (f : r ≡ numbersOf (tableTree s size) i) where

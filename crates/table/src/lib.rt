@@ -4,14 +4,18 @@ ghost use Prim.Native.Nat.{_≤_};
 ghost use lib.ListN.{length};
 ghost use Rattle.model.specs.Rules.{rejected, rejection};
 ghost use Rattle.model.specs.Records.{tableCheck, tableAnswer};
-ghost use Rattle.model.specs.Answers.{stageTells, tableTells};
+ghost use Rattle.model.specs.NameBytes.{nameBytesAnswer};
+ghost use Rattle.model.specs.Answers.{stageTells, tableTells, countTells};
 ghost use Rattle.table.specs.Groups.{isWithin};
 
 mod header; // header.rt: rules 1 to 6
+mod names; // names.rt: the name bytes that the comparison of siblings takes
+mod siblings; // siblings.rt: rule 11, from node to node
 mod sizes; // sizes.rt: rules 14 to 17
 mod stages; // stages.rt: rules 7 to 18, node by node
 mod tree; // tree.rt: rules 7 and 8
 
+use model::Count;
 use model::Rejection;
 use model::Stage;
 use model::Table;
@@ -36,7 +40,7 @@ fn is_within(x: u64, low: u64, high: u64) -> bool
     x <= high
 }
 
-// Rules 1 to 18 as one stage, in a lent filter for the keys of rule 11. The answer does not depend on what it holds; zeros are fastest.
+// Rules 1 to 18 as one stage, in a lent table for rule 11. The answer does not depend on what it holds; zeros are fastest.
 pub fn table_stage_with(image: &[u8], seen: &mut [u16]) -> Stage
     requires { ⌜ 16384 ≤ length (now seen) ⌝ }
     ensures { λ r. ⌜ stageTells r ≡ tableCheck (now (image .entry)) ⌝ }
@@ -70,4 +74,18 @@ pub fn check_table(image: &[u8]) -> Table
         dimensions: h.word_count,
         bytes: h.data_length,
     }
+}
+
+// Rules 1 to 18: the first that is broken, or how many name bytes are compared where each two siblings are, up to the first byte
+// that differs.
+pub fn name_bytes(image: &[u8]) -> Count
+    ensures { λ r. ⌜ countTells r ≡ nameBytesAnswer (now (image .entry)) ⌝ }
+{
+    let mut lent: [u16; 16384] = [0; 16384];
+    let s = table_stage_with(image, &mut lent);
+    let Stage::Pass = s else {
+        return Count::Rejected(s.rejection());
+    };
+    let size = TableSize::read(image);
+    Count::Of(names::all_name_bytes(records::node_table(image), size.nodes, &mut lent))
 }

@@ -6,17 +6,20 @@ use mathlib.Core.List.{List, [], _∷_}
 use native.Mathlib.Omega.{arith}
 use native.Mathlib.Nat.{add-zero}
 use native.Mathlib.Numerals.{add-one}
-use lib.Dec.{eqb, leb}
+use native.Mathlib.Decide.{ℕ-discrete}
+use lib.Dec.{eqb, leb, ltb}
 use lib.ListN.{length, getD, take, drop, length-drop, drop-of-length-le}
 use lib.Seq.{drop-drop, drop-cons, length-take-le, getD-take, getD-drop}
-use borrow.Author.Tests.{eq-eqb, ne-eqb, leb-true}
+use borrow.Author.Tests.{eq-eqb, ne-eqb, leb-true, le-ltb}
 use Rattle.model.specs.Lists.{among}
-use Rattle.model.specs.Bytes.{le}
+use Rattle.model.specs.Bytes.{le, same}
 use Rattle.model.specs.Records.{printable, labelLawful}
+use Rattle.model.specs.NameBytes.{firstDifference}
 use Rattle.model.proofs.Reading.{le-take}
 use Rattle.model.proofs.Logic.{and-first, and-second, and-true, and-false}
+use Rattle.model.proofs.NameBytes.{place-small, same-place}
 use Rattle.model.specs.Image.{Node, nodeOf, name, label}
-use Rattle.records.specs.Table.{allRecords}
+use Rattle.records.specs.Table.{allRecords, HasRecord}
 use Rattle.records.proofs.Tables.{field}
 use Rattle.texts.specs.Texts.{textAt, textByte, badByte, textBytes}
 
@@ -112,3 +115,24 @@ module _ (s : List ℕ) (i : ℕ) (h : i < 4096) where
   pub label-in : textAt s (84 * i + 32) ≡ label (allRecords s) i
   unfolding label nodeOf
   label-in = sym (field s 4096 i h (λ (x : Node). x .label) (take 32) 32 (λ r. refl))
+
+-- a name in the table has 32 bytes
+pub name-size : (s : List ℕ) (i : ℕ) → HasRecord s i → length (name (allRecords s) i) ≡ 32
+name-size s i h = rw (← name-in s i (h .0)) (text-length s (84 * i + 0) (omega arith))
+
+-- no byte of two names differs where the place lies past the last
+past-last : (n : ℕ) → n ≤ 33 → ltb 32 n ≡ eqb n 33
+past-last n h =
+    elim (ℕ-discrete n 33) [
+      | yes e ↦ rw e
+      | no z ↦ le-ltb 32 n (omega (arith, z)) ∙ sym (ne-eqb n 33 z)
+    ]
+
+-- the names of two nodes are the same where no byte differs
+pub same-names : (s : List ℕ) (i j : ℕ) → HasRecord s i → HasRecord s j
+    → same (name (allRecords s) j) (name (allRecords s) i) ≡ eqb (firstDifference (name (allRecords s) j) (name (allRecords s) i)) 33
+same-names s i j h l =
+    let n = name-size s j l in
+    let d = place-small (name (allRecords s) j) (name (allRecords s) i) in
+    same-place (name (allRecords s) j) (name (allRecords s) i) (n ∙ sym (name-size s i h))
+    ∙ rw n (past-last (firstDifference (name (allRecords s) j) (name (allRecords s) i)) (omega (arith, n)))

@@ -1,18 +1,24 @@
-// Keys of names, and a filter of the keys met so far: it tells at once of most names that no earlier sibling has them.
+// Keys of names: the marks of those met so far, which tell at once of most names that no earlier sibling has them; and nodes linked by them.
 ghost use mathlib.Core.Path.{_≡_};
-ghost use Prim.Native.Nat.{_+_, _≤_, _<_};
+ghost use Prim.Native.Nat.{_+_, _%_, _≤_, _<_};
 ghost use lib.ListN.{length};
 ghost use Rattle.records.specs.Table.{allRecords, HasRecord};
 ghost use Rattle.texts.specs.Texts.{textAt};
-ghost use Rattle.texts.specs.Keys.{textSum, keyAt, marked, mayBeMarked, withKey};
+ghost use Rattle.texts.specs.Keys.{textSum, keyAt, marked, mayBeMarked, withKey, withNode};
+use super::links;
 use records::Record;
 use records::nodes;
 
 // Keys are below this prime. It and the factors of the words spread names that share most of their bytes; no answer depends on them.
 const KEYS: u64 = 4100011;
 
-// So many keys share a place of the filter.
-const SHARE: usize = 256;
+// Nodes of so many classes are linked: by the remainders of their keys.
+const CLASSES: usize = 4096;
+
+// Where the marks stand in the lent table, and how many keys share one.
+const MARKS: usize = 8192;
+
+const SHARE: usize = 512;
 
 // What a place holds where marks that differ were made.
 const MANY: u16 = 65535;
@@ -52,12 +58,12 @@ fn joined(x: u16, mark: u16) -> u16
     MANY
 }
 
-// Marks a key in the filter.
-pub fn add_key(seen: &mut [u16], key: usize)
+// Marks a key.
+fn add_key(seen: &mut [u16], key: usize)
     requires { ⌜ (16384 ≤ length (now seen)) × (key < 4194304) ⌝ }
     ensures { λ r. ⌜ now (seen .exit) ≡ withKey (now (seen .entry)) key ⌝ }
 {
-    let at = key / SHARE;
+    let at = MARKS + key / SHARE;
     seen[at] = joined(seen[at], (key % SHARE + 1) as u16);
 }
 
@@ -66,9 +72,25 @@ pub fn may_be_marked(seen: &[u16], key: usize) -> bool
     requires { ⌜ (16384 ≤ length (now seen)) × (key < 4194304) ⌝ }
     ensures { λ r. ⌜ r ≡ mayBeMarked (now (seen .entry)) key ⌝ }
 {
-    let x = seen[key / SHARE];
+    let x = seen[MARKS + key / SHARE];
     if x == MANY {
         return true;
     }
     x == (key % SHARE + 1) as u16
+}
+
+// The class of a node with this key.
+pub fn class_of(key: usize) -> usize
+    ensures { λ r. ⌜ (r ≡ key % 4096) × (r < 4096) ⌝ }
+{
+    key % CLASSES
+}
+
+// Marks the key of node i and links the node.
+pub fn add_node(seen: &mut [u16], i: usize, key: usize)
+    requires { ⌜ ((16384 ≤ length (now seen)) × (i < 4096)) × (key < 4194304) ⌝ }
+    ensures { λ _. ⌜ now (seen .exit) ≡ withNode (now (seen .entry)) i key ⌝ }
+{
+    add_key(seen, key);
+    links::add(seen, i, class_of(key));
 }

@@ -1,18 +1,20 @@
 // Names and labels of the node records: the tests of rules 9, 10 and 11.
 ghost use mathlib.Core.Path.{_≡_};
-ghost use mathlib.Core.Bool.{true, not, _&&_};
+ghost use mathlib.Core.Bool.{not, _&&_};
 ghost use Prim.Native.Nat.{_+_, _≤_, _<_};
 ghost use lib.ListN.{length};
 ghost use Rattle.model.specs.Lists.{among};
 ghost use Rattle.model.specs.Image.{name, label, parent};
-ghost use Rattle.model.specs.Records.{nameLawful, labelLawful, namesake, nameTaken, parentLawful};
-ghost use Rattle.records.specs.Table.{allRecords, HasRecord, LawfulBefore};
+ghost use Rattle.model.specs.Records.{nameLawful, labelLawful, namesake, nameTaken};
+ghost use Rattle.model.specs.NameBytes.{firstDifference};
+ghost use Rattle.records.specs.Table.{allRecords, HasRecord};
 ghost use Rattle.texts.specs.Texts.{textAt, textByte, badByte, textBytes};
 ghost use Rattle.texts.specs.Keys.{keyAt, Seen};
 
-mod keys; // keys.rt: keys of names, and a filter of those met so far
+mod keys; // keys.rt: keys of names, marks of those met, nodes linked by them
+pub mod links; // links.rt: numbers of one class linked
 
-pub use keys::add_key;
+pub use keys::add_node;
 pub use keys::name_key;
 use records::Record;
 use records::nodes;
@@ -20,6 +22,9 @@ use records::nodes;
 const BLANK: u8 = 32;
 
 const SLASH: u8 = 47;
+
+// The place past the last byte of a name.
+const NONE_DIFFERS: usize = 33;
 
 // Whether a byte may stand in a text that bars one byte.
 fn is_text_byte(x: u8, barred: u8) -> bool
@@ -82,16 +87,13 @@ pub fn label_lawful(table: &[u8], i: usize) -> bool
     is_text(table, Record::SIZE * i + Record::LABEL, 0)
 }
 
-// Whether node j has the parent `up` of node i, and its name.
-fn is_namesake(table: &[u8], i: usize, up: usize, j: usize) -> bool
+// The place, from 1, of the first byte in which the names of nodes j and i differ; 33 where none does.
+pub fn name_difference(table: &[u8], i: usize, j: usize) -> usize
     requires { ⌜ HasRecord (now table) i × HasRecord (now table) j ⌝ }
-    requires { ⌜ up ≡ parent (allRecords (now table)) i ⌝ }
-    ensures { λ r. ⌜ r ≡ namesake (allRecords (now (table .entry))) i j ⌝ }
+    ensures { λ r. ⌜ (r ≡ firstDifference (name (allRecords (now (table .entry))) j) (name (allRecords (now (table .entry))) i))
+        × ((1 ≤ r) × (r ≤ 33)) ⌝ }
 {
-    if nodes::parent_of(table, j) != up {
-        return false;
-    }
-    words::same_fields(
+    words::first_difference(
         table,
         Record::SIZE * j + Record::NAME,
         table,
@@ -99,26 +101,54 @@ fn is_namesake(table: &[u8], i: usize, up: usize, j: usize) -> bool
     )
 }
 
-// Rule 11: whether an earlier sibling of node i has its name. It would have the key too, so most nodes need no search. Siblings
-// stand after the parent, so the search starts there.
-pub fn name_taken(table: &[u8], i: usize, key: usize, seen: &[u16]) -> bool
-    requires { ⌜ HasRecord (now table) i × (LawfulBefore (now table) i × (parentLawful (allRecords (now table)) i ≡ true)) ⌝ }
+// Whether node j has the parent `up` of node i, and its name. Names of siblings alone are compared.
+pub fn is_namesake(table: &[u8], i: usize, up: usize, j: usize) -> bool
+    requires { ⌜ HasRecord (now table) i × HasRecord (now table) j ⌝ }
+    requires { ⌜ up ≡ parent (allRecords (now table)) i ⌝ }
+    ensures { λ r. ⌜ r ≡ namesake (allRecords (now (table .entry))) i j ⌝ }
+{
+    if nodes::parent_of(table, j) != up {
+        return false;
+    }
+    name_difference(table, i, j) == NONE_DIFFERS
+}
+
+// Rule 11, where the key of node i may have been marked: whether an earlier node of its class is a sibling with its name.
+fn is_linked_namesake(table: &[u8], i: usize, key: usize, seen: &[u16]) -> bool
+    requires { ⌜ HasRecord (now table) i ⌝ }
     requires { ⌜ (key ≡ keyAt (allRecords (now table)) i) × Seen (allRecords (now table)) i (now seen) ⌝ }
     ensures { λ r. ⌜ r ≡ nameTaken (allRecords (now (table .entry))) i ⌝ }
 {
-    if i == 0 {
-        return false;
+    let up = nodes::parent_of(table, i);
+    let mut j = seen[keys::class_of(key)] as usize;
+    while 0 < j {
+        if is_namesake(table, i, up, j - 1) {
+            return true;
+        }
+        j = seen[links::BEFORE + (j - 1)] as usize;
     }
+    false
+}
+
+// Rule 11: whether an earlier sibling of node i has its name. It would have the key too, so most nodes need no search.
+pub fn name_taken(table: &[u8], i: usize, key: usize, seen: &[u16]) -> bool
+    requires { ⌜ HasRecord (now table) i ⌝ }
+    requires { ⌜ (key ≡ keyAt (allRecords (now table)) i) × Seen (allRecords (now table)) i (now seen) ⌝ }
+    ensures { λ r. ⌜ r ≡ nameTaken (allRecords (now (table .entry))) i ⌝ }
+{
     if !keys::may_be_marked(seen, key) {
         return false;
     }
-    let up = nodes::parent_of(table, i);
-    let mut j = up + 1;
-    while j < i {
-        if is_namesake(table, i, up, j) {
-            return true;
-        }
-        j += 1;
+    is_linked_namesake(table, i, key, seen)
+}
+
+// How many nodes the search for an earlier sibling of a node with this key looks at, at most: none where the key was not marked.
+pub fn search_length(seen: &[u16], key: usize) -> usize
+    requires { ⌜ (16384 ≤ length (now seen)) × (key < 4194304) ⌝ }
+    ensures { λ r. ⌜ r ≤ 4096 ⌝ }
+{
+    if !keys::may_be_marked(seen, key) {
+        return 0;
     }
-    false
+    links::class_size(seen, keys::class_of(key))
 }

@@ -1,1 +1,2 @@
+pub mod Difference
 pub mod Width

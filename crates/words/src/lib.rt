@@ -5,7 +5,9 @@ ghost use lib.Dec.{T};
 ghost use lib.IntN.{natAbs};
 ghost use lib.ListN.{length, getD, take, drop};
 ghost use Rattle.model.specs.Lists.{overAt};
-ghost use Rattle.model.specs.Bytes.{le, leBytes, signed, same};
+ghost use Rattle.model.specs.Bytes.{le, leBytes, signed};
+ghost use Rattle.model.specs.NameBytes.{firstDifference};
+ghost use Rattle.words.specs.Difference.{gapOf, sameBytes};
 ghost use Rattle.words.specs.Width.{isWidth, twos};
 
 // One byte, widened: its bound comes with it.
@@ -52,19 +54,37 @@ pub fn u64_at(s: &[u8], at: usize) -> u64
     word_at(s, at, 8)
 }
 
-// Do two fields of 32 bytes hold the same bytes? It leaves off at the first word that differs.
-pub fn same_fields(a: &[u8], p: usize, b: &[u8], q: usize) -> bool
+// The difference of two numbers, whichever is the greater.
+fn gap(x: u64, y: u64) -> u64
+    ensures { λ r. ⌜ r ≡ gapOf x y ⌝ }
+{
+    if x < y { y - x } else { x - y }
+}
+
+// How many low bytes two words that differ share before the first that does. There are at most 7: the remainder tells the compiler.
+fn same_bytes(x: u64, y: u64) -> usize
+    requires { ⌜ (x ≡ y → ⊥) ⌝ }
+    ensures { λ r. ⌜ (r ≡ sameBytes 8 x y) × (r ≤ 7) ⌝ }
+{
+    (u64::trailing_zeros(gap(x, y)) / 8 % 8) as usize
+}
+
+// The place, from 1, of the first byte in which two fields of 32 bytes differ; 33 where none does. It leaves off at the word
+// that has it.
+pub fn first_difference(a: &[u8], p: usize, b: &[u8], q: usize) -> usize
     requires { ⌜ (p + 32 ≤ length (now a)) × (q + 32 ≤ length (now b)) ⌝ }
-    ensures { λ r. ⌜ r ≡ same (take 32 (drop p (now (a .entry)))) (take 32 (drop q (now (b .entry)))) ⌝ }
+    ensures { λ r. ⌜ (r ≡ firstDifference (take 32 (drop p (now (a .entry)))) (take 32 (drop q (now (b .entry))))) × ((1 ≤ r) × (r ≤ 33)) ⌝ }
 {
     let mut j = 0;
     while j < 4 {
-        if u64_at(a, p + 8 * j) != u64_at(b, q + 8 * j) {
-            return false;
+        let x = u64_at(a, p + 8 * j);
+        let y = u64_at(b, q + 8 * j);
+        if x != y {
+            return 8 * j + same_bytes(x, y) + 1;
         }
         j += 1;
     }
-    true
+    33
 }
 
 // The two's-complement number whose bits are x, where half of the patterns are below `half`.

@@ -5,6 +5,7 @@ mod answer;
 mod containment;
 mod flat;
 mod header;
+mod names;
 mod pick;
 mod points;
 mod records;
@@ -23,6 +24,7 @@ use values::*;
 pub use answer::Answer;
 pub use flat::{flat_case, FLAT_CASES};
 pub use header::flips;
+pub use names::{name_case, NAME_CASES};
 pub use points::{point_case, POINT_CASES};
 
 /// A way to break an image: its nodes, words of its header, or its length in bytes.

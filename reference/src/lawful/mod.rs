@@ -9,8 +9,10 @@ mod sections;
 mod zones;
 
 use crate::build::{Image, Node};
+use crate::header::MAX_NODES;
 use crate::labels::LABELS;
 use crate::random::Random;
+use crate::records::Record;
 use crate::text::padded;
 
 /// How large the images of a run are.
@@ -36,6 +38,20 @@ impl SizeClass {
     pub fn holds(self, image: &Image) -> bool {
         let limits = self.limits();
         image.nodes.len() <= limits.nodes && image.to_bytes().len() <= limits.bytes
+    }
+
+    /// Whether an image with a family of siblings keeps within the bounds of the class: its bytes, and rule 4.
+    pub fn holds_family(self, image: &Image) -> bool {
+        image.nodes.len() <= MAX_NODES as usize && image.to_bytes().len() <= self.limits().bytes
+    }
+
+    /// How many more empty nodes an image may have: in a small one within the bounds of the class, in another one within
+    /// its bytes and rule 4.
+    pub fn room(self, image: &Image) -> usize {
+        let limits = self.limits();
+        let nodes = if self == SizeClass::Small { limits.nodes } else { MAX_NODES as usize };
+        let bytes = limits.bytes.saturating_sub(image.to_bytes().len());
+        nodes.saturating_sub(image.nodes.len()).min(bytes / Record::SIZE)
     }
 
     /// The bounds of the class.

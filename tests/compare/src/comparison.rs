@@ -119,6 +119,17 @@ impl Comparison<'_> {
         );
     }
 
+    pub fn name_bytes(&mut self, room: usize) {
+        let (image, lent) = (self.image, self.lent);
+        self.hold::<u8>(
+            Call::NameBytes,
+            format_args!(""),
+            (0, room),
+            |_, answer| unsafe { gongaurora_export_name_bytes(lent, image.len(), answer, room) },
+            |_, answer| tell(answer, || expected::name_bytes(image)),
+        );
+    }
+
     pub fn data_size(&mut self, node: u64, room: usize) {
         let (image, lent) = (self.image, self.lent);
         self.hold::<u8>(

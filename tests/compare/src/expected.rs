@@ -52,6 +52,14 @@ pub fn path(image: &[u8], node: u64, out: &mut [u8]) -> Told<2> {
     }
 }
 
+/// node, count
+pub fn name_bytes(image: &[u8]) -> Told<2> {
+    match reference::name_bytes(image) {
+        Ok(count) => (0, [0, count]),
+        Err(rejection) => refusal(rejection),
+    }
+}
+
 /// node, directions, i, j, k
 pub fn sizes(image: &[u8], node: u64) -> Told<5> {
     match data_size(image, node) {

@@ -1,4 +1,5 @@
-//! Images that every run begins with: document 01's cases, the samples, meshes, and images at the limits of length.
+//! Images that every run begins with: document 01's cases, the samples, images at the limits of length, meshes, and names that differ
+//! at every place; runs of medium images with names of one key too.
 
 use reference::build::Node;
 use reference::cases::{cases, tetrahedron};
@@ -6,6 +7,8 @@ use reference::header::MAX_IMAGE;
 use reference::lawful::SizeClass;
 use reference::mesh::mesh;
 use reference::samples::samples;
+
+use crate::one_key::one_key;
 
 /// The images, in a fixed order.
 pub fn fixed(class: SizeClass) -> Vec<Vec<u8>> {
@@ -17,7 +20,23 @@ pub fn fixed(class: SizeClass) -> Vec<Vec<u8>> {
         SizeClass::Large => [("poly", 30, 4), ("hex", 30, 8), ("zones", 1_000, 4)],
     };
     images.extend(meshes.into_iter().filter_map(|(kind, n, width)| mesh(kind, n, width).ok()));
+    images.push(long_names());
+    if matches!(class, SizeClass::Medium) {
+        images.extend(one_key());
+    }
     images
+}
+
+/// Case (a) with texts named x, xx and so on up to 32 bytes, and behind them y, xy and so on: the first byte that differs is at
+/// every place.
+fn long_names() -> Vec<u8> {
+    let mut image = tetrahedron();
+    for last in ["x", "y"] {
+        for length in 0..32 {
+            image.add(2, Node::text(&("x".repeat(length) + last), "Descriptor_t", "text"));
+        }
+    }
+    image.to_bytes()
 }
 
 /// Case (a) with a text that makes it as long as asked.

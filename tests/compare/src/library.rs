@@ -55,6 +55,7 @@ extern "C" {
         answer: *mut u8,
         room: usize,
     ) -> u64;
+    pub fn gongaurora_export_name_bytes(image: *const u8, length: usize, answer: *mut u8, room: usize) -> u64;
     pub fn gongaurora_export_data_size(image: *const u8, length: usize, node: u64, answer: *mut u8, room: usize)
         -> u64;
     pub fn gongaurora_export_array_value(
@@ -80,13 +81,23 @@ pub enum Call {
     ReadElement,
     FaceUsage,
     Path,
+    NameBytes,
     DataSize,
     ArrayValue,
 }
 
 /// Their names, in the same order.
-pub const CALLS: [&str; 8] =
-    ["validate", "sections", "read_corner", "read_element", "face_usage", "path", "data_size", "array_value"];
+pub const CALLS: [&str; 9] = [
+    "validate",
+    "sections",
+    "read_corner",
+    "read_element",
+    "face_usage",
+    "path",
+    "name_bytes",
+    "data_size",
+    "array_value",
+];
 
 static SEED: AtomicU64 = AtomicU64::new(0);
 static FIXED: AtomicBool = AtomicBool::new(false);

@@ -6,6 +6,7 @@ mod expected;
 mod fixed;
 mod guarded;
 mod library;
+mod one_key;
 mod questions;
 mod tally;
 

@@ -14,16 +14,18 @@ use crate::comparison::{Comparison, SECTION};
 pub fn ask(comparison: &mut Comparison, random: &mut Random, class: SizeClass) {
     let mut asker = Asker { comparison, random, limits: Limits::of(class) };
     asker.validations();
+    asker.name_bytes();
     asker.about_table();
     let entries = asker.about_zones();
     asker.corners(&entries);
     asker.absurd_corners();
 }
 
-/// Asks about a part of the image that breaks off: validation, and corners by the whole image's sections.
+/// Asks about a part of the image that breaks off: validation, name bytes, and corners by the whole image's sections.
 pub fn ask_part(comparison: &mut Comparison, random: &mut Random, entries: &[Section]) {
     let mut asker = Asker { comparison, random, limits: Limits { nodes: 2, zones: 1, reads: 12 } };
     asker.validations();
+    asker.name_bytes();
     asker.corners(entries);
 }
 
@@ -81,6 +83,12 @@ impl Asker<'_, '_> {
     fn validations(&mut self) {
         for room in self.answers(5) {
             self.comparison.validate(room);
+        }
+    }
+
+    fn name_bytes(&mut self) {
+        for room in self.answers(2) {
+            self.comparison.name_bytes(room);
         }
     }
 

@@ -1,11 +1,11 @@
--- A sibling with the same name.
-use mathlib.Core.Path.{_≡_, sym, _∙_}
+-- A sibling in whose name no byte differs.
+use mathlib.Core.Path.{sym, _∙_}
 use borrow.Author.Needs.{needs}
 use borrow.Author.Tests.{eq-eqb, ne-eqb}
 use Rattle.model.specs.Image.{parent}
 use Rattle.model.specs.Records.{sibling, namesake}
 use Rattle.records.specs.Table.{allRecords}
-use Rattle.texts.proofs.Laws.{name-in}
+use Rattle.texts.proofs.Laws.{same-names}
 use Rattle.texts.proofs.is_namesake.Statement.{statement}
 use Rattle.texts.proofs.is_namesake.Tie as tie
 
@@ -23,8 +23,8 @@ returns-2 c =
     let d = g .before .before .before in
     let s = d .args .table .now in
     let e = sym (g .before .parent-of .ensures .0) ∙ g .if1 .left ∙ d .pre .1 in
-    rw (eq-eqb (parent (allRecords s) (d .args .j)) (parent (allRecords s) (d .args .i)) e)
-    (rw (name-in s (d .args .j) (d .pre .0 .1 .0), name-in s (d .args .i) (d .pre .0 .0 .0)) at (c .same-fields .ensures))
+    rw (eq-eqb (parent (allRecords s) (d .args .j)) (parent (allRecords s) (d .args .i)) e, c .name-difference .ensures .0)
+    (sym (same-names s (d .args .i) (d .args .j) (d .pre .0 .0) (d .pre .0 .1)))
 
 pub is-namesake-spec : {M : Type 1} → statement M
-is-namesake-spec = tie.close (tie.spec (search needs) returns (search needs) (search needs) (search needs) (search needs) (search needs) returns-2)
+is-namesake-spec = tie.close (tie.spec (search needs) returns (search needs) returns-2)

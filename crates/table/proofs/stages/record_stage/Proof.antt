@@ -3,9 +3,9 @@ use native.Mathlib.Omega.{arith}
 use mathlib.Core.Path.{sym, ap, _∙_}
 use borrow.Author.Needs.{needs}
 use Rattle.records.specs.declared.RecordNumbers.{RecordNumbers}
-use Rattle.model.proofs.Passed.{check-pass}
-use Rattle.model.proofs.Staging.{passes, stop, go}
-use Rattle.table.proofs.Progress.{record-groups, lawful-before, numbers-here}
+use Rattle.model.proofs.Staging.{stop, go}
+use Rattle.table.proofs.Progress.{record-groups, lawful-before, free-before, numbers-here}
+use Rattle.table.proofs.Taken.{names-at}
 use Rattle.table.proofs.stages.record_stage.Statement.{statement}
 use Rattle.table.proofs.stages.record_stage.Tie as tie
 
@@ -15,17 +15,9 @@ returns c =
 
 text-stage-requires : tie.Need-text-stage-requires
 text-stage-requires c κs =
-    let p = c .before .before .before .before .before .pre in (
-      (
-        (omega arith, omega arith),
-        (
-          lawful-before (p .0 .0 .0),
-          check-pass _ _
-              (passes (c .before .before .place-stage .ensures) (c .enum-told .given .1)) .0,
-        ),
-      ),
-      p .1,
-    )
+    let p = c .before .before .before .before .before .pre in
+    let t = p .0 .0 .0 in
+    ((omega arith, omega arith), (p .1 .0, names-at (p .1 .1) (t .inside) (free-before t)))
 
 returns-2 : tie.Need-returns-2
 returns-2 c =

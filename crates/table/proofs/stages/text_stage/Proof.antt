@@ -32,10 +32,10 @@ left g e =
 returns-3 : tie.Need-returns-3
 returns-3 c =
     let f = c .before .before in
-    left (f .before) (fails _ 11 _ (ap not (sym (f .name-taken .ensures) ∙ c .before .if3 .taken)) (c .reject3 .ensures))
+    left (f .before) (fails _ 11 _ (ap not (sym (f .is-taken .ensures) ∙ c .before .if3 .taken)) (c .reject3 .ensures))
 
 returns-4 : tie.Need-returns-4
-returns-4 c = left (c .before .before) (holds _ 11 _ (ap not (sym (c .before .name-taken .ensures) ∙ c .if3 .left)) (sym (no-rule _)))
+returns-4 c = left (c .before .before) (holds _ 11 _ (ap not (sym (c .before .is-taken .ensures) ∙ c .if3 .left)) (sym (no-rule _)))
 
 pub text-stage-spec : {M : Type 1} → statement M
 text-stage-spec =

@@ -10,4 +10,5 @@ returns c = rw (c .joined .ensures)
 
 pub add-key-spec : {M : Type 1} → statement M
 add-key-spec =
-    tie.close (tie.spec (search needs) (search needs) (search needs) (search needs) (search needs) (search needs) (search needs) (search needs) returns)
+    tie.close (tie.spec (search needs) (search needs) (search needs) (search needs) (search needs) (search needs) (search needs) (search needs) (search needs)
+    returns)

@@ -15,4 +15,4 @@ unfolding mayBeMarked
 returns-2 c = rw (ne-eqb _ _ (c .if1 .left)) refl
 
 pub may-be-marked-spec : {M : Type 1} → statement M
-may-be-marked-spec = tie.close (tie.spec (search needs) (search needs) returns (search needs) (search needs) returns-2)
+may-be-marked-spec = tie.close (tie.spec (search needs) (search needs) (search needs) returns (search needs) (search needs) returns-2)
