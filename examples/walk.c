@@ -10,7 +10,7 @@
 #include <stdlib.h>
 #include <string.h>
 
-enum { TYPES = 24, NGON_N = 22, NFACE_N = 23 };
+enum { TYPES = 24, MIXED = 20, NGON_N = 22, NFACE_N = 23 };
 
 typedef struct {
     const uint8_t *bytes;
@@ -20,6 +20,7 @@ typedef struct {
 /* What a walk over one zone has found. */
 typedef struct {
     uint64_t elements[TYPES]; /* by element type */
+    uint64_t in_mixed[TYPES]; /* the same of MIXED sections, whose elements have types of their own */
     uint64_t corners;         /* numbers read */
     uint64_t largest_face, largest_cell;
     int64_t least_node, greatest_node;
@@ -111,10 +112,11 @@ static void walk_cell(image_t image, const zone_t *zone, const gongaurora_sectio
 
 static void walk_section(image_t image, const zone_t *zone, const gongaurora_section *section, findings_t *found)
 {
+    uint64_t *elements = section->type == MIXED ? found->in_mixed : found->elements;
     for (uint64_t element = section->first; element <= section->last; element++) {
         if (section->type == NFACE_N) walk_cell(image, zone, section, element, found);
         else walk_nodes(image, zone, section, element, found);
-        found->elements[section->type]++;
+        elements[gongaurora_element_type(image.bytes, image.length, section, element).type]++;
     }
 }
 
@@ -138,6 +140,9 @@ static void print_findings(const findings_t *found)
 {
     for (int type = 0; type < TYPES; type++)
         if (found->elements[type] > 0) printf("  elements of type %d: %" PRIu64 "\n", type, found->elements[type]);
+    for (int type = 0; type < TYPES; type++)
+        if (found->in_mixed[type] > 0)
+            printf("  elements of type %d in MIXED sections: %" PRIu64 "\n", type, found->in_mixed[type]);
     if (found->corners > 0) printf("  corners read: %" PRIu64 "\n", found->corners);
     if (found->largest_cell > 0)
         printf("  largest face: %" PRIu64 " nodes, largest cell: %" PRIu64 " faces\n", found->largest_face, found->largest_cell);

@@ -21,8 +21,8 @@
  *   Alignment  None is needed: the image and a buffer of bytes may start at any address. Sections and lists of 64-bit numbers
  *              have the alignment of their C type.
  *   Stack      Measured, and the same for every image: every call takes under 96,000 bytes; gongaurora_path,
- *              gongaurora_name_bytes and gongaurora_array_value under 40,000; gongaurora_read_corner and
- *              gongaurora_read_element under 1,000.
+ *              gongaurora_name_bytes and gongaurora_array_value under 40,000; gongaurora_read_corner,
+ *              gongaurora_read_element and gongaurora_element_type under 1,000.
  *   Threads    There is no state: any calls may run at the same time, as long as no other thread writes what they read.
  *   Cost       Measured, not proved. One validation of a usual mesh costs about one pass over the image's bytes; of an image
  *              with 1,000 face sections and references at random among them 17. No image measured takes as long as 20 passes
@@ -41,9 +41,9 @@
 
 /* The version of this header and of the archive beside it. */
 #define GONGAURORA_VERSION_MAJOR 0
-#define GONGAURORA_VERSION_MINOR 5
+#define GONGAURORA_VERSION_MINOR 6
 #define GONGAURORA_VERSION_PATCH 0
-#define GONGAURORA_VERSION "0.5.0"
+#define GONGAURORA_VERSION "0.6.0"
 
 #ifdef __cplusplus
 extern "C" {
@@ -52,7 +52,8 @@ extern "C" {
 /* ---- Rules ------------------------------------------------------------------------------------------------------ */
 
 /* Why a call was refused. An image is judged header first (1 to 6), then its records (7 to 17), then what is left over (18),
- * then node by node the meaning (20 to 35), at a node the lowest rule first; the first broken rule is the answer. */
+ * then node by node the meaning (20 to 38), at a node the lowest rule first, but 38 between 33 and 34; the first broken rule
+ * is the answer. They stand here in this order. */
 enum gongaurora_rule {
     GONGAURORA_RULE_NONE = 0,             /* nothing is wrong */
 
@@ -93,6 +94,7 @@ enum gongaurora_rule {
     GONGAURORA_RULE_OFFSET_ORDER = 31,    /* a start offset not above its predecessor */
     GONGAURORA_RULE_LAST_OFFSET = 32,     /* the last start offset is not the connectivity length */
     GONGAURORA_RULE_ELEMENT_SIZE = 33,    /* CellDimension 3, and a face of under 3 nodes or a cell of under 4 faces */
+    GONGAURORA_RULE_MIXED_TYPE = 38,      /* MIXED: a stored type not in the list, or one that does not fit its start offsets */
     GONGAURORA_RULE_NODE_REFERENCE = 34,  /* a node number outside 1 to VertexSize */
     GONGAURORA_RULE_FACE_REFERENCE = 35,  /* a face number that is no face of the zone */
 
@@ -100,7 +102,7 @@ enum gongaurora_rule {
     GONGAURORA_RULE_NO_SUCH_NODE = 40,    /* no such node, or none of the kind asked for */
     GONGAURORA_RULE_ELEMENT_NUMBER = 41,  /* the element is outside the section's range */
     GONGAURORA_RULE_INDEX = 42,           /* the corner or value is outside 1 to their number */
-    GONGAURORA_RULE_UNREADABLE = 43,      /* the section asks for bytes that cannot be read */
+    GONGAURORA_RULE_UNREADABLE = 43,      /* the section asks for bytes that cannot be read, or for an element that breaks 38 */
     GONGAURORA_RULE_USAGE_ROOM = 44,      /* fewer bytes lent than the zone has faces */
     GONGAURORA_RULE_FACE_REPEATED = 45,   /* a face used twice with one sign; node and element tell where */
     GONGAURORA_RULE_ROOM = 46,            /* too little memory lent */
@@ -144,12 +146,14 @@ static inline const char *gongaurora_rule_text(uint64_t rule)
     case 31: return "A start offset of the section is not above its predecessor.";
     case 32: return "The section's last start offset is not its connectivity length.";
     case 33: return "The section has a face of fewer than 3 nodes or a cell of fewer than 4 faces.";
+    case 38: return "An element of the MIXED section begins with a type that is not 2 to 19 or 21, or its length in the start "
+                    "offsets is not 1 + that type's nodes.";
     case 34: return "The section refers to a node outside 1 to VertexSize.";
     case 35: return "The section refers to a face that the zone does not have.";
     case 40: return "There is no such node, or it is not of the kind asked for.";
     case 41: return "The element number is outside the section's range.";
     case 42: return "The corner or value number is out of range.";
-    case 43: return "The section asks for bytes that cannot be read.";
+    case 43: return "The section asks for bytes that cannot be read, or for a MIXED element whose type does not fit.";
     case 44: return "The lent memory is shorter than the zone's number of faces.";
     case 45: return "A face is used twice with the same sign.";
     case 46: return "The lent memory is too short.";
@@ -175,6 +179,9 @@ uint64_t gongaurora_export_read_corner(const uint8_t *image, size_t length, cons
 /* out: the corners; answer, 8 bytes: count */
 uint64_t gongaurora_export_read_element(const uint8_t *image, size_t length, const uint64_t *section, size_t nine,
                                         uint64_t element, int64_t *out, size_t numbers, uint8_t *answer, size_t room);
+/* answer, 8 bytes: type */
+uint64_t gongaurora_export_element_type(const uint8_t *image, size_t length, const uint64_t *section, size_t nine,
+                                        uint64_t element, uint8_t *answer, size_t room);
 /* out: a byte a face; answer, 24 bytes: node, element, count */
 uint64_t gongaurora_export_face_usage(const uint8_t *image, size_t length, uint64_t zone, uint8_t *out, size_t bytes,
                                       uint8_t *answer, size_t room);
@@ -204,7 +211,7 @@ typedef struct gongaurora_validation {
 } gongaurora_validation;
 
 /* Validates the whole image.
- * Refusals: 1 to 35, the first in the order told above.
+ * Refusals: 1 to 38, the first in the order told above.
  * Cost: one validation. */
 static inline gongaurora_validation gongaurora_validate(const uint8_t *image, size_t length)
 {
@@ -220,7 +227,8 @@ static inline gongaurora_validation gongaurora_validate(const uint8_t *image, si
  * there is no such array. */
 typedef struct gongaurora_section {
     uint64_t node;
-    uint64_t type;                /* CGNS element type: 22 faces (NGON_n), 23 cells made of faces (NFACE_n), else fixed */
+    uint64_t type;                /* CGNS element type: 20 elements with types of their own (MIXED), 22 faces (NGON_n),
+                                     23 cells made of faces (NFACE_n), else fixed */
     uint64_t first;               /* ElementRange */
     uint64_t last;
     uint64_t offsets_at;          /* ElementStartOffset: byte offset, bytes a number (4 or 8) */
@@ -256,9 +264,11 @@ typedef struct gongaurora_corner {
 } gongaurora_corner;
 
 /* Reads one corner of an element: the number stored there. In a section of type 23 it is a face number, negative where the
- * cell sees the face from its other side; in others a node number.
+ * cell sees the face from its other side; in others a node number. In a section of type 20 an element's size is the number of
+ * its nodes and corner 1 is the first node: the type number that the element begins with is no corner.
  * Refusals: 41: the element is not in the section's range; 43: the section is of a type that is not supported, or asks for
- * bytes that cannot be read; 42: the corner is not in 1 to the element's size.
+ * bytes that cannot be read, or is of type 20 and the element's stored type is not in the list (2 to 19 and 21) or does not fit
+ * its start offsets; 42: the corner is not in 1 to the element's size.
  * Cost: constant, with no validation. To read an element whole, gongaurora_read_element is several times faster: it checks the
  * section once.
  *
@@ -279,9 +289,10 @@ static inline gongaurora_corner gongaurora_read_corner(const uint8_t *image, siz
     return result;
 }
 
-/* Reads all corners of an element: writes them, from corner 1 on, to the front of `out`, and answers how many they are.
- * Refusals: 41: the element is not in the section's range; 43: the section is of a type that is not supported, or asks for
- * bytes that cannot be read; 46: the element has more corners than `room`.
+/* Reads all corners of an element: writes them, from corner 1 on, to the front of `out`, and answers how many they are. In a
+ * section of type 20 they are the nodes alone, without the type number.
+ * Refusals: 41: the element is not in the section's range; 43: as gongaurora_read_corner gives it; 46: the element has more
+ * corners than `room`.
  * Cost: that of the corners written, with no validation.
  *
  * Proved of the export, with image and sections as told at gongaurora_read_corner: 43 never comes. 41 comes exactly for
@@ -294,6 +305,30 @@ static inline gongaurora_count gongaurora_read_element(const uint8_t *image, siz
     result.node = 0;
     result.rule = gongaurora_export_read_element(image, length, (const uint64_t *)(const void *)section, 9, element, out, room,
                                                  (uint8_t *)&result.count, sizeof result.count);
+    return result;
+}
+
+typedef struct gongaurora_type {
+    uint64_t rule;
+    uint64_t node; /* always 0 */
+    uint64_t type; /* 0 where refused */
+} gongaurora_type;
+
+/* The CGNS type of an element: in a section of type 20 the type number that the element begins with, one of 2 to 19 and 21;
+ * in others the section's own type.
+ * Refusals: 41: the element is not in the section's range; 43: as gongaurora_read_corner gives it, in sections of any type.
+ * Cost: constant, with no validation.
+ *
+ * Proved of the export, with image and sections as told at gongaurora_read_corner: 43 never comes, 41 comes exactly for
+ * elements outside the section's range; every other call answers the type number that the element begins with in a section of
+ * type 20, and the section's type in others. */
+static inline gongaurora_type gongaurora_element_type(const uint8_t *image, size_t length, const gongaurora_section *section,
+                                                      uint64_t element)
+{
+    gongaurora_type result;
+    result.node = 0;
+    result.rule = gongaurora_export_element_type(image, length, (const uint64_t *)(const void *)section, 9, element,
+                                                 (uint8_t *)&result.type, sizeof result.type);
     return result;
 }
 
@@ -409,8 +444,8 @@ static inline gongaurora_value gongaurora_array_value(const uint8_t *image, size
 /* The structs are words with nothing between them, as the exports write and read them. */
 typedef char gongaurora_structs_are_words[sizeof(gongaurora_validation) == 48 && sizeof(gongaurora_section) == 72 &&
                                           sizeof(gongaurora_count) == 24 && sizeof(gongaurora_corner) == 24 &&
-                                          sizeof(gongaurora_usage) == 32 && sizeof(gongaurora_sizes) == 48 &&
-                                          sizeof(gongaurora_value) == 32 ? 1 : -1];
+                                          sizeof(gongaurora_type) == 24 && sizeof(gongaurora_usage) == 32 &&
+                                          sizeof(gongaurora_sizes) == 48 && sizeof(gongaurora_value) == 32 ? 1 : -1];
 
 #ifdef __cplusplus
 }

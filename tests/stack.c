@@ -32,6 +32,7 @@ static uint64_t read_element(void)
 {
     return gongaurora_read_element(image, length, sections, sections->first, corners, ROOM).rule;
 }
+static uint64_t element_type(void) { return gongaurora_element_type(image, length, sections, sections->first).rule; }
 static uint64_t face_usage(void) { return gongaurora_face_usage(image, length, zone, bytes, sizeof bytes).rule; }
 static uint64_t path(void) { return gongaurora_path(image, length, array, bytes, sizeof bytes).rule; }
 static uint64_t name_bytes(void) { return gongaurora_name_bytes(image, length).rule; }
@@ -48,6 +49,7 @@ static const struct {
     {"sections", list_sections, VALIDATION},
     {"read_corner", read_corner, READ},
     {"read_element", read_element, READ},
+    {"element_type", element_type, READ},
     {"face_usage", face_usage, VALIDATION},
     {"path", path, TABLE},
     {"name_bytes", name_bytes, TABLE},

@@ -35,7 +35,7 @@ pub struct Walked {
     pub sum: u64,
 }
 
-type Walk = unsafe extern "C" fn(*const u8, usize, *const u64, usize) -> Walked;
+type Walk<T> = unsafe extern "C" fn(*const u8, usize, *const u64, usize) -> T;
 
 extern "C" {
     fn bench_sum(bytes: *const u8, length: usize) -> u32;
@@ -49,6 +49,9 @@ extern "C" {
     fn bench_walk_checked(image: *const u8, length: usize, sections: *const u64, count: usize) -> Walked;
     fn bench_walk_corners(image: *const u8, length: usize, sections: *const u64, count: usize) -> Walked;
     fn bench_walk_plain(image: *const u8, length: usize, sections: *const u64, count: usize) -> Walked;
+    fn bench_types(image: *const u8, length: usize, sections: *const u64, count: usize) -> u64;
+    fn bench_types_checked(image: *const u8, length: usize, sections: *const u64, count: usize) -> u64;
+    fn bench_types_plain(image: *const u8, length: usize, sections: *const u64, count: usize) -> u64;
 }
 
 /// The image's bytes as 32-bit words, summed.
@@ -98,7 +101,7 @@ pub fn plain_name_bytes(image: &[u8]) -> u64 {
     unsafe { bench_plain_name_bytes(image.as_ptr()) }
 }
 
-fn walk(walk: Walk, image: &[u8], sections: &[u64]) -> Walked {
+fn walk<T>(walk: Walk<T>, image: &[u8], sections: &[u64]) -> T {
     // SAFETY: an accepted image and its sections; nothing is written.
     unsafe { walk(image.as_ptr(), image.len(), sections.as_ptr(), sections.len() / 9) }
 }
@@ -123,9 +126,24 @@ pub fn walk_plain(image: &[u8], sections: &[u64]) -> Walked {
     walk(bench_walk_plain, image, sections)
 }
 
-/// How many faces the sections have.
-pub fn face_count(sections: &[u64]) -> usize {
+/// The types of all elements of MIXED sections, summed, by the library.
+pub fn types(image: &[u8], sections: &[u64]) -> u64 {
+    walk(bench_types, image, sections)
+}
+
+/// The same sum by hand-written C with the library's checks.
+pub fn types_checked(image: &[u8], sections: &[u64]) -> u64 {
+    walk(bench_types_checked, image, sections)
+}
+
+/// The same sum with no check.
+pub fn types_plain(image: &[u8], sections: &[u64]) -> u64 {
+    walk(bench_types_plain, image, sections)
+}
+
+/// How many elements the sections of a type have.
+pub fn element_count(sections: &[u64], element_type: i64) -> usize {
     let all = sections.chunks_exact(9).filter_map(|numbers| <&[u64; 9]>::try_from(numbers).ok());
-    let faces = all.map(Section::of_numbers).filter(|section| section.element_type == 22);
-    faces.map(|section| (section.last - section.first + 1) as usize).sum()
+    let asked = all.map(Section::of_numbers).filter(|section| section.element_type == element_type as u64);
+    asked.map(|section| (section.last - section.first + 1) as usize).sum()
 }

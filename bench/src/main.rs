@@ -1,11 +1,12 @@
 //! `bench [REPETITIONS]`: prints tables of times and ratios, all from one run: validation against the reference and against
-//! one pass over the bytes, rules 1 to 18 alone against the same, name bytes against the reference and plain C, the walk against C
-//! with no check and with the same checks, face usage against the reference, peak memory.
+//! one pass over the bytes, rules 1 to 18 alone against the same, name bytes against the reference and plain C, the walk and the types of
+//! MIXED elements against C with no check and with the same checks, face usage against the reference, peak memory.
 //!
 //! `bench images FOLDER`: writes the odd images of the tables as files.
 
 mod calls;
 mod measure;
+mod mixed;
 mod names;
 mod odd;
 mod parts;
@@ -15,10 +16,12 @@ use std::path::Path;
 use std::process::Command;
 use std::{env, fs};
 
-use calls::{face_count, face_usage, sections, sum, validate, walk_checked, walk_corners, walk_elements, walk_plain};
+use calls::{element_count, face_usage, sections, sum, types, types_checked, types_plain, validate};
+use calls::{walk_checked, walk_corners, walk_elements, walk_plain};
 use measure::{medians, peak_growth, processor, TURN};
 use names::{name_bytes_table, rules_table};
 use odd::Odd;
+use reference::elements::{MIXED, NGON_N};
 use reference::mesh::mesh;
 use reference::Counts;
 
@@ -49,6 +52,8 @@ fn meshes() -> Vec<Subject> {
         subject("polyhedra I4, 52 x 52 x 52", "poly", 52, 4),
         subject("polyhedra I8, 43 x 43 x 43", "poly", 43, 8),
         subject("hexahedra I4, 60 x 60 x 60", "hex", 60, 4),
+        subject("hexahedra between layers of prisms I4, 61 x 61 x 61", "mixed", 61, 4),
+        subject("hexahedra between layers of prisms I8, 52 x 52 x 52", "mixed", 52, 8),
         subject("1,000 zones", "zones", 1_000, 4),
     ]
 }
@@ -92,6 +97,7 @@ fn tables(repetitions: usize) {
     rules_table(&all, repetitions);
     name_bytes_table(&all, repetitions);
     walk_table(&meshes, repetitions);
+    types_table(&meshes, repetitions);
     usage_table(&all, repetitions);
     memory_table(&meshes);
 }
@@ -132,7 +138,7 @@ fn validation_table(subjects: &[&Subject], repetitions: usize) {
 }
 
 fn walk_table(subjects: &[Subject], repetitions: usize) {
-    println!("| walk, cell to face to node | corners read | by elements | by corners | checked C | unchecked C | elements / unchecked | corners / unchecked | elements / checked | by corners, ns a corner |");
+    println!("| walk, cell to face to node, of MIXED cells the type too | corners read | by elements | by corners | checked C | unchecked C | elements / unchecked | corners / unchecked | elements / checked | by corners, ns a corner |");
     println!("|---|---|---|---|---|---|---|---|---|---|");
     for Subject { name, image, .. } in subjects.iter().filter(|subject| subject.walked) {
         let sections = sections(image, ZONE);
@@ -158,11 +164,36 @@ fn walk_table(subjects: &[Subject], repetitions: usize) {
     println!();
 }
 
+fn types_table(subjects: &[Subject], repetitions: usize) {
+    println!("| types of MIXED elements | elements | library | checked C | unchecked C | library / unchecked | library / checked | library, ns an element |");
+    println!("|---|---|---|---|---|---|---|---|");
+    for Subject { name, image, .. } in subjects.iter().filter(|subject| subject.walked) {
+        let sections = sections(image, ZONE);
+        let elements = element_count(&sections, MIXED);
+        if elements == 0 {
+            continue;
+        }
+        let of_all = types_plain(image, &sections);
+        assert_eq!([of_all; 2], [types(image, &sections), types_checked(image, &sections)], "{name}");
+        let [library, checked, plain] = medians(
+            repetitions,
+            [&mut || types(image, &sections), &mut || types_checked(image, &sections), &mut || {
+                types_plain(image, &sections)
+            }],
+        );
+        let (to_plain, to_checked, an_element) = (library / plain, library / checked, library * 1e6 / elements as f64);
+        println!(
+            "| {name} | {elements} | {library:.3} | {checked:.3} | {plain:.3} | {to_plain:.2} | {to_checked:.2} | {an_element:.1} |"
+        );
+    }
+    println!();
+}
+
 fn usage_table(subjects: &[&Subject], repetitions: usize) {
     println!("| face usage, validation included | faces | library | reference | library / reference |");
     println!("|---|---|---|---|---|");
     for Subject { name, image, .. } in subjects.iter().filter(|subject| subject.faces) {
-        let faces = face_count(&sections(image, ZONE));
+        let faces = element_count(&sections(image, ZONE), NGON_N);
         let (mut first, mut second) = (vec![9; faces], vec![9; faces]);
         assert_eq!(face_usage(image, ZONE, &mut first).rule, 0, "{name}");
         assert_eq!(reference::face_usage(image, ZONE, &mut second), Ok(faces), "{name}");

@@ -1,5 +1,5 @@
-//! Images unlike meshes, each near a limit of the format: many sections, ranges that do not touch, children far from
-//! their parents, many siblings. The times of meshes tell nothing of them. All are lawful but those that say which rule they break.
+//! Images unlike meshes, each near a limit of the format: many sections, ranges that do not touch, elements of all types, children
+//! far from their parents, many siblings. The times of meshes tell nothing of them. All are lawful but those that say which rule they break.
 
 use reference::build::{Image, Node};
 use reference::mesh::polyhedra;
@@ -9,7 +9,7 @@ use crate::parts::{
     add_bare_zone, add_faces, add_triangles, add_zone, add_zone_type, at_random, children_last, falling, in_turn,
     rising, with_base, with_zone, Section, APART, MAX_NODES, NFACE_N, NGON_N, TRI_3,
 };
-use crate::siblings;
+use crate::{mixed, siblings};
 
 /// Face references of an image with one cell section, and of each cell section where there are many.
 const REFERENCES: usize = 3_000_000;
@@ -32,9 +32,11 @@ pub fn odd(name: &'static str, file: &'static str, image: Image) -> Odd {
     Odd { name, file, image: image.to_bytes(), usage: false, rule: 0, siblings: false }
 }
 
-/// All odd images: many references to faces in many sections, then many nodes with few data, then many siblings.
+/// All odd images: many references to faces in many sections, then MIXED sections, then many nodes with few data, then many
+/// siblings.
 pub fn images() -> Vec<Odd> {
     let mut images = of_faces();
+    images.extend(mixed::images());
     images.extend(of_nodes());
     images.extend(siblings::images());
     images

@@ -5,9 +5,10 @@
 
 #include <string.h>
 
-enum { HEXA_8 = 17, NGON_N = 22, NFACE_N = 23 };
+enum { HEXA_8 = 17, MIXED = 20, NGON_N = 22, NFACE_N = 23 };
 
-/* What a walk has read; sum is of all node numbers, so that two walks can be held against each other. */
+/* What a walk has read; sum is of all node numbers and of the types of MIXED elements, so that two walks can be held against
+ * each other. */
 typedef struct {
     uint64_t corners;
     uint64_t sum;
@@ -59,9 +60,9 @@ static const gongaurora_section *section_of_face(const gongaurora_section *secti
     return sections;
 }
 
-/* Cell to face to node, element by element; hexahedra straight to their nodes. `read` reads all corners of an element and
- * answers how many they are. */
-#define ELEMENT_WALK(name, read)                                                                                             \
+/* Cell to face to node, element by element; cells that are not made of faces straight to their nodes, those of MIXED sections
+ * after their type. `read` reads all corners of an element and answers how many they are, `type_of` its type. */
+#define ELEMENT_WALK(name, read, type_of)                                                                                    \
     walked_t name(const uint8_t *image, size_t length, const gongaurora_section *sections, size_t count)                     \
     {                                                                                                                        \
         enum { ROOM = 32 };                                                                                                  \
@@ -69,12 +70,13 @@ static const gongaurora_section *section_of_face(const gongaurora_section *secti
         walked_t walked = {0, 0};                                                                                            \
         for (size_t k = 0; k < count; k++) {                                                                                 \
             const gongaurora_section *cells = &sections[k];                                                                  \
-            if (cells->type != HEXA_8 && cells->type != NFACE_N) continue;                                                   \
+            if (cells->type != HEXA_8 && cells->type != MIXED && cells->type != NFACE_N) continue;                           \
             for (uint64_t cell = cells->first; cell <= cells->last; cell++) {                                                \
+                if (cells->type == MIXED) walked.sum += type_of(image, length, cells, cell);                                 \
                 uint64_t size = read(image, length, cells, cell, of_cell, ROOM);                                             \
                 walked.corners += size;                                                                                      \
                 for (uint64_t c = 0; c < size; c++) {                                                                        \
-                    if (cells->type == HEXA_8) {                                                                             \
+                    if (cells->type != NFACE_N) {                                                                            \
                         walked.sum += (uint64_t)of_cell[c];                                                                  \
                         continue;                                                                                            \
                     }                                                                                                        \
@@ -96,6 +98,11 @@ static uint64_t by_library(const uint8_t *image, size_t length, const gongaurora
     return gongaurora_read_element(image, length, section, element, out, room).count;
 }
 
+static uint64_t type_by_library(const uint8_t *image, size_t length, const gongaurora_section *section, uint64_t element)
+{
+    return gongaurora_element_type(image, length, section, element).type;
+}
+
 static uint64_t by_hand(const uint8_t *image, size_t length, const gongaurora_section *section, uint64_t element,
                         int64_t *out, size_t room)
 {
@@ -104,10 +111,17 @@ static uint64_t by_hand(const uint8_t *image, size_t length, const gongaurora_se
     return count;
 }
 
-ELEMENT_WALK(bench_walk_elements, by_library)
-ELEMENT_WALK(bench_walk_checked, by_hand)
+static uint64_t type_by_hand(const uint8_t *image, size_t length, const gongaurora_section *section, uint64_t element)
+{
+    uint64_t type;
+    checked_element_type(image, length, section, element, &type);
+    return type;
+}
 
-/* The same corner by corner. */
+ELEMENT_WALK(bench_walk_elements, by_library, type_by_library)
+ELEMENT_WALK(bench_walk_checked, by_hand, type_by_hand)
+
+/* The same corner by corner; a MIXED element's type tells how many there are. */
 walked_t bench_walk_corners(const uint8_t *image, size_t length, const gongaurora_section *sections, size_t count)
 {
     walked_t walked = {0, 0};
@@ -119,6 +133,15 @@ walked_t bench_walk_corners(const uint8_t *image, size_t length, const gongauror
                     walked.sum += (uint64_t)gongaurora_read_corner(image, length, cells, cell, c).number;
                     walked.corners++;
                 }
+        }
+        if (cells->type == MIXED) {
+            for (uint64_t cell = cells->first; cell <= cells->last; cell++) {
+                uint64_t type = gongaurora_element_type(image, length, cells, cell).type, nodes = nodes_per_element[type];
+                walked.sum += type;
+                for (uint64_t c = 1; c <= nodes; c++)
+                    walked.sum += (uint64_t)gongaurora_read_corner(image, length, cells, cell, c).number;
+                walked.corners += nodes;
+            }
         }
         if (cells->type != NFACE_N) continue;
         for (uint64_t cell = cells->first; cell <= cells->last; cell++)
@@ -138,6 +161,21 @@ walked_t bench_walk_corners(const uint8_t *image, size_t length, const gongauror
     }
     return walked;
 }
+
+/* The types of all elements of MIXED sections, summed. `type_of` answers the type of an element. */
+#define TYPE_WALK(name, type_of)                                                                                             \
+    uint64_t name(const uint8_t *image, size_t length, const gongaurora_section *sections, size_t count)                     \
+    {                                                                                                                        \
+        uint64_t sum = 0;                                                                                                    \
+        for (size_t k = 0; k < count; k++)                                                                                   \
+            if (sections[k].type == MIXED)                                                                                   \
+                for (uint64_t element = sections[k].first; element <= sections[k].last; element++)                           \
+                    sum += type_of(image, length, &sections[k], element);                                                    \
+        return sum;                                                                                                          \
+    }
+
+TYPE_WALK(bench_types, type_by_library)
+TYPE_WALK(bench_types_checked, type_by_hand)
 
 /* The same walk over numbers of one width with no check. */
 #define PLAIN_WALK(name, integer)                                                                                            \
@@ -159,6 +197,15 @@ walked_t bench_walk_corners(const uint8_t *image, size_t length, const gongauror
                         walked.sum += (uint64_t)name##_at(image, cells->connectivity_at, 8 * cell + c);                      \
                         walked.corners++;                                                                                    \
                     }                                                                                                        \
+            }                                                                                                                \
+            if (cells->type == MIXED) {                                                                                      \
+                for (uint64_t cell = 0; cell < elements; cell++) {                                                           \
+                    uint64_t start = (uint64_t)name##_at(image, cells->offsets_at, cell);                                    \
+                    uint64_t end = (uint64_t)name##_at(image, cells->offsets_at, cell + 1);                                  \
+                    for (uint64_t c = start; c < end; c++)                                                                   \
+                        walked.sum += (uint64_t)name##_at(image, cells->connectivity_at, c);                                 \
+                    walked.corners += end - start - 1;                                                                       \
+                }                                                                                                            \
             }                                                                                                                \
             if (cells->type != NFACE_N) continue;                                                                            \
             for (uint64_t cell = 0; cell < elements; cell++) {                                                               \
@@ -187,4 +234,23 @@ walked_t bench_walk_plain(const uint8_t *image, size_t length, const gongaurora_
 {
     (void)length;
     return sections->connectivity_width == 4 ? plain_walk_4(image, sections, count) : plain_walk_8(image, sections, count);
+}
+
+/* The types of all elements of MIXED sections, summed, with no check. */
+uint64_t bench_types_plain(const uint8_t *image, size_t length, const gongaurora_section *sections, size_t count)
+{
+    uint64_t sum = 0;
+    (void)length;
+    for (size_t k = 0; k < count; k++) {
+        uint64_t elements = sections[k].last - sections[k].first + 1;
+        uint64_t offsets = sections[k].offsets_at, connectivity = sections[k].connectivity_at;
+        if (sections[k].type != MIXED) continue;
+        if (sections[k].connectivity_width == 4)
+            for (uint64_t e = 0; e < elements; e++)
+                sum += (uint64_t)plain_walk_4_at(image, connectivity, (uint64_t)plain_walk_4_at(image, offsets, e));
+        else
+            for (uint64_t e = 0; e < elements; e++)
+                sum += (uint64_t)plain_walk_8_at(image, connectivity, (uint64_t)plain_walk_8_at(image, offsets, e));
+    }
+    return sum;
 }

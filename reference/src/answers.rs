@@ -3,8 +3,8 @@
 use crate::faces::{face_count, face_usage};
 use crate::name_bytes::name_bytes;
 use crate::path::{path, path_into};
-use crate::reader::{array_value, corner, corner_reads_into, data_size, element_corners, section_entries};
-use crate::reader::{section_entries_into, Section, Value, ENTRY_LENGTH};
+use crate::reader::{array_value, corner, corner_reads_into, data_size, element_corners, element_type};
+use crate::reader::{section_entries, section_entries_into, Section, Value, ENTRY_LENGTH};
 use crate::rejection::Rejection;
 use crate::table::check_table;
 use crate::validation::validate;
@@ -66,6 +66,11 @@ pub fn entries_line(image: &[u8], zone: u64) -> String {
 /// `corner NUMBER`.
 pub fn corner_line(image: &[u8], entry: &[u64; ENTRY_LENGTH], element: u64, number: u64) -> String {
     line(corner(image, entry, element, number), |answer| format!("corner {answer}"))
+}
+
+/// `type NUMBER`.
+pub fn element_type_line(image: &[u8], entry: &[u64; ENTRY_LENGTH], element: u64) -> String {
+    line(element_type(image, entry, element), |answer| format!("type {answer}"))
 }
 
 /// `whole N`, `single BITS` or `double BITS`.

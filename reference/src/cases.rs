@@ -3,6 +3,7 @@
 
 use crate::build::{Image, Node};
 use crate::flat_cases::flat_cases;
+use crate::mixed_cases::mixed_cases;
 use crate::name_cases::name_cases;
 use crate::point_cases::point_cases;
 
@@ -94,7 +95,7 @@ pub fn rind_planes() -> Vec<u8> {
 pub const RIND_ARRAY: u64 = 7;
 
 /// All cases, each with its name; (j) has three, those of points begin with `p1_`, those of flat faces and cells with
-/// `f2_`, those of name bytes with `n3_`.
+/// `f2_`, those of name bytes with `n3_`, those of MIXED sections with `m4_`.
 pub fn cases() -> Vec<(&'static str, Vec<u8>)> {
     let a = tetrahedron().to_bytes();
     let b = a[..31].to_vec();
@@ -119,6 +120,7 @@ pub fn cases() -> Vec<(&'static str, Vec<u8>)> {
     cases.extend(point_cases());
     cases.extend(flat_cases());
     cases.extend(name_cases());
+    cases.extend(mixed_cases());
     cases
 }
 

@@ -1,5 +1,5 @@
-//! Element sections (document 01, "Sections"; document 02, §2): their element types, ranges, start offsets and
-//! connectivity, and rules 27 to 35, each as one test that says whether it holds at a validated node.
+//! Element sections (document 01, "Sections"; document 02, §2 and §4): their element types, ranges, start offsets and
+//! connectivity, and rules 27 to 35 and 38, each as one test that says whether it holds at a validated node.
 
 use crate::bytes::Integers;
 use crate::face_ranges::Faces;
@@ -8,6 +8,8 @@ use crate::sids::range_of;
 use crate::sizes::{cell_dimension, zone_sizes};
 use crate::tree::Tree;
 
+/// The element type of a section each of whose elements has a type of its own, stored in front of its nodes.
+pub const MIXED: i64 = 20;
 /// The element type of a section of faces, each a list of nodes.
 pub const NGON_N: i64 = 22;
 /// The element type of a section of cells, each a list of faces.
@@ -20,10 +22,29 @@ pub enum Shape {
     Fixed(u64),
     /// ElementStartOffset says where each element begins.
     Offsets,
+    /// ElementStartOffset says where each element begins, with its own type before its nodes.
+    Mixed,
+}
+
+impl Shape {
+    /// Whether start offsets are needed.
+    pub fn has_offsets(self) -> bool {
+        matches!(self, Shape::Offsets | Shape::Mixed)
+    }
 }
 
 /// The shape of an element type; nothing for a type that is not supported (rule 27).
 pub fn shape_of(element_type: i64) -> Option<Shape> {
+    match element_type {
+        MIXED => Some(Shape::Mixed),
+        NGON_N | NFACE_N => Some(Shape::Offsets),
+        _ => nodes_of(element_type).map(Shape::Fixed),
+    }
+}
+
+/// How many nodes an element of a fixed type has; nothing for another type, so that only these are stored in a MIXED
+/// section (rule 38).
+pub fn nodes_of(element_type: i64) -> Option<u64> {
     let nodes = match element_type {
         2 => 1,
         3 => 2,
@@ -44,10 +65,9 @@ pub fn shape_of(element_type: i64) -> Option<Shape> {
         18 => 20,
         19 => 27,
         21 => 13,
-        NGON_N | NFACE_N => return Some(Shape::Offsets),
         _ => return None,
     };
-    Some(Shape::Fixed(nodes))
+    Some(nodes)
 }
 
 /// The fewest references that an element of a type needs in a base of this CellDimension (document 02, §2), repeats
@@ -99,17 +119,17 @@ impl<'a> SectionData<'a> {
         shape_of(self.element_type)
     }
 
-    /// Whether its elements have start offsets (types 22 and 23).
+    /// Whether its elements have start offsets (types 20, 22 and 23).
     fn has_offsets(&self) -> bool {
-        self.shape() == Some(Shape::Offsets)
+        self.shape().is_some_and(Shape::has_offsets)
     }
 
-    /// Whether connectivity (fixed types) or start offsets (types 22 and 23) have the length that the range asks for.
+    /// Whether connectivity (fixed types) or start offsets (the others) have the length that the range asks for.
     fn lengths_fit(&self) -> bool {
         let count = u128::from(self.element_count());
         match self.shape() {
             Some(Shape::Fixed(nodes)) => self.connectivity.len() as u128 == count * u128::from(nodes),
-            Some(Shape::Offsets) => self.offsets.len() as u128 == count + 1,
+            Some(Shape::Offsets | Shape::Mixed) => self.offsets.len() as u128 == count + 1,
             None => true,
         }
     }
@@ -118,6 +138,27 @@ impl<'a> SectionData<'a> {
     fn all_elements(&self, test: impl Fn(i64, i64) -> bool) -> bool {
         let mut start = None;
         self.offsets.all(|end| start.replace(end).is_none_or(|start| test(start, end)))
+    }
+
+    /// The connectivity entry at an index, counted from 0.
+    fn entry(&self, index: i64) -> Option<i64> {
+        usize::try_from(index).ok().and_then(|index| self.connectivity.get(index))
+    }
+
+    /// Whether the connectivity from `start` to `end` holds an element of a MIXED section: a fixed type, and as many
+    /// entries behind it as that type has nodes.
+    fn is_typed_element(&self, start: i64, end: i64) -> bool {
+        let nodes = self.entry(start).and_then(nodes_of);
+        nodes.is_some_and(|nodes| i128::from(end) - i128::from(start) == i128::from(nodes) + 1)
+    }
+
+    /// Whether `test` holds for each connectivity entry that is a reference: all but the types of a MIXED section.
+    fn all_references(&self, test: impl Fn(i64) -> bool) -> bool {
+        if self.shape() == Some(Shape::Mixed) {
+            self.all_elements(|start, end| (start..end).skip(1).all(|index| self.entry(index).is_none_or(&test)))
+        } else {
+            self.connectivity.all(test)
+        }
     }
 }
 
@@ -190,14 +231,23 @@ pub fn none_flat(tree: &Tree, node: usize) -> bool {
     })
 }
 
-/// Rule 34: every reference of a section that is not of type 23 is a node from 1 to VertexSize.
+/// Rule 38: each element of a section of type 20 has a stored type of the fixed list that fits its start offsets. Asked
+/// of a section that meets rules 29 to 32.
+pub fn stored_types_fit(tree: &Tree, node: usize) -> bool {
+    of_section(tree, node, |s| {
+        s.shape() != Some(Shape::Mixed) || s.all_elements(|start, end| s.is_typed_element(start, end))
+    })
+}
+
+/// Rule 34: every reference of a section that is not of type 23 is a node from 1 to VertexSize. Asked of a section that
+/// meets rules 29 to 32.
 pub fn nodes_in_zone(tree: &Tree, node: usize) -> bool {
     let Some(zone) = tree.parent_labelled(node, Label::Zone) else {
         return true;
     };
     of_section(tree, node, |s| {
         let vertex_size = zone_sizes(tree, zone).vertex_size[0];
-        s.element_type == NFACE_N || s.connectivity.all(|n| 1 <= n && n <= vertex_size)
+        s.element_type == NFACE_N || s.all_references(|n| 1 <= n && n <= vertex_size)
     })
 }
 

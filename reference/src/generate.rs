@@ -4,7 +4,7 @@
 use std::collections::BTreeMap;
 
 use crate::build::Image;
-use crate::damage::{damages_of, flat_case, flips, name_case, point_case, Answer, Damage, DAMAGES};
+use crate::damage::{damages_of, flat_case, flips, mixed_case, name_case, point_case, Answer, Damage, DAMAGES};
 use crate::lawful::{chain, lawful, SizeClass};
 use crate::random::Random;
 use crate::validation::validate;
@@ -26,29 +26,33 @@ enum Target {
     Flat(usize),
     /// A case of name bytes (document 02, §3) of this number.
     Names(usize),
+    /// A case of MIXED sections (document 02, §4) of this number.
+    Mixed(usize),
 }
 
-/// How many indices make a round: each rule once, a lawful image before every second one, five others; eleven cases of
-/// points, a third of their list, eleven of flat faces and cells and eleven of name bytes, half of theirs.
-const ROUND: u64 = 33 + 17 + 5 + 3 * CASES;
+/// How many indices make a round: each rule once, a lawful image before every second one, four others; eleven cases of
+/// points and eleven of MIXED sections, a third of their lists, eleven of flat faces and cells and eleven of name bytes,
+/// half of theirs.
+const ROUND: u64 = 34 + 17 + 4 + 4 * CASES;
 const CASES: u64 = 11;
 
-/// The target of an index: of every eight the last three are cases, each case in its turn.
+/// The target of an index: of every nine the last four are cases, each case in its turn.
 fn target(index: u64) -> Target {
     let (round, place) = (index / ROUND, index % ROUND);
-    let (eight, within) = (place / 8, place % 8);
-    let case = (round * CASES + eight) as usize;
+    let (nine, within) = (place / 9, place % 9);
+    let case = (round * CASES + nine) as usize;
     match within {
         5 => return Target::Points(case),
         6 => return Target::Flat(case),
         7 => return Target::Names(case),
+        8 => return Target::Mixed(case),
         _ => (),
     }
-    let place = (5 * eight + within) as usize;
+    let place = (5 * nine + within) as usize;
     match place {
-        0..50 if place.is_multiple_of(3) => Target::Lawful,
-        0..50 => Target::Rule(DAMAGES[place - place / 3 - 1].0),
-        50..53 => Target::Flips,
+        0..51 if place.is_multiple_of(3) => Target::Lawful,
+        0..51 => Target::Rule(DAMAGES[place - place / 3 - 1].0),
+        51..53 => Target::Flips,
         53 => Target::Several,
         _ if round.is_multiple_of(4) => Target::Deep,
         _ => Target::Several,
@@ -80,6 +84,9 @@ pub fn image(seed: u64, index: u64, class: SizeClass) -> Vec<u8> {
         Target::Names(number) => with_case(&mut random, class, SizeClass::holds_family, |image, random| {
             name_case(image, random, class, number)
         }),
+        Target::Mixed(number) => {
+            with_case(&mut random, class, SizeClass::holds, |image, random| mixed_case(image, random, number))
+        }
     }
 }
 

@@ -1,5 +1,5 @@
 //! The independent reference program: a validator and reader of CGNS node-table images, written from document 01 and
-//! §1 to §3 of document 02 alone.
+//! §1 to §4 of document 02 alone.
 //! Every public call answers on every input; a refusal is a [`Rejection`].
 //!
 //! Data flow one way: bytes → header → records → table → tree → rules → calls.
@@ -19,6 +19,7 @@ pub mod header;
 pub mod labels;
 pub mod lawful;
 pub mod mesh;
+pub mod mixed_cases;
 pub mod name_bytes;
 pub mod name_cases;
 pub mod path;
@@ -40,7 +41,7 @@ pub mod validation;
 pub use faces::{face_count, face_usage};
 pub use name_bytes::name_bytes;
 pub use path::{path, path_into};
-pub use reader::{array_value, corner, corner_reads, corner_reads_into, data_size, element_corners};
+pub use reader::{array_value, corner, corner_reads, corner_reads_into, data_size, element_corners, element_type};
 pub use reader::{section_entries, section_entries_into};
 pub use reader::{CornerRead, Section, Value, ENTRY_LENGTH};
 pub use rejection::Rejection;

@@ -12,6 +12,7 @@ use reference::lawful::SizeClass;
 use reference::mesh::mesh;
 use reference::queries::queries;
 use reference::samples::samples;
+use reference::ENTRY_LENGTH;
 
 const USAGE: &str = "\
 reference validate FILE
@@ -21,6 +22,7 @@ reference path FILE NODE
 reference sizes FILE NODE
 reference entries FILE ZONE
 reference corner FILE E1 .. E9 ELEMENT CORNER
+reference element-type FILE E1 .. E9 ELEMENT
 reference value FILE NODE K
 reference usage FILE ZONE
 reference path-into FILE NODE ROOM
@@ -32,7 +34,7 @@ reference element-into FILE E1 .. E9 ELEMENT ROOM
 reference generate SEED COUNT DIR [small|medium|large]
 reference cases DIR
 reference samples DIR
-reference mesh poly|hex|zones N 4|8 FILE
+reference mesh poly|hex|mixed|zones N 4|8 FILE
 reference answers DIR
 reference queries SEED FILE";
 
@@ -90,13 +92,10 @@ fn answer(call: &str, file: &str, numbers: &[u64]) -> Result<String, String> {
             reads_line(&image()?, zone, length(room)?, &reads)
         }
         ("element-into", [entry @ .., element, room]) => {
-            let entry = entry.try_into().map_err(|_| USAGE.to_string())?;
-            element_into_line(&image()?, &entry, *element, length(*room)?)
+            element_into_line(&image()?, &nine(entry)?, *element, length(*room)?)
         }
-        ("corner", [entry @ .., element, corner]) => {
-            let entry = entry.try_into().map_err(|_| USAGE.to_string())?;
-            corner_line(&image()?, &entry, *element, *corner)
-        }
+        ("corner", [entry @ .., element, corner]) => corner_line(&image()?, &nine(entry)?, *element, *corner),
+        ("element-type", [entry @ .., element]) => element_type_line(&image()?, &nine(entry)?, *element),
         _ => return Err(USAGE.to_string()),
     })
 }
@@ -109,6 +108,11 @@ fn lines(lines: &[String]) -> String {
 /// The number that a word spells.
 fn number(word: &str) -> Result<u64, String> {
     word.parse().map_err(|_| format!("{word}: not a number of 64 bits"))
+}
+
+/// The nine numbers of a section entry.
+fn nine(entry: &[u64]) -> Result<[u64; ENTRY_LENGTH], String> {
+    entry.try_into().map_err(|_| USAGE.to_string())
 }
 
 /// A length of memory, of at most 16 MiB of places.

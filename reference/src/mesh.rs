@@ -1,8 +1,13 @@
-//! Block meshes: a cube of n×n×n cells as hexahedra or as polyhedra, and many small zones. Lawful images of any size up
-//! to the limits, for examples and benchmarks.
+//! Block meshes: a cube of n×n×n cells as hexahedra, as hexahedra between layers of prisms or as polyhedra, and many
+//! small zones. Lawful images of any size up to the limits, for examples and benchmarks.
 
 use crate::build::{Image, Node};
 use crate::cases::beginning;
+use crate::elements::{shape_of, Shape, MIXED, NFACE_N, NGON_N};
+
+/// The element types of hexahedra and of prisms.
+pub const HEXA_8: i64 = 17;
+pub const PENTA_6: i64 = 14;
 
 /// A grid of n×n×n cells: how its vertices, faces and cells are numbered, all from 0.
 #[derive(Clone, Copy, Debug)]
@@ -36,6 +41,23 @@ impl Block {
     fn hexahedron(self, [i, j, k]: [i64; 3]) -> [i64; 8] {
         let v = |a, b, c| self.vertex([i + a, j + b, k + c]);
         [v(0, 0, 0), v(1, 0, 0), v(1, 1, 0), v(0, 1, 0), v(0, 0, 1), v(1, 0, 1), v(1, 1, 1), v(0, 1, 1)]
+    }
+
+    /// The two prisms of the cell at a grid point, each as six vertices in the order of PENTA_6. Their triangles lie
+    /// across the first direction, so that the cells above and below are met by four vertices each.
+    fn prisms(self, point: [i64; 3]) -> [[i64; 6]; 2] {
+        let [a, e, f, b, d, h, g, c] = self.hexahedron(point);
+        [[a, b, c, e, f, g], [a, c, d, e, g, h]]
+    }
+
+    /// How many layers of cells at the bottom, and as many at the top, are prisms in a mesh of both.
+    fn prism_layers(self) -> i64 {
+        (self.n / 8).max(1)
+    }
+
+    /// Whether the cell at a grid point is split into prisms in a mesh of both.
+    fn is_split(self, [_, _, k]: [i64; 3]) -> bool {
+        k.min(self.n - 1 - k) < self.prism_layers()
     }
 
     /// The four vertices of the face across direction `d` at a grid point; its normal points along `d`.
@@ -129,23 +151,27 @@ struct Elements<'a> {
     element_type: i64,
     /// The number of the first element.
     first: i64,
-    /// How many references each element has.
-    size: usize,
+    /// How many connectivity entries each element has.
+    sizes: Vec<i64>,
     connectivity: &'a [i64],
 }
 
+/// The sizes of elements of so many entries each, all of a connectivity together.
+fn equal_sizes(size: usize, connectivity: &[i64]) -> Vec<i64> {
+    vec![size as i64; connectivity.len() / size]
+}
+
 impl Elements<'_> {
-    /// Adds the section to a zone, with start offsets for types 22 and 23, and answers the number after its last element.
+    /// Adds the section to a zone, with start offsets where its type needs them, and answers the number after its last
+    /// element.
     fn add(&self, image: &mut Image, zone: usize, width: usize) -> i64 {
-        let count = (self.connectivity.len() / self.size) as i64;
-        let next = self.first + count;
+        let next = self.first + self.sizes.len() as i64;
         let own = Node::integers(self.name, "Elements_t", 4, &[2], &[self.element_type, 0]);
         let section = image.add(zone, own);
         let range = [self.first, next - 1];
         image.add(section, Node::integers("ElementRange", "IndexRange_t", width, &[2], &range));
-        if matches!(self.element_type, 22 | 23) {
-            let offsets: Vec<i64> = (0..=count).map(|k| k * self.size as i64).collect();
-            image.add(section, Node::list("ElementStartOffset", width, &offsets));
+        if shape_of(self.element_type).is_some_and(Shape::has_offsets) {
+            image.add(section, Node::start_offsets(width, &self.sizes));
         }
         image.add(section, Node::list("ElementConnectivity", width, self.connectivity));
         next
@@ -158,8 +184,8 @@ fn add_base(image: &mut Image) -> usize {
 }
 
 /// Adds an unstructured zone of a block.
-fn add_zone(image: &mut Image, base: usize, name: &str, block: Block, width: usize) -> usize {
-    let sizes = [block.vertices(), block.cells(), 0];
+fn add_zone(image: &mut Image, base: usize, name: &str, block: Block, cells: i64, width: usize) -> usize {
+    let sizes = [block.vertices(), cells, 0];
     let zone = image.add(base, Node::integers(name, "Zone_t", width, &[1, 3], &sizes));
     image.add(zone, Node::text("ZoneType", "ZoneType_t", "Unstructured"));
     zone
@@ -170,27 +196,29 @@ pub fn polyhedra(n: i64, width: usize) -> Image {
     let block = Block { n };
     let mut image = beginning();
     let base = add_base(&mut image);
-    let zone = add_zone(&mut image, base, "Polyhedra", block, width);
+    let zone = add_zone(&mut image, base, "Polyhedra", block, block.cells(), width);
     block.add_coordinates(&mut image, zone);
     let faces = block.faces();
     let cells: Vec<i64> = block.cell_points().flat_map(|point| block.cell_faces(point, &faces)).collect();
+    let mut add = |name, element_type, first, size, connectivity: &[i64]| {
+        let sizes = equal_sizes(size, connectivity);
+        Elements { name, element_type, first, sizes, connectivity }.add(&mut image, zone, width)
+    };
     let mut next = 1;
     if !faces.inner.is_empty() {
-        let inner = Elements { name: "InnerFaces", element_type: 22, first: next, size: 4, connectivity: &faces.inner };
-        next = inner.add(&mut image, zone, width);
+        next = add("InnerFaces", NGON_N, next, 4, &faces.inner);
     }
     let after_outer = next + (faces.outer.len() / 4) as i64;
-    Elements { name: "Cells", element_type: 23, first: after_outer, size: 6, connectivity: &cells }
-        .add(&mut image, zone, width);
-    Elements { name: "OuterFaces", element_type: 22, first: next, size: 4, connectivity: &faces.outer }
-        .add(&mut image, zone, width);
+    add("Cells", NFACE_N, after_outer, 6, &cells);
+    add("OuterFaces", NGON_N, next, 4, &faces.outer);
     image
 }
 
 /// Adds n×n×n hexahedra to a zone.
 fn add_hexahedra(image: &mut Image, zone: usize, block: Block, width: usize) {
     let cells: Vec<i64> = block.cell_points().flat_map(|point| block.hexahedron(point)).collect();
-    Elements { name: "Hexahedra", element_type: 17, first: 1, size: 8, connectivity: &cells }.add(image, zone, width);
+    let sizes = equal_sizes(8, &cells);
+    Elements { name: "Hexahedra", element_type: HEXA_8, first: 1, sizes, connectivity: &cells }.add(image, zone, width);
 }
 
 /// n×n×n cells as hexahedra.
@@ -198,9 +226,35 @@ pub fn hexahedra(n: i64, width: usize) -> Image {
     let block = Block { n };
     let mut image = beginning();
     let base = add_base(&mut image);
-    let zone = add_zone(&mut image, base, "Hexahedra", block, width);
+    let zone = add_zone(&mut image, base, "Hexahedra", block, block.cells(), width);
     block.add_coordinates(&mut image, zone);
     add_hexahedra(&mut image, zone, block, width);
+    image
+}
+
+/// n×n×n cells in one MIXED section, layer by layer: hexahedra, and at the bottom and at the top an eighth of the layers,
+/// one at least, whose cells are two prisms each.
+pub fn mixed(n: i64, width: usize) -> Image {
+    let block = Block { n };
+    let (mut sizes, mut connectivity) = (Vec::new(), Vec::new());
+    let mut element = |element_type, nodes: &[i64]| {
+        sizes.push(1 + nodes.len() as i64);
+        connectivity.push(element_type);
+        connectivity.extend_from_slice(nodes);
+    };
+    for point in block.cell_points() {
+        if block.is_split(point) {
+            block.prisms(point).iter().for_each(|prism| element(PENTA_6, prism));
+        } else {
+            element(HEXA_8, &block.hexahedron(point));
+        }
+    }
+    let mut image = beginning();
+    let base = add_base(&mut image);
+    let zone = add_zone(&mut image, base, "Mixed", block, sizes.len() as i64, width);
+    block.add_coordinates(&mut image, zone);
+    Elements { name: "Cells", element_type: MIXED, first: 1, sizes, connectivity: &connectivity }
+        .add(&mut image, zone, width);
     image
 }
 
@@ -250,7 +304,7 @@ pub fn zones(count: i64, width: usize) -> Image {
         match k % 4 {
             0 | 2 => {
                 let block = Block { n: 2 };
-                let zone = add_zone(&mut image, base, &name, block, width);
+                let zone = add_zone(&mut image, base, &name, block, block.cells(), width);
                 add_hexahedra(&mut image, zone, block, width);
             }
             place => {
@@ -272,8 +326,9 @@ pub fn mesh(kind: &str, n: u64, width: u64) -> Result<Vec<u8>, String> {
     let make = match kind {
         "poly" => polyhedra,
         "hex" => hexahedra,
+        "mixed" => mixed,
         "zones" => zones,
-        _ => return Err(format!("{kind}: not poly, hex or zones")),
+        _ => return Err(format!("{kind}: not poly, hex, mixed or zones")),
     };
     if !matches!(width, 4 | 8) {
         return Err(format!("{width}: not a width of 4 or 8"));

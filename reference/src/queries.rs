@@ -1,5 +1,7 @@
 //! A list of queries of an image with their answers, for programs that compare another reader with this one.
 
+mod types;
+
 use crate::answers::*;
 use crate::faces::face_count;
 use crate::labels::Label;
@@ -20,6 +22,7 @@ pub fn queries(seed: u64, image: &[u8]) -> Vec<String> {
     asker.absurd_corners();
     asker.lists(&nodes);
     asker.absurd_elements();
+    asker.absurd_types();
     asker.lines
 }
 
@@ -152,19 +155,29 @@ impl Asker<'_> {
             self.corner(&numbers, element, 1);
         }
         for _ in 0..4 {
-            let element = entry.first + self.random.below(entry.last - entry.first + 1);
-            let corner = self.random.below(9);
+            let (element, corner) = (self.inside(entry), self.random.below(9));
             self.corner(&numbers, element, corner);
         }
         for _ in 0..6 {
-            let mut other = numbers;
-            let place = self.random.index(ENTRY_LENGTH);
-            other[place] = self.odd_number(numbers[place]);
+            let other = self.other_entry(entry);
             let element = self.odd_number(entry.first);
             let (first, corner) = (entry.first, self.random.below(5));
             self.corner(&other, first, corner);
             self.corner(&other, element, corner);
         }
+    }
+
+    /// Any element of a section.
+    fn inside(&mut self, entry: &Section) -> u64 {
+        entry.first + self.random.below(entry.last - entry.first + 1)
+    }
+
+    /// An entry with one number changed.
+    fn other_entry(&mut self, entry: &Section) -> [u64; ENTRY_LENGTH] {
+        let mut other = entry.numbers();
+        let place = self.random.index(ENTRY_LENGTH);
+        other[place] = self.odd_number(other[place]);
+        other
     }
 
     /// How many corners an element has; 64 where it has more, or is not of the section.
@@ -239,7 +252,8 @@ impl Asker<'_> {
         }
     }
 
-    /// A zone's entries as structs, with memory of several lengths; reads by its entries; elements of its sections.
+    /// A zone's entries as structs, with memory of several lengths; reads by its entries; elements of its sections and
+    /// their types.
     fn lists_of_zone(&mut self, zone: u64) {
         let entries = section_entries(self.image, zone).unwrap_or_default();
         let count = entries.len();
@@ -251,6 +265,8 @@ impl Asker<'_> {
         }
         for entry in &entries {
             self.elements(entry);
+            self.types(entry);
+            self.stored_types(entry);
         }
     }
 
@@ -279,7 +295,7 @@ impl Asker<'_> {
         let element = match self.random.below(6) {
             0 => self.odd_number(entry.last),
             1 => entry.last,
-            _ => entry.first + self.random.below(entry.last - entry.first + 1),
+            _ => self.inside(entry),
         };
         let size = self.size(&entry.numbers(), element);
         [which as u64, element, self.random.below(size + 2)]
@@ -299,10 +315,7 @@ impl Asker<'_> {
             self.element(&numbers, element, 2);
         }
         for _ in 0..6 {
-            let mut other = numbers;
-            let place = self.random.index(ENTRY_LENGTH);
-            other[place] = self.odd_number(numbers[place]);
-            let element = entry.first + self.random.below(entry.last - entry.first + 1);
+            let (other, element) = (self.other_entry(entry), self.inside(entry));
             let room = self.random.index(9);
             self.element(&other, element, room);
         }

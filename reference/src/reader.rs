@@ -1,9 +1,9 @@
-//! What is read from an image (document 01, "Handing out"): sizes of arrays, section entries, corners of elements and
-//! array values.
+//! What is read from an image (document 01, "Handing out"; document 02, §4): sizes of arrays, section entries, corners and
+//! types of elements, and array values.
 
 use crate::bytes::{signed_at, u32_at, u64_at};
 use crate::data_type::DataType;
-use crate::elements::{shape_of, SectionData, Shape};
+use crate::elements::{nodes_of, shape_of, SectionData, Shape};
 use crate::labels::Label;
 use crate::rejection::Rejection;
 use crate::sizes::{data_size_of, DataSize};
@@ -106,18 +106,19 @@ pub fn section_entries_into(image: &[u8], zone: u64, out: &mut [Section]) -> Res
 /// The signed number at a corner of an element, by any nine numbers and any bytes; or 41, 43, 42, in that order.
 pub fn corner(image: &[u8], section: &[u64; ENTRY_LENGTH], element: u64, corner: u64) -> Result<i64, Rejection> {
     let section = Section::of_numbers(section);
-    if element < section.first || section.last < element {
-        return Err(Rejection::of_call(41));
-    }
-    let span = element_span(image, &section, element).ok_or(Rejection::of_call(43))?;
-    let size = span.end - span.start;
+    let read = read_element(image, &section, element)?;
+    let size = read.corners.end - read.corners.start;
     if corner == 0 || u128::from(corner) > size {
         return Err(Rejection::of_call(42));
     }
-    let index = span.start + u128::from(corner) - 1;
-    let width = u128::from(section.connectivity_width);
-    let at = u128::from(section.connectivity_at) + width * index;
-    read_signed(image, at, section.connectivity_width).ok_or(Rejection::of_call(43))
+    let index = read.corners.start + u128::from(corner) - 1;
+    connectivity_entry(image, &section, index).ok_or(Rejection::of_call(43))
+}
+
+/// The type of an element, by any nine numbers and any bytes: the stored one in a section of type 20, else the
+/// section's; or 41, 43, in that order.
+pub fn element_type(image: &[u8], section: &[u64; ENTRY_LENGTH], element: u64) -> Result<u64, Rejection> {
+    read_element(image, &Section::of_numbers(section), element).map(|read| read.element_type)
 }
 
 /// All corners of an element, from 1 on, to the front of `out`, and how many they are; or 41, 43, and 46 where `out` is too short.
@@ -140,10 +141,46 @@ pub fn element_corners(
     Ok(corners.len())
 }
 
-/// Where an element lies in the connectivity, counted from 0; start is below end, and end within the connectivity.
+/// Where an element, or what it refers to, lies in the connectivity, counted from 0; start is below end, and end within
+/// the connectivity.
+#[derive(Clone, Copy, Debug)]
 struct Span {
     start: u128,
     end: u128,
+}
+
+/// An element as the calls read it.
+struct ReadElement {
+    element_type: u64,
+    /// Its corners: all of its entries but the stored type of an element of a MIXED section.
+    corners: Span,
+}
+
+/// An element of a section; or 41, 43, in that order.
+fn read_element(image: &[u8], section: &Section, element: u64) -> Result<ReadElement, Rejection> {
+    if element < section.first || section.last < element {
+        return Err(Rejection::of_call(41));
+    }
+    let read = element_span(image, section, element).and_then(|span| own_element(image, section, span));
+    read.ok_or(Rejection::of_call(43))
+}
+
+/// The element that a span holds; nothing in a section of type 20 whose stored type is not of the fixed list or does not
+/// fit the span.
+fn own_element(image: &[u8], section: &Section, span: Span) -> Option<ReadElement> {
+    if shape_of(i64::try_from(section.element_type).ok()?)? != Shape::Mixed {
+        return Some(ReadElement { element_type: section.element_type, corners: span });
+    }
+    let stored = connectivity_entry(image, section, span.start)?;
+    let fits = u128::from(nodes_of(stored)?) + 1 == span.end - span.start;
+    let corners = Span { start: span.start + 1, end: span.end };
+    fits.then_some(ReadElement { element_type: u64::try_from(stored).ok()?, corners })
+}
+
+/// The connectivity entry at an index, counted from 0; nothing where it cannot be read.
+fn connectivity_entry(image: &[u8], section: &Section, index: u128) -> Option<i64> {
+    let width = section.connectivity_width;
+    read_signed(image, u128::from(section.connectivity_at) + u128::from(width) * index, width)
 }
 
 /// The span of an element in the section's range; nothing where rule 43 is to be given.
@@ -157,7 +194,7 @@ fn element_span(image: &[u8], section: &Section, element: u64) -> Option<Span> {
             let start = index * u128::from(nodes);
             (start, start + u128::from(nodes))
         }
-        Shape::Offsets => start_offsets(image, section, index)?,
+        Shape::Offsets | Shape::Mixed => start_offsets(image, section, index)?,
     };
     (connectivity && start < end && end <= length).then_some(Span { start, end })
 }

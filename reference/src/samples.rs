@@ -1,8 +1,8 @@
-//! The sample images: small lawful meshes, flow data at points, and one near miss for each of rules 29 to 35.
+//! The sample images: small lawful meshes, flow data at points, and one near miss for each of rules 29 to 35 and 38.
 
 use crate::build::{Image, Node};
 use crate::cases::{beginning, case};
-use crate::mesh::{hexahedra, polyhedra, structured};
+use crate::mesh::{hexahedra, mixed, polyhedra, structured, HEXA_8};
 
 /// All samples, each with its name.
 pub fn samples() -> Vec<(&'static str, Vec<u8>)> {
@@ -11,6 +11,7 @@ pub fn samples() -> Vec<(&'static str, Vec<u8>)> {
         ("structured_rind", structured(4, 4).to_bytes()),
         ("polyhedra", polyhedra(2, 4).to_bytes()),
         ("hexahedra", hexahedra(3, 8).to_bytes()),
+        ("mixed", mixed(3, 4).to_bytes()),
         ("wall", wall().to_bytes()),
         ("near_29", case("h")),
         ("near_30", case("e")),
@@ -19,7 +20,19 @@ pub fn samples() -> Vec<(&'static str, Vec<u8>)> {
         ("near_33", case("f2_face")),
         ("near_34", case("i")),
         ("near_35", case("j5")),
+        ("near_38", prism_as_hexahedron().to_bytes()),
     ]
+}
+
+/// The sample of hexahedra and prisms with the last prism stored as a hexahedron.
+fn prism_as_hexahedron() -> Image {
+    let mut image = mixed(3, 4);
+    let last = image.nodes.len() - 1;
+    let mut connectivity = image.nodes[last].numbers();
+    let of_last = connectivity.len() - 7;
+    connectivity[of_last] = HEXA_8;
+    image.nodes[last].set_numbers(&connectivity);
+    image
 }
 
 /// A structured zone of 4×3×2 vertices with coordinates; pressure on the wall where the last direction begins, by a

@@ -1,7 +1,7 @@
 //! The whole verdict (document 01, "Rule numbers"): header, records, trailing words or bytes, then the nodes in order, at
-//! a node the lowest rule first.
+//! a node the lowest rule first, but for 38, which comes before 34 (document 02, §4).
 
-use crate::elements::{faces_in_zone, nodes_in_zone, none_flat};
+use crate::elements::{faces_in_zone, nodes_in_zone, none_flat, stored_types_fit};
 use crate::elements::{first_offset_zero, last_offset_is_length, offsets_rise};
 use crate::elements::{lengths_fit, range_free, type_taken};
 use crate::labels::Label;
@@ -22,8 +22,8 @@ pub struct Counts {
 
 type NodeRule = (u32, fn(&Tree, usize) -> bool);
 
-/// The rules of a validated node, ascending. This list alone knows their order.
-const NODE_RULES: [NodeRule; 16] = [
+/// The rules of a validated node in the order in which they are asked. This list alone knows it.
+const NODE_RULES: [NodeRule; 17] = [
     (20, contained),
     (21, fixed_name_used),
     (22, allowed_again),
@@ -38,6 +38,7 @@ const NODE_RULES: [NodeRule; 16] = [
     (31, offsets_rise),
     (32, last_offset_is_length),
     (33, none_flat),
+    (38, stored_types_fit),
     (34, nodes_in_zone),
     (35, faces_in_zone),
 ];
@@ -58,7 +59,7 @@ pub fn validated_tree(image: &[u8]) -> Result<Tree<'_>, Rejection> {
     Ok(tree)
 }
 
-/// The lowest broken rule of a validated node.
+/// The first broken rule of a validated node.
 fn check_node(tree: &Tree, node: usize) -> Result<(), Rejection> {
     for (rule, holds) in NODE_RULES {
         if !holds(tree, node) {

@@ -20,7 +20,7 @@ fn folder(name: &str) -> PathBuf {
 #[test]
 fn calls() {
     let place = folder("cases");
-    assert_eq!(run(&["cases", place.to_str().unwrap()]), "cases 61\n");
+    assert_eq!(run(&["cases", place.to_str().unwrap()]), "cases 94\n");
     let file = |name: &str| place.join(format!("{name}.img")).to_str().unwrap().to_string();
     let (a, l) = (file("a"), file("l"));
     assert_eq!(run(&["validate", &a]), "accept 17 0 1 2\n");
@@ -34,6 +34,11 @@ fn calls() {
     assert_eq!(run(&["entries", &a, "3"]), entries);
     let corner = ["corner", &a, "9", "22", "1", "4", "1736", "4", "1756", "4", "12", "4", "1"];
     assert_eq!(run(&corner), "corner 3\n");
+    let element_type = ["element-type", &a, "9", "22", "1", "4", "1736", "4", "1756", "4", "12", "4"];
+    assert_eq!(run(&element_type), "type 22\n");
+    let mixed = ["element-type", &file("m4_three"), "5", "20", "1", "3", "912", "4", "928", "4", "21", "2"];
+    assert_eq!(run(&mixed), "type 14\n");
+    assert_eq!(run(&["element-type", &a, "1"]), "");
     assert_eq!(run(&["value", &a, "2", "1"]), "whole 3\n");
     assert_eq!(run(&["usage", &file("k"), "3"]), "usage 4 1 1 3 0\n");
     assert_eq!(run(&["usage", &l, "3"]), "refuse 45 13 5\n");

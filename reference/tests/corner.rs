@@ -113,7 +113,7 @@ fn fixed_types_need_no_offsets() {
 #[test]
 fn unreadable_entries() {
     let entry = [0, 22, 1, 1, 0, 4, 24, 4, 4];
-    for (place, number) in [(1, 20), (1, 0), (1, u64::MAX), (5, 0), (5, 3), (5, 16), (7, 0), (7, 5), (7, u64::MAX)] {
+    for (place, number) in [(1, 24), (1, 0), (1, u64::MAX), (5, 0), (5, 3), (5, 16), (7, 0), (7, 5), (7, u64::MAX)] {
         let mut other = entry;
         other[place] = number;
         assert_eq!(rule(corner(&bytes(), &other, 1, 9)), 43, "{place} {number}");

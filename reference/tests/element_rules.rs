@@ -1,5 +1,5 @@
 //! Rules 27 to 35 on changes of case (a): 9 faces (10 range, 11 offsets, 12 nodes), 13 cells (14, 15, 16). For rule 33 see
-//! `flat.rs`.
+//! `flat.rs`, for sections of type 20 `mixed/`.
 
 use reference::build::{Image, Node};
 use reference::cases::tetrahedron;
@@ -39,7 +39,8 @@ fn element_types() {
         assert_eq!(shape_of(k as i64 + 2), Some(Shape::Fixed(count)));
     }
     assert_eq!(shape_of(21), Some(Shape::Fixed(13)));
-    for element_type in [0, 1, 20, 24, 57, -1, -22, i64::from(i32::MIN)] {
+    assert_eq!(shape_of(20), Some(Shape::Mixed));
+    for element_type in [0, 1, 24, 57, -1, -20, -22, i64::from(i32::MIN)] {
         assert_eq!(shape_of(element_type), None);
         assert_eq!(changed(|i| i.nodes[9].set_numbers(&[element_type, 0])), (27, 9));
     }

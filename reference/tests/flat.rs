@@ -109,7 +109,7 @@ fn the_sizes_come_behind_the_offsets() {
         refusal(&image)
     };
     assert_eq!(with(|_| ()), (33, 4));
-    assert_eq!(with(|i| i.nodes[4].set_numbers(&[20, 0])), (27, 4));
+    assert_eq!(with(|i| i.nodes[4].set_numbers(&[24, 0])), (27, 4));
     assert_eq!(with(|i| i.nodes[5].set_numbers(&[1, 4])), (29, 4));
     assert_eq!(with(|i| i.nodes[6].set_numbers(&[-1, 1, 3, 6])), (30, 4));
     assert_eq!(with(|i| i.nodes[6].set_numbers(&[0, 1, 1, 6])), (31, 4));

@@ -4,7 +4,9 @@
 use std::collections::BTreeMap;
 
 use reference::build::Image;
-use reference::damage::{flat_case, name_case, point_case, Answer, DAMAGES, FLAT_CASES, NAME_CASES, POINT_CASES};
+use reference::damage::{flat_case, mixed_case, name_case, point_case, Answer, DAMAGES};
+use reference::damage::{FLAT_CASES, MIXED_CASES, NAME_CASES, POINT_CASES};
+use reference::elements::{shape_of, Shape};
 use reference::generate::{image, Summary};
 use reference::lawful::{lawful, SizeClass};
 use reference::points::point_count;
@@ -12,9 +14,8 @@ use reference::queries::queries;
 use reference::random::Random;
 use reference::table::Table;
 use reference::validation::validated_tree;
-use reference::{
-    array_value, check_table, corner, face_count, face_usage, path, section_entries, validate, Section, Value,
-};
+use reference::{array_value, check_table, corner, element_type, face_count, face_usage, path, section_entries};
+use reference::{validate, Section, Value};
 
 #[test]
 fn every_rule_is_met() {
@@ -70,6 +71,11 @@ fn cases_of_points_are_answered_as_they_say() {
 #[test]
 fn cases_of_flat_elements_are_answered_as_they_say() {
     check_cases(&FLAT_CASES.map(|case| case.0), 1, flat_case);
+}
+
+#[test]
+fn cases_of_mixed_sections_are_answered_as_they_say() {
+    check_cases(&MIXED_CASES.map(|case| case.0), 3, mixed_case);
 }
 
 #[test]
@@ -224,7 +230,7 @@ fn any_bytes_end_properly() {
 }
 
 /// Every read of an accepted image by its entries: no 43, nodes in range, faces of exactly one face section, elements
-/// not flat, and the sum of all uses (demand 3 and the face usage's count).
+/// not flat and of the size of their type, and the sum of all uses (demand 3 and the face usage's count).
 fn check_promises(image: &[u8]) {
     let count = Table::read(image).map_or(0, |table| table.nodes.len() as u64);
     for zone in 0..count {
@@ -264,6 +270,12 @@ fn check_sections(image: &[u8], zone: u64, entries: &[Section]) {
         for element in entry.first..=entry.last {
             let size = size_of(image, entry, element);
             assert!(size >= least);
+            let own_type = element_type(image, &entry.numbers(), element).unwrap();
+            if entry.element_type == 20 {
+                assert_eq!(shape_of(own_type as i64), Some(Shape::Fixed(size)));
+            } else {
+                assert_eq!(own_type, entry.element_type);
+            }
             for c in 1..=size {
                 let number = corner(image, &entry.numbers(), element, c).unwrap();
                 if entry.element_type == 23 {

@@ -1,14 +1,15 @@
 //! The worked cases (a) to (m) of document 01, with their face usage and sizes, and those of points, of flat faces and
-//! cells and of name bytes (document 02, §1 to §3).
+//! cells, of name bytes and of MIXED sections (document 02, §1 to §4).
 
 use reference::answers::validate_line;
 use reference::bytes::u32_at;
 use reference::cases::{case, cases, RIND_ARRAY};
 
-use reference::{check_table, data_size, face_usage, validate, Counts, Rejection};
+use reference::{check_table, corner, data_size, element_type, face_usage, section_entries, validate};
+use reference::{Counts, Rejection};
 
 /// The cases with their verdicts.
-const VERDICTS: [(&str, &str); 61] = [
+const VERDICTS: [(&str, &str); 94] = [
     ("a", "accept 17 0 1 2"),
     ("b", "refuse 1 0"),
     ("c", "refuse 4 0"),
@@ -70,6 +71,39 @@ const VERDICTS: [(&str, &str); 61] = [
     ("n3_twins", "refuse 11 5"),
     ("n3_far_twin", "refuse 11 21"),
     ("n3_skipped_twin", "refuse 11 9"),
+    ("m4_prism", "accept 9 0 1 1"),
+    ("m4_three", "accept 9 0 1 1"),
+    ("m4_wide", "accept 9 0 1 1"),
+    ("m4_wide_offsets", "accept 9 0 1 1"),
+    ("m4_wide_connectivity", "accept 9 0 1 1"),
+    ("m4_quadrilateral", "accept 9 0 1 1"),
+    ("m4_one_vertex", "accept 9 0 1 1"),
+    ("m4_small", "accept 9 0 1 1"),
+    ("m4_faces", "refuse 38 5"),
+    ("m4_cells", "refuse 38 5"),
+    ("m4_mixed", "refuse 38 5"),
+    ("m4_none", "refuse 38 5"),
+    ("m4_other_size", "refuse 38 5"),
+    ("m4_shifted", "refuse 38 5"),
+    ("m4_type_alone", "refuse 38 5"),
+    ("m4_unlisted_alone", "refuse 38 5"),
+    ("m4_negative", "refuse 38 5"),
+    ("m4_beyond", "refuse 38 5"),
+    ("m4_least", "refuse 38 5"),
+    ("m4_node_then_type", "refuse 38 5"),
+    ("m4_type_then_node", "refuse 38 5"),
+    ("m4_node_zero", "refuse 34 5"),
+    ("m4_node_above", "refuse 34 5"),
+    ("m4_node_negative", "refuse 34 5"),
+    ("m4_range", "refuse 29 5"),
+    ("m4_no_offsets", "refuse 29 5"),
+    ("m4_first_offset", "refuse 30 5"),
+    ("m4_rise", "refuse 31 5"),
+    ("m4_length", "refuse 32 5"),
+    ("m4_faces_instead", "refuse 34 5"),
+    ("m4_beside_faces", "accept 21 0 1 3"),
+    ("m4_cell_of_mixed", "refuse 35 13"),
+    ("m4_meets", "refuse 28 17"),
 ];
 
 #[test]
@@ -135,4 +169,23 @@ fn usage_of_flat_cases() {
     assert_eq!(out, [0, 0, 0, 0, 9]);
     assert_eq!(face_usage(&case("f2_cell"), 3, &mut out), Err(Rejection::at_node(33, 13)));
     assert_eq!(out, [0, 0, 0, 0, 9]);
+}
+
+#[test]
+fn corners_and_types_of_mixed_cases() {
+    for name in ["m4_three", "m4_wide", "m4_wide_offsets", "m4_wide_connectivity"] {
+        let image = case(name);
+        let section = section_entries(&image, 3).unwrap()[0].numbers();
+        let elements: [(u64, &[i64]); 3] =
+            [(17, &[1, 2, 3, 4, 5, 6, 7, 8]), (14, &[2, 9, 3, 6, 10, 7]), (10, &[6, 10, 7, 11])];
+        for (element, (own_type, nodes)) in (1..).zip(elements) {
+            assert_eq!(element_type(&image, &section, element), Ok(own_type), "{name}");
+            for (c, &node) in (1..).zip(nodes) {
+                assert_eq!(corner(&image, &section, element, c), Ok(node), "{name}");
+            }
+            for c in [0, nodes.len() as u64 + 1] {
+                assert_eq!(corner(&image, &section, element, c), Err(Rejection::of_call(42)), "{name}");
+            }
+        }
+    }
 }

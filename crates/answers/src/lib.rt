@@ -9,7 +9,7 @@ ghost use Rattle.model.specs.Lists.{over};
 ghost use Rattle.model.specs.Bytes.{leBytes, allBytes};
 ghost use Rattle.model.specs.ReadList.{ruleOf};
 ghost use Rattle.model.specs.Answers.{validationTells, countTells, usageTells, cornerTells, valueTells, dataSizeTells, NanCases};
-ghost use Rattle.model.specs.Exports.{validationWords, countWords, usageWords, valueWords, sizeWords, numberBytes, sizeWord};
+ghost use Rattle.model.specs.Exports.{validationWords, countWords, usageWords, valueWords, sizeWords, numberBytes, countWord};
 use model::ArrayValue;
 use model::Corner;
 use model::Count;
@@ -159,18 +159,18 @@ pub fn put_corner(c: Corner, number: &mut [u8]) -> u64
     }
 }
 
-// Writes an element's size in front of lent bytes, 0 of a refusal, and answers the rule.
-pub fn put_size(c: Count, size: &mut [u8]) -> u64
-    requires { ⌜ 8 ≤ length (now size) ⌝ }
-    ensures { λ r. ⌜ (r ≡ ruleOf (countTells c)) × (now (size .exit) ≡ over (now (size .entry)) (leBytes 8 (sizeWord (countTells c)))) ⌝ }
+// Writes an element's size or type in front of lent bytes, 0 of a refusal, and answers the rule.
+pub fn put_count(c: Count, count: &mut [u8]) -> u64
+    requires { ⌜ 8 ≤ length (now count) ⌝ }
+    ensures { λ r. ⌜ (r ≡ ruleOf (countTells c)) × (now (count .exit) ≡ over (now (count .entry)) (leBytes 8 (countWord (countTells c)))) ⌝ }
 {
     match c {
         Count::Of(n) => {
-            words::put_word(size, 0, 8, n);
+            words::put_word(count, 0, 8, n);
             0
         }
         Count::Rejected(r) => {
-            words::put_word(size, 0, 8, 0);
+            words::put_word(count, 0, 8, 0);
             r.rule
         }
     }

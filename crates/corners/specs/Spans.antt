@@ -3,14 +3,15 @@ use Prim.Native.Nat.{ℕ, suc, _+_, _*_, _-_, _≤_, _<_}
 use mathlib.Core.Path.{_≡_}
 use mathlib.Core.Bool.{Bool, true, false, not, _&&_}
 use mathlib.Core.List.{List, [], _∷_}
-use lib.Dec.{leb, ltb}
+use lib.Dec.{eqb, leb, ltb}
 use lib.ListN.{length}
 use lib.IntN.{ℤ}
 use Rattle.model.specs.declared.Section.{Section}
 use Rattle.model.specs.Bytes.{negative, below, signed}
 use Rattle.model.specs.Lists.{over}
 use Rattle.model.specs.Rules.{_unless_, Answer, check, _gives_, leaves}
-use Rattle.model.specs.Corner.{inside, numberAt, entryStart, readable}
+use Rattle.model.specs.Elements.{MIXED, fitsLength, cornerPlace}
+use Rattle.model.specs.Corner.{inside, numberAt, layoutIn, entryStart, readable}
 use Rattle.model.specs.ReadList.{valuesFrom}
 use Rattle.rows.specs.declared.Row.{Row}
 use Rattle.corners.specs.declared.spans.Span.{Span}
@@ -35,21 +36,30 @@ unfoldable pub offsetSpan : List ℕ → ℕ → ℕ → ℕ → ℕ → Span
 offsetSpan b at w k length =
     provided (inside b at w (k + 2)) (rangeBetween w (numberAt b at w k) (numberAt b at w (suc k)) length)
 
--- the k-th element of a section, where rule 43 is kept
+-- an element of a MIXED section begins with a type of the fixed list that has as many nodes as numbers follow; these are its corners
+unfoldable pub behindType : List ℕ → ℕ → ℕ → Span → Span
+behindType b at w (Span.Range start end) =
+    provided (fitsLength (numberAt b at w start) (end - start)) (Span.Range (start + 1) end)
+behindType b at w Span.Unreadable = Span.Unreadable
+
+unfoldable pub mixedSpan : List ℕ → ℕ → ℕ → ℕ → Span → Span
+mixedSpan b type at w s = provided (eqb type MIXED) (behindType b at w s)
+
+-- the corners of the k-th element of a section, where rule 43 is kept
 unfoldable pub spanOf : List ℕ → Section → ℕ → Span
-spanOf b e k = provided (readable b e k) (Span.Range (entryStart b e k) (entryStart b e (suc k)))
+spanOf b e k = provided (readable b e k) (Span.Range (cornerPlace (layoutIn b e) k 1) (entryStart b e (suc k)))
 
 -- a range has a corner, and lies within the connectivity
 abbrev pub SpanIn : ℕ → Span → Type 0
 SpanIn length (Span.Range start end) = (start < end) × (end ≤ length)
 SpanIn length Span.Unreadable = Unit
 
--- and the connectivity lies in the image
+-- the connectivity lies in the image, and a range in it
+abbrev pub held : List ℕ → Section → Bool
+held b e = inside b (e .«connectivity_at») (e .«connectivity_width») (e .«connectivity_length»)
+
 abbrev pub SpanInside : List ℕ → Section → Span → Type 0
-SpanInside b e (Span.Range start end) =
-    (start < end)
-    × (end ≤ e .«connectivity_length»)
-    × (inside b (e .«connectivity_at») (e .«connectivity_width») (e .«connectivity_length») ≡ true)
+SpanInside b e (Span.Range start end) = (start < end) × (end ≤ e .«connectivity_length») × (held b e ≡ true)
 SpanInside b e Span.Unreadable = Unit
 
 -- what is left to check once the element's range is known: 42, and the number

@@ -4,16 +4,16 @@ ghost use Prim.Native.Nat.{_+_, _≤_, _<_};
 ghost use mathlib.Core.Bool.{true};
 ghost use lib.ListN.{length};
 ghost use Rattle.model.specs.Lists.{over};
-ghost use Rattle.model.specs.Corner.{inside};
 ghost use Rattle.rows.specs.Rows.{Numbers};
 ghost use Rattle.model.specs.ElementCorners.{elementCornersAnswer, elementCornersMemory};
 ghost use Rattle.model.specs.Answers.{countTells};
-ghost use Rattle.corners.specs.Spans.{rowValues, cornersIn, cornersInMemory};
+ghost use Rattle.corners.specs.Spans.{held, rowValues, cornersIn, cornersInMemory};
 use super::spans::Span;
+use super::spans::behind_type;
 use super::spans::fixed_span;
 use super::spans::offset_span;
-use element_types::has_offsets;
 use element_types::nodes_per;
+use element_types::of_any_size;
 use model::Count;
 use model::Rejection;
 use model::Section;
@@ -70,7 +70,7 @@ fn put_numbers(image: &[u8], row: Row, start: usize, n: usize, out: &mut [i64])
 // The corners of the element that stands from `start` on and before `end` in the connectivity.
 fn corners_in(image: &[u8], section: Section, start: u64, end: u64, out: &mut [i64]) -> Count
     requires { ⌜ (start < end) × (end ≤ section .«connectivity_length»)
-        × (inside (now image) (section .«connectivity_at») (section .«connectivity_width») (section .«connectivity_length») ≡ true) ⌝ }
+        × (held (now image) section ≡ true) ⌝ }
     ensures { λ r. ⌜ (countTells r ≡ cornersIn start end (length (now (out .entry))))
         × (now (out .exit) ≡ cornersInMemory (now (image .entry)) section start end (now (out .entry))) ⌝ }
 {
@@ -107,10 +107,19 @@ pub fn element_corners(image: &[u8], section: Section, element: u64, out: &mut [
         return Count::Rejected(Rejection::at(43, 0));
     }
     let k = element - first;
-    let span = if has_offsets(section.element_type) {
-        offset_span(image, section.offsets_at, section.offsets_width, k, length)
+    let section_type = section.element_type;
+    let offsets_at = section.offsets_at;
+    let offsets_width = section.offsets_width;
+    let span = if of_any_size(section_type) {
+        offset_span(image, offsets_at, offsets_width, k, length)
     } else {
-        fixed_span(k, nodes_per(section.element_type), length)
+        let nodes = nodes_per(section_type);
+        if nodes < 1 {
+            let found = offset_span(image, offsets_at, offsets_width, k, length);
+            behind_type(image, section_type, at, width, length, found)
+        } else {
+            fixed_span(k, nodes, length)
+        }
     };
     let Span::Range { start, end } = span else {
         return Count::Rejected(Rejection::at(43, 0));

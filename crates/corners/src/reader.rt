@@ -2,10 +2,9 @@
 ghost use mathlib.Core.Path.{_≡_};
 ghost use mathlib.Core.Bool.{true};
 ghost use Prim.Native.Nat.{_≤_, _<_};
-ghost use Rattle.model.specs.Corner.{inside};
 ghost use Rattle.model.specs.Answers.{cornerTells};
 ghost use Rattle.model.specs.Reads.{CornerRead};
-ghost use Rattle.corners.specs.Spans.{cornerIn};
+ghost use Rattle.corners.specs.Spans.{held, cornerIn};
 use super::spans::Span;
 use super::spans::element_span;
 use model::Corner;
@@ -17,7 +16,7 @@ use rows::signed_number_at;
 // A corner, counted from 1, of the element that stands from `start` on and before `end` in the connectivity.
 fn corner_in(image: &[u8], section: Section, start: u64, end: u64, corner: u64) -> Corner
     requires { ⌜ (start < end) × (end ≤ section .«connectivity_length»)
-        × (inside (now image) (section .«connectivity_at») (section .«connectivity_width») (section .«connectivity_length») ≡ true) ⌝ }
+        × (held (now image) section ≡ true) ⌝ }
     ensures { λ r. ⌜ cornerTells r ≡ cornerIn (now (image .entry)) section start end corner ⌝ }
 {
     if corner < 1 {

@@ -3,16 +3,20 @@ ghost use mathlib.Core.Path.{_≡_};
 ghost use Prim.Native.Nat.{_≤_, _<_, _^_};
 ghost use lib.Dec.{T};
 ghost use Rattle.words.specs.Width.{isWidth};
-ghost use Rattle.corners.specs.Spans.{SpanIn, SpanInside, fixedSpan, rangeBetween, offsetSpan, spanOf};
-use element_types::has_offsets;
+ghost use mathlib.Core.Bool.{true};
+ghost use Rattle.model.specs.Corner.{inside};
+ghost use Rattle.corners.specs.Spans.{SpanIn, SpanInside, fixedSpan, rangeBetween, offsetSpan, mixedSpan, spanOf};
+use element_types::MIXED;
+use element_types::fits_length;
 use element_types::nodes_per;
+use element_types::of_any_size;
 use model::Section;
 use rows::Row;
 use rows::half_of;
 use rows::inside;
 use rows::number_at;
 
-// From `start` on and before `end`, counted from 0.
+// Numbers of a connectivity: from `start` on and before `end`, counted from 0.
 pub enum Span {
     Range { start: u64, end: u64 },
     Unreadable,
@@ -79,21 +83,60 @@ pub fn offset_span(image: &[u8], at: u64, width: u64, k: u64, length: u64) -> Sp
     Span::Unreadable
 }
 
-// The k-th element of a section: all that rule 43 asks.
+// The corners of the element that a span holds, in a section whose type has no number of nodes: if it is MIXED, the numbers behind the element's own type.
+// Unreadable where the section is not MIXED or the own type does not fit.
+pub fn behind_type(
+    image: &[u8],
+    element_type: u64,
+    at: u64,
+    width: u64,
+    length: u64,
+    span: Span,
+) -> Span
+    requires { ⌜ (inside (now image) at width length ≡ true) × SpanIn length span ⌝ }
+    ensures { λ r. ⌜ (r ≡ mixedSpan (now (image .entry)) «element_type» at width span) × SpanIn length r ⌝ }
+{
+    if element_type != MIXED {
+        return Span::Unreadable;
+    }
+    let Span::Range { start, end } = span else {
+        return Span::Unreadable;
+    };
+    let connectivity = Row {
+        at: at as usize,
+        width: width as usize,
+        n: length as usize,
+    };
+    let own_type = number_at(image, connectivity, start as usize);
+    if !fits_length(own_type, end - start) {
+        return Span::Unreadable;
+    }
+    Span::Range {
+        start: start + 1,
+        end,
+    }
+}
+
+// The corners of the k-th element of a section: all that rule 43 asks. MIXED is tested last, so that other types do not pay for it.
 pub fn element_span(image: &[u8], section: Section, k: u64) -> Span
     ensures { λ r. ⌜ (r ≡ spanOf (now (image .entry)) section k) × SpanInside (now (image .entry)) section r ⌝ }
 {
+    let at = section.connectivity_at;
+    let width = section.connectivity_width;
     let length = section.connectivity_length;
-    if inside(
-        image,
-        section.connectivity_at,
-        section.connectivity_width,
-        length,
-    ) {
-        if has_offsets(section.element_type) {
-            return offset_span(image, section.offsets_at, section.offsets_width, k, length);
+    if inside(image, at, width, length) {
+        let section_type = section.element_type;
+        let offsets_at = section.offsets_at;
+        let offsets_width = section.offsets_width;
+        if of_any_size(section_type) {
+            return offset_span(image, offsets_at, offsets_width, k, length);
         }
-        return fixed_span(k, nodes_per(section.element_type), length);
+        let nodes = nodes_per(section_type);
+        if nodes < 1 {
+            let found = offset_span(image, offsets_at, offsets_width, k, length);
+            return behind_type(image, section_type, at, width, length, found);
+        }
+        return fixed_span(k, nodes, length);
     }
     Span::Unreadable
 }

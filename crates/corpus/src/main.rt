@@ -220,6 +220,13 @@ fn one_call(image: &[u8]) -> bool {
     if kind == 12 {
         print::count(table::name_bytes(image), b"bytes ");
     }
+    if kind == 13 {
+        let section = entry(&call);
+        print::count(
+            corners::element_type(image, section, word(&call, 10)),
+            b"type ",
+        );
+    }
     io::write_all(1, b"\n");
     true
 }

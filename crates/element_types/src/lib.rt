@@ -1,7 +1,11 @@
-// Element types by their number: nodes per element, and which types are supported.
+// Element types by their number: nodes per element, which types have start offsets, which are supported; the length of an element of a MIXED section.
 ghost use mathlib.Core.Path.{_≡_};
 ghost use Prim.Native.Nat.{_≤_};
-ghost use Rattle.model.specs.Elements.{nodesPer, hasOffsets, taken};
+ghost use mathlib.Core.Bool.{_||_};
+ghost use lib.Dec.{eqb};
+ghost use Rattle.model.specs.Elements.{NGON, NFACE, nodesPer, hasOffsets, taken, fitsLength};
+
+pub const MIXED: u64 = 20;
 
 pub const NGON: u64 = 22;
 
@@ -35,11 +39,21 @@ pub fn nodes_per(element_type: u64) -> u64
     }
 }
 
+// Whether the elements of a type may be of any size: NGON_n and NFACE_n.
+pub fn of_any_size(element_type: u64) -> bool
+    ensures { λ r. ⌜ r ≡ (eqb «element_type» NGON || eqb «element_type» NFACE) ⌝ }
+{
+    element_type == NGON || element_type == NFACE
+}
+
 // Whether the elements of a type are found by start offsets.
 pub fn has_offsets(element_type: u64) -> bool
     ensures { λ r. ⌜ r ≡ hasOffsets «element_type» ⌝ }
 {
-    element_type == NGON || element_type == NFACE
+    if element_type == MIXED {
+        return true;
+    }
+    of_any_size(element_type)
 }
 
 // Whether a type is supported (document 01: taken).
@@ -47,4 +61,15 @@ pub fn is_supported(element_type: u64) -> bool
     ensures { λ r. ⌜ r ≡ taken «element_type» ⌝ }
 {
     0 < nodes_per(element_type) || has_offsets(element_type)
+}
+
+// Whether an element of a MIXED section that begins with this type may have this length: the type is of the fixed list, and the length 1 + its nodes.
+pub fn fits_length(element_type: u64, length: u64) -> bool
+    ensures { λ r. ⌜ r ≡ fitsLength «element_type» length ⌝ }
+{
+    let nodes = nodes_per(element_type);
+    if nodes == 0 {
+        return false;
+    }
+    1 + nodes == length
 }

@@ -1,11 +1,12 @@
 -- Walks over numbers: of two tests that agree, of two tests at once, of a test that always holds.
 use Prim.Native.Nat.{ℕ, zero, suc, _+_, _-_, _≤_, _<_}
-use mathlib.Core.Path.{_≡_, refl, sym, _∙_}
+use mathlib.Core.Path.{_≡_, refl, sym, ap, _∙_}
 use mathlib.Core.Bool.{Bool, true, false, _&&_}
 use native.Mathlib.Omega.{arith}
 use native.Mathlib.Decide.{ℕ-discrete, decLt}
+use native.Mathlib.Nat.{add-zero, zero-add}
 use Rattle.model.specs.Lists.{everyFrom}
-use Rattle.model.proofs.Logic.{and-first, and-second, and-false}
+use Rattle.model.proofs.Logic.{and-first, and-second, and-true, and-false}
 use Rattle.model.proofs.Loops.{EveryLeft, every-more, every-stop, every-done}
 use Rattle.elements.specs.Arrays.{Passed}
 
@@ -24,6 +25,23 @@ module _ (p q : ℕ → Bool) where
       in-turn true true c d = refl
       in-turn true false c d = sym (and-false c)
       in-turn false b c d = refl
+
+-- a walk in two parts
+pub every-split : (p : ℕ → Bool) (m k i : ℕ) → everyFrom p (m + k) i ≡ (everyFrom p m i && everyFrom p k (i + m))
+unfolding everyFrom
+every-split p zero k i = let e : 0 + k ≡ k = omega arith in rw (e, add-zero i)
+every-split p (suc m) k i =
+    let e : suc m + k ≡ suc (m + k) = omega arith in
+    let f : i + suc m ≡ suc i + m = omega arith in
+    rw (e, f, every-split p m k (suc i)) (in-turn (p i) (everyFrom p m (suc i)) (everyFrom p k (suc i + m)))
+  where
+    in-turn : (a b c : Bool) → (a && (b && c)) ≡ ((a && b) && c)
+    in-turn true b c = refl
+    in-turn false b c = refl
+
+pub every-last : (p : ℕ → Bool) (k : ℕ) → everyFrom p (k + 1) 0 ≡ (everyFrom p k 0 && p k)
+unfolding everyFrom
+every-last p k = every-split p k 1 0 ∙ rw (zero-add k) (ap (λ (t : Bool). everyFrom p k 0 && t) (and-true (p k)))
 
 pub every-holds : (p : ℕ → Bool) → ((j : ℕ) → p j ≡ true) → (k i : ℕ) → everyFrom p k i ≡ true
 unfolding everyFrom

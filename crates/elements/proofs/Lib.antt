@@ -7,3 +7,4 @@ pub mod FaceLaws
 pub mod RuleLaws
 pub mod ShapeLaws
 pub mod StageLaws
+pub mod MixedLaws

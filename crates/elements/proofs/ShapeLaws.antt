@@ -6,7 +6,7 @@ use mathlib.Core.List.{List, []}
 use native.Mathlib.Omega.{arith}
 use lib.Dec.{eqb, ltb}
 use lib.ListN.{length, getD, drop}
-use borrow.Author.Tests.{ne-eqb, eq-eqb, le-leb, lt-ltb, ltb-true, ltb-false}
+use borrow.Author.Tests.{eqb-true, ne-eqb, eq-eqb, le-leb, lt-ltb, ltb-true, ltb-false}
 use Rattle.model.specs.Lists.{_⊃_, row, everyFrom}
 use Rattle.model.specs.Bytes.{le, numbers}
 use Rattle.model.specs.Rules.{check, passed, rejected, rejection}
@@ -15,7 +15,7 @@ use Rattle.model.specs.Given.{Sound}
 use Rattle.model.specs.Containment.{found}
 use Rattle.model.specs.Values.{size, cellDimension, offsetsOf}
 use Rattle.model.specs.Elements.{nodesPer, hasOffsets, elementType, elementCount, connectivityLength, lengthsFit, startOffset, startsAtZero, rises, allRise}
-use Rattle.model.specs.Elements.{NGON, NFACE, endsAtLength, elementStart, elementSize, leastSize, largeEnough, allLargeEnough}
+use Rattle.model.specs.Elements.{MIXED, NGON, NFACE, sizeOf, startOf, layoutOf, endsAtLength, elementSize, leastSize, largeEnough, allLargeEnough}
 use Rattle.model.proofs.Logic.{untrue}
 use Rattle.model.specs.Corner.{numberAt}
 use Rattle.model.proofs.Bounds.{node-placed}
@@ -83,16 +83,31 @@ module _ (t : Tree) (s : ℕ) {z i d k : ℕ} (e : z ≡ parent t s) (f : i ≡ 
     unfolding leastSize cellDimension row
     least-other u v = rw (← e, ← f, ← g, h, ← q, ne-eqb k NGON u, ne-eqb k NFACE v)
 
--- rule 33 asks nothing of a section of a fixed type
-none-asked : (c a d : Bool) → (a || d) ≡ false → _≡_ {A = ℕ} (cond c (cond a 3 (cond d 4 0)) 0) 0
-none-asked true true d e = untrue (sym e)
-none-asked true false true e = untrue (sym e)
-none-asked true false false e = refl
-none-asked false a d e = refl
+-- rule 33 asks nothing of a section of a fixed type, or of a MIXED one
+none-asked : (t : Tree) (s : ℕ) → eqb (elementType t s) NGON ≡ false → eqb (elementType t s) NFACE ≡ false → leastSize t s ≡ 0
+unfolding leastSize row
+none-asked t s p q = rw (p, q) (by-test (eqb (cellDimension t (parent t (parent t s))) 3))
+  where
+    by-test : (c : Bool) → _≡_ {A = ℕ} (cond c 0 0) 0
+    by-test true = refl
+    by-test false = refl
+
+mixed-least : (t : Tree) (s : ℕ) → eqb (elementType t s) MIXED ≡ true → leastSize t s ≡ 0
+mixed-least t s m = let e = eqb-true (elementType t s) MIXED m in none-asked t s (rw e) (rw e)
 
 fixed-least : (t : Tree) (s : ℕ) → hasOffsets (elementType t s) ≡ false → leastSize t s ≡ 0
-unfolding leastSize row hasOffsets
-fixed-least t s h = none-asked (eqb (cellDimension t (parent t (parent t s))) 3) (eqb (elementType t s) NGON) (eqb (elementType t s) NFACE) h
+unfolding hasOffsets
+fixed-least t s h =
+    let e = elementType t s in
+    none-asked t s (or-second (eqb e MIXED) _ (or-first (eqb e MIXED || eqb e NGON) _ h)) (or-second (eqb e MIXED || eqb e NGON) _ h)
+  where
+    or-first : (a d : Bool) → (a || d) ≡ false → a ≡ false
+    or-first true d e = untrue (sym e)
+    or-first false d e = refl
+
+    or-second : (a d : Bool) → (a || d) ≡ false → d ≡ false
+    or-second true d e = untrue (sym e)
+    or-second false d e = e
 
 fixed-large : (t : Tree) (s : ℕ) → hasOffsets (elementType t s) ≡ false → allLargeEnough t s ≡ true
 unfolding allLargeEnough largeEnough
@@ -130,8 +145,14 @@ module _ (b : List ℕ) (s : ℕ) (h : hasOffsets (elementType (treeOf b) s) ≡
     all-same = rw (← e) (every-same (risesAt b (r .at) (r .width)) (rises (treeOf b) s) n 0 (λ k x i. rise-same k (omega arith)))
 
     large-same : (k : ℕ) → k < n → largeAt b (r .at) (r .width) (leastSize (treeOf b) s) k ≡ largeEnough (treeOf b) s k
-    unfolding largeAt largeEnough elementSize elementStart
-    large-same k i = rw (h, offset-is k (omega arith), offset-is (suc k) (omega arith))
+    unfolding largeAt largeEnough elementSize sizeOf startOf layoutOf
+    large-same k i = by-type (eqb (elementType (treeOf b) s) MIXED) refl
+      where
+        by-type : (t : Bool) → eqb (elementType (treeOf b) s) MIXED ≡ t → largeAt b (r .at) (r .width) (leastSize (treeOf b) s) k ≡ largeEnough (treeOf b) s k
+        by-type true m = rw (mixed-least (treeOf b) s m)
+            (le-leb 0 (numberAt b (r .at) (r .width) (suc k) - numberAt b (r .at) (r .width) k) (omega arith)
+            ∙ sym (le-leb 0 (elementSize (treeOf b) s k) (omega arith)))
+        by-type false m = rw (m, h, offset-is k (omega arith), offset-is (suc k) (omega arith))
 
     all-large : everyFrom (largeAt b (r .at) (r .width) (leastSize (treeOf b) s)) n 0 ≡ allLargeEnough (treeOf b) s
     unfolding allLargeEnough

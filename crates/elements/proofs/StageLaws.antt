@@ -1,4 +1,4 @@
--- Rules 27 to 35 at a section: what each test leaves.
+-- Rules 27 to 35 and 38 at a section: what each test leaves.
 use Prim.Native.Nat.{ℕ, _+_, _-_, _≤_}
 use mathlib.Core.Path.{_≡_, sym, ap, _∙_}
 use mathlib.Core.Bool.{Bool, true, false, not}

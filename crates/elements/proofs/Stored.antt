@@ -30,14 +30,14 @@ use Rattle.rows.specs.Rows.{Numbers}
 use Rattle.elements.specs.Given.{Stores, Indexed, Ranged}
 
 -- where a node's numbers start
-abbrev pub startOf : List ℕ → ℕ → ℕ
-startOf b j = treeOf b .areaAt + node (treeOf b) j .dataAt
+abbrev pub dataFrom : List ℕ → ℕ → ℕ
+dataFrom b j = treeOf b .areaAt + node (treeOf b) j .dataAt
 
 module _ {b : List ℕ} (s : Sound b) {j n : ℕ} (a : Stores b j n) where
   pub stores-has : (k : ℕ) → k < n → HasNumber b j k
   stores-has k h = record { inside = a .inside; wide = a .wide; room = rw (a .bytes) (scaled (width (treeOf b) j) k n h) }
 
-  pub stores-row : Numbers b (startOf b j) (width (treeOf b) j) n
+  pub stores-row : Numbers b (dataFrom b j) (width (treeOf b) j) n
   unfolding treeOf
   stores-row =
       let p = node-placed b (s .table) j (a .inside) in
@@ -45,7 +45,7 @@ module _ {b : List ℕ} (s : Sound b) {j n : ℕ} (a : Stores b j n) where
       let e : dataOffset b + node (treeOf b) j .dataAt + node (treeOf b) j .dataSize ≤ length b = omega arith in
       record { wide = a .wide; inside = rw (mul-comm (width (treeOf b) j) n, ← a .bytes) e }
 
-  pub stores-number : (k : ℕ) → k < n → number (treeOf b) j k ≡ numberAt b (startOf b j) (width (treeOf b) j) k
+  pub stores-number : (k : ℕ) → k < n → number (treeOf b) j k ≡ numberAt b (dataFrom b j) (width (treeOf b) j) k
   unfolding numberAt treeOf
   stores-number k h = number-at b j k (rw (a .bytes) (scaled (width (treeOf b) j) k n h))
 

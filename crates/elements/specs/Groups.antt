@@ -6,7 +6,8 @@ use lib.Dec.{eqb}
 use Rattle.model.specs.Lists.{_⊃_}
 use Rattle.model.specs.Rules.{Rule, _unless_}
 use Rattle.model.specs.Image.{Tree}
-use Rattle.model.specs.Elements.{NFACE, hasOffsets, elementType, lengthsFit, startsAtZero, allRise, endsAtLength, allLargeEnough, allNodes, allFaces}
+use Rattle.model.specs.Elements.{MIXED, NFACE, hasOffsets, elementType, lengthsFit, startsAtZero, allRise, endsAtLength, allLargeEnough}
+use Rattle.model.specs.Elements.{allTypesFit, allNodes, allFaces}
 
 unfoldable pub shapeRules : Tree → ℕ → List Rule
 shapeRules t s =
@@ -19,6 +20,7 @@ shapeRules t s =
 
 unfoldable pub referenceRules : Tree → ℕ → List Rule
 referenceRules t s =
-    34 unless (not (eqb (elementType t s) NFACE) ⊃ allNodes t s)
+    38 unless (eqb (elementType t s) MIXED ⊃ allTypesFit t s)
+    ∷ 34 unless (not (eqb (elementType t s) NFACE) ⊃ allNodes t s)
     ∷ 35 unless (eqb (elementType t s) NFACE ⊃ allFaces t s)
     ∷ []

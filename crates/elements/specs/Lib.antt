@@ -1,4 +1,5 @@
 pub mod Arrays
 pub mod Given
 pub mod Groups
+pub mod Mixed
 pub mod Ranges

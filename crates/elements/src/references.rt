@@ -1,21 +1,25 @@
-// Rules 34 and 35: what the connectivity of a section refers to.
+// Rule 35: the face references of a section; and rules 38, 34 and 35 together.
 ghost use mathlib.Core.Path.{_≡_};
-ghost use mathlib.Core.Bool.{true, _&&_};
+ghost use mathlib.Core.Bool.{true};
 ghost use Prim.Native.Nat.{_+_, _≤_, _<_};
 ghost use lib.ListN.{length};
 ghost use Rattle.model.specs.Lists.{everyFrom};
 ghost use Rattle.model.specs.Image.{treeOf, nodeCount};
 ghost use Rattle.model.specs.Given.{Sound};
 ghost use Rattle.model.specs.Values.{connectivityOf};
-ghost use Rattle.model.specs.Elements.{elementType, allNodes, allFaces};
-ghost use Rattle.model.specs.Rules.{check};
+ghost use Rattle.model.specs.Elements.{elementType, allFaces};
+ghost use Rattle.model.specs.Rules.{check, passed};
 ghost use Rattle.model.specs.Answers.{stageTells};
+ghost use Rattle.index.specs.Index.{Index};
 ghost use Rattle.rows.specs.Rows.{Numbers};
 ghost use Rattle.ranges.specs.SearchTree.{Built};
-ghost use Rattle.elements.specs.Arrays.{isWithin, isKnown, knownAt, Passed};
+ghost use Rattle.elements.specs.Arrays.{isKnown, knownAt, Passed};
 ghost use Rattle.elements.specs.Given.{RowOf, SectionContext, refersFace};
 ghost use Rattle.elements.specs.Ranges.{Faces};
-ghost use Rattle.elements.specs.Groups.{referenceRules};
+ghost use Rattle.elements.specs.Groups.{shapeRules, referenceRules};
+use super::mixed::mixed_stage;
+use super::nodes::nodes_lawful;
+use element_types::MIXED;
 use element_types::NFACE;
 use model::Rejection;
 use model::Stage;
@@ -24,59 +28,6 @@ use ranges::search_tree;
 use ranges::search_tree::Four;
 use ranges::search_tree::SearchTree;
 use rows::Row;
-
-// Does number k of a row lie in 1 to limit?
-fn is_within(image: &[u8], row: Row, limit: u64, k: usize) -> bool
-    requires { ⌜ Numbers (now image) (row .at) (row .width) (row .n) × (k < row .n) ⌝ }
-    ensures { λ r. ⌜ r ≡ isWithin (now (image .entry)) (row .at) (row .width) limit k ⌝ }
-{
-    let x = rows::number_at(image, row, k);
-    if x < 1 {
-        return false;
-    }
-    x <= limit
-}
-
-// Do numbers k and k + 1 of a row lie in 1 to limit?
-fn two_within(image: &[u8], row: Row, limit: u64, k: usize) -> bool
-    requires { ⌜ Numbers (now image) (row .at) (row .width) (row .n) × (k + 1 < row .n) ⌝ }
-    ensures { λ r. ⌜ r
-        ≡ (isWithin (now (image .entry)) (row .at) (row .width) limit k && isWithin (now (image .entry)) (row .at) (row .width) limit (k + 1)) ⌝ }
-{
-    if !is_within(image, row, limit, k) {
-        return false;
-    }
-    is_within(image, row, limit, k + 1)
-}
-
-// Rule 34: does every number of a row lie in 1 to limit? Two at a time: the loop takes as long wherever the linker puts it.
-fn all_within(image: &[u8], row: Row, limit: u64) -> bool
-    requires { ⌜ Numbers (now image) (row .at) (row .width) (row .n) ⌝ }
-    ensures { λ r. ⌜ r ≡ everyFrom (isWithin (now (image .entry)) (row .at) (row .width) limit) (row .n) 0 ⌝ }
-{
-    let n = row.n;
-    let mut k: usize = 0;
-    while 1 < n - k {
-        if !two_within(image, row, limit, k) {
-            return false;
-        }
-        k += 2;
-    }
-    if k < n {
-        return is_within(image, row, limit, k);
-    }
-    true
-}
-
-// Rule 34: every reference of section s, those of the row, is a node of its zone.
-fn nodes_lawful(image: &[u8], s: usize, row: Row) -> bool
-    requires { ⌜ Sound (now image) × SectionContext (now image) s ⌝ }
-    requires { ⌜ RowOf (now image) (connectivityOf (treeOf (now image)) s) row ⌝ }
-    ensures { λ r. ⌜ r ≡ allNodes (treeOf (now (image .entry))) s ⌝ }
-{
-    let vertices = types::whole(image, records::parent_of(image, s), 0);
-    all_within(image, row, vertices)
-}
 
 // Does one of two intervals hold f?
 fn is_known(last: Interval, before: Interval, f: u64) -> bool
@@ -295,9 +246,10 @@ fn faces_lawful(
     all_refer(image, z, row, firsts, reach, faces, levels, tree)
 }
 
-// Rules 34 and 35 at section s, whose references are those of the row.
+// Rules 38, 34 and 35 at section s, where rules 29 to 33 hold; its connectivity is the row.
 pub fn reference_stage(
     image: &[u8],
+    index: &[u16],
     s: usize,
     element_type: u64,
     row: Row,
@@ -306,11 +258,15 @@ pub fn reference_stage(
     faces: usize,
     levels: &mut [u32],
 ) -> Stage
-    requires { ⌜ Sound (now image) × SectionContext (now image) s ⌝ }
+    requires { ⌜ Index (now image) (now index) × SectionContext (now image) s ⌝ }
     requires { ⌜ RowOf (now image) (connectivityOf (treeOf (now image)) s) row × («element_type» ≡ elementType (treeOf (now image)) s) ⌝ }
     requires { ⌜ Faces (treeOf (now image)) (now firsts) (now reach) faces × (2048 ≤ length (now levels)) ⌝ }
+    requires { ⌜ check s (shapeRules (treeOf (now image)) s) ≡ passed ⌝ }
     ensures { λ r. ⌜ stageTells r ≡ check s (referenceRules (treeOf (now (image .entry))) s) ⌝ }
 {
+    if element_type == MIXED {
+        return mixed_stage(image, index, s, row);
+    }
     if element_type == NFACE {
         if faces_lawful(image, s, row, firsts, reach, faces, levels) {
             return Stage::Pass;

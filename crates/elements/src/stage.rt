@@ -1,4 +1,4 @@
-// Rules 27 to 35 at a section, lowest rule first.
+// Rules 27 to 35 and 38 at a section, in the order of the model: 38 between 33 and 34.
 ghost use mathlib.Core.Path.{_≡_};
 ghost use mathlib.Core.Bool.{true};
 ghost use Rattle.model.specs.Image.{treeOf, nodeCount};
@@ -24,7 +24,7 @@ use model::Stage;
 use sids::connectivity_of;
 use sids::range_of;
 
-// Rules 29 to 35 at section s, with n elements.
+// Rules 29 to 35 and 38 at section s, with n elements.
 fn array_stage(
     image: &[u8],
     index: &[u16],
@@ -46,10 +46,20 @@ fn array_stage(
     let Stage::Pass = shape else {
         return shape;
     };
-    reference_stage(image, s, element_type, row, firsts, reach, faces, levels)
+    reference_stage(
+        image,
+        index,
+        s,
+        element_type,
+        row,
+        firsts,
+        reach,
+        faces,
+        levels,
+    )
 }
 
-// Rules 27 to 35 at section s, to which validation has come, and where rules 20 to 26 hold. `overlap` is the first node that breaks rule 28; the tables
+// Rules 27 to 35 and 38 at section s, to which validation has come, and where rules 20 to 26 hold. `overlap` is the first node that breaks rule 28; the tables
 // hold the faces of all zones.
 pub fn element_stage(
     image: &[u8],

@@ -13,6 +13,7 @@ use Rattle.model.specs.Given.{Sound, Accepted}
 use Rattle.model.specs.Containment.{found, sectionOf}
 use Rattle.model.specs.Values.{flat, size, offsetsOf, connectivityOf}
 use Rattle.model.specs.Elements.{NFACE, hasOffsets, elementType, elementCount, startOffset, elementStart, connectivityLength, reference}
+use Rattle.model.specs.Elements.{startOf, layoutOf}
 use Rattle.model.specs.FaceUsage.{endsAfter, elementHolding, usesIn}
 use Rattle.model.proofs.Logic.{and-first, and-second}
 use Rattle.model.proofs.Bounds.{node-placed}
@@ -22,7 +23,7 @@ use Rattle.rows.specs.declared.Row.{Row}
 use Rattle.rows.specs.Rows.{endsAfterAt}
 use Rattle.index.specs.Index.{Index}
 use Rattle.elements.specs.Given.{Stores, Indexed}
-use Rattle.elements.proofs.Stored.{startOf, stores-row, stores-number, connectivity-stores, offsets-stores}
+use Rattle.elements.proofs.Stored.{dataFrom, stores-row, stores-number, connectivity-stores, offsets-stores}
 use Rattle.face_places.specs.declared.zone_sections.Span.{Span}
 use Rattle.face_places.specs.ZoneSections.{Cells, Spans}
 use Rattle.faces.specs.Uses.{RowOf, References}
@@ -30,7 +31,7 @@ use Rattle.face_places.proofs.Accepted.{section-by, own-zone, count-read, cells
 use Rattle.model.proofs.Reading.{rank-is}
 
 -- the numbers of node j, as they were read
-pub row-read : {b : List ℕ} → Sound b → {j n : ℕ} → Stores b j n → {at w : ℕ} → at ≡ startOf b j → w ≡ width (treeOf b) j
+pub row-read : {b : List ℕ} → Sound b → {j n : ℕ} → Stores b j n → {at w : ℕ} → at ≡ dataFrom b j → w ≡ width (treeOf b) j
     → RowOf b j n (record { at = at; width = w; n = n })
 row-read s g p q = rw (p, q) (record { long = refl; numbers = stores-row s g; wide = refl; stored = stores-number s g })
 
@@ -63,7 +64,7 @@ module _ {b index : List ℕ} {s : ℕ} (c : Cells b index s) where
 
     pub element-read : {j : ℕ} {row : Row} → j ≡ offsetsOf (treeOf b) s → RowOf b j (r .last - r .first + 2) row → (k : ℕ) {x : ℕ}
         → x ≡ seekFrom (endsAfterAt b row k) (row .n - 1) 0 → r .first + x ≡ elementHolding (treeOf b) s k
-    unfolding elementHolding endsAfter endsAfterAt elementStart startOffset
+    unfolding elementHolding endsAfter endsAfterAt elementStart startOf layoutOf startOffset
     element-read {j} {row} q w k f =
         let e : row .n - 1 ≡ elementCount (treeOf b) s = omega (arith, w .long, count-read g) in
         rw (f, e, g .is-first, seek-same (endsAfterAt b row k) (endsAfter (treeOf b) s k) (elementCount (treeOf b) s) 0 (λ i l h. ends-same i (omega arith)))

@@ -11,11 +11,11 @@ ghost use Rattle.model.specs.Path.{pathAnswer, pathMemory};
 ghost use Rattle.model.specs.ArrayValue.{valueAnswer};
 ghost use Rattle.model.specs.DataSize.{dataSizeAnswer};
 ghost use Rattle.model.specs.Exports.{validationWords, countWords, usageWords, valueWords, sizeWords};
-ghost use Rattle.model.specs.Exports.{exportRule, exportBytes, exportMemory, CornerExport, ElementExport};
+ghost use Rattle.model.specs.Exports.{exportRule, exportBytes, exportMemory, CornerExport, ElementExport, TypeExport};
 use answers::count_answer;
 use answers::put_answer;
 use answers::put_corner;
-use answers::put_size;
+use answers::put_count;
 use answers::size_answer;
 use answers::usage_answer;
 use answers::validation_answer;
@@ -96,9 +96,33 @@ pub extern "C" fn gongaurora_export_read_element(
     if count.len() < 8 {
         return 46;
     }
-    put_size(
+    put_count(
         corners::element_corners(image, entries::section_at(section, 0), element, out),
         count,
+    )
+}
+
+// An element's own type, of the numbers of a section entry: 8 bytes in front of `answer`, 0 of a refusal.
+// Rule 46 where the section has fewer numbers or `answer` has no room, and then nothing is written; then the reader's.
+#[no_mangle]
+pub extern "C" fn gongaurora_export_element_type(
+    image: &[u8],
+    section: &[u64],
+    element: u64,
+    answer: &mut [u8],
+) -> u64
+    ensures { λ r. ⌜ TypeExport (now (image .entry)) (now (section .entry)) element (now (answer .entry))
+        r (now (image .exit)) (now (section .exit)) (now (answer .exit)) ⌝ }
+{
+    if section.len() < entries::ENTRY_LENGTH {
+        return 46;
+    }
+    if answer.len() < 8 {
+        return 46;
+    }
+    put_count(
+        corners::element_type(image, entries::section_at(section, 0), element),
+        answer,
     )
 }
 

@@ -59,7 +59,7 @@ module _ (b : List ℕ) (yes : imageCheck b ≡ passed) where
   unfolding nodeRules
   sids-rule n i h v = claim n (sidsRules (treeOf b) i) (hold-left (sidsRules (treeOf b) i) _ (node-holds i h v))
 
-  -- rules 27 to 35 at a validated section
+  -- rules 27 to 35 and 38 at a validated section
   pub element-holds : (i : ℕ) → i < nodeCount b → validated (treeOf b) i ≡ true → eqb (role (treeOf b) i) Elements ≡ true → Hold (elementRules (treeOf b) i)
   unfolding nodeRules
   element-holds i h v s = rw s at (hold-right (sidsRules (treeOf b) i) _ (node-holds i h v))

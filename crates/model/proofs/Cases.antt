@@ -1,19 +1,26 @@
 -- Document 01, "One tetrahedron, and near misses": cases (a) to (m), then those of document 02 by its sections, as one list with one claim, by computation.
-use Prim.Native.Nat.{ℕ, _*_}
+use Prim.Native.Nat.{ℕ, _*_, _-_, _^_}
 use Prim.Native.String.{String}
 use mathlib.Core.Path.{_≡_, refl}
 use mathlib.Core.List.{List, [], _∷_}
 use lib.ListN.{length, replicate}
+use lib.IntN.{ℤ, pos}
+use Rattle.model.specs.declared.Section.{Section}
 use Rattle.model.specs.Bytes.{allBytes, text, numbers}
 use Rattle.model.specs.Rules.{Answer, rejected, answer, rejection, repetition}
+use Rattle.model.specs.Image.{treeOf}
 use Rattle.model.specs.Validation.{Counts, validation}
 use Rattle.model.specs.NameBytes.{nameBytesAnswer}
 use Rattle.model.specs.DataSize.{Sizes, dataSizeAnswer}
+use Rattle.model.specs.Sections.{entry}
+use Rattle.model.specs.Corner.{cornerAnswer}
+use Rattle.model.specs.ElementCorners.{elementCornersMemory}
+use Rattle.model.specs.OwnType.{ownTypeAnswer}
 use Rattle.model.specs.FaceUsage.{usageAnswer, usageMemory}
 use Rattle.model.specs.Build.{minus, Plan, plan, image}
 use Rattle.model.specs.Computed.{computed}
 
-infix 10 _refuses_at_ _accepts_ _starts_ _sizes_is_ _uses_leaving_ _repeats_ _compares_
+infix 10 _refuses_at_ _accepts_ _starts_ _sizes_is_ _uses_leaving_ _repeats_ _compares_ _reads_from_is_ _types_is_ _hands_is_
 -- the root that real files have
 abbrev rootPlan : Plan
 rootPlan = plan "HDF5 MotherNode" "Root Node of HDF5 File" "MT" [] 4294967295 []
@@ -136,6 +143,42 @@ named names = image (rootPlan ∷ plans names)
     plans [] = []
     plans ((name, up) ∷ rest) = plan name "Any" "MT" [] up [] ∷ plans rest
 
+-- §4: a section, node 4, in a zone of ten vertices, over its type, its range, its start offsets and its connectivity
+abbrev inZone : ℕ → Plan → Plan → Plan → List ℕ
+inZone type range offsets entries =
+    image
+    (rootPlan
+    ∷ integers "Base" "CGNSBase_t" (3 ∷ 3 ∷ []) 0
+    ∷ plan "Zone" "Zone_t" "I4" (1 ∷ 3 ∷ []) 1 (allBytes 4 (10 ∷ 2 ∷ 0 ∷ []))
+    ∷ plan "ZoneType" "ZoneType_t" "C1" (12 ∷ []) 2 (text "Unstructured")
+    ∷ integers "Layers" "Elements_t" (type ∷ 0 ∷ []) 2
+    ∷ range
+    ∷ offsets
+    ∷ entries
+    ∷ [])
+
+-- of elements 1 and 2; MIXED
+abbrev twoOf : ℕ → List ℕ → List ℕ → List ℕ
+twoOf type offsets entries =
+    inZone type (integers "ElementRange" "IndexRange_t" (1 ∷ 2 ∷ []) 4) (integers "ElementStartOffset" "DataArray_t" offsets 4)
+    (integers "ElementConnectivity" "DataArray_t" entries 4)
+
+abbrev twoElements : List ℕ → List ℕ → List ℕ
+twoElements = twoOf 20
+
+-- a hexahedron and a prism on its top, over their types and the prism's last node
+abbrev hexahedron : ℕ → List ℕ → List ℕ
+hexahedron type rest = type ∷ 1 ∷ 2 ∷ 3 ∷ 4 ∷ 5 ∷ 6 ∷ 7 ∷ 8 ∷ rest
+
+abbrev withTypes : ℕ → ℕ → ℕ → List ℕ
+withTypes first second node = twoElements (0 ∷ 9 ∷ 16 ∷ []) (hexahedron first (second ∷ 5 ∷ 6 ∷ 9 ∷ 8 ∷ 7 ∷ node ∷ []))
+
+-- one tetrahedron, element 1, in 8 bytes, over its type
+abbrev wideType : ℕ → List ℕ
+wideType type =
+    inZone 20 (integers "ElementRange" "IndexRange_t" (1 ∷ 1 ∷ []) 4) (plan "ElementStartOffset" "DataArray_t" "I8" (2 ∷ []) 4 (allBytes 8 (0 ∷ 5 ∷ [])))
+    (plan "ElementConnectivity" "DataArray_t" "I8" (5 ∷ []) 4 (allBytes 8 (type ∷ 1 ∷ 2 ∷ 3 ∷ 5 ∷ [])))
+
 -- what a case says of an image
 pub data Case : Type 0 where
   -- the header's words
@@ -152,9 +195,16 @@ pub data Case : Type 0 where
   _sizes_is_ : List ℕ → ℕ → Sizes → Case
   -- the name bytes compared
   _compares_ : List ℕ → Answer ℕ → Case
+  -- by the entry of section 4: an element's corner (an element and a corner), its own type, all its corners in a buffer of eight numbers
+  _reads_from_is_ : List ℕ → ℕ → ℕ → Answer ℤ → Case
+  _types_is_ : List ℕ → ℕ → Answer ℕ → Case
+  _hands_is_ : List ℕ → ℕ → List ℤ → Case
 
 abbrev lent : List ℕ
 lent = replicate 6 9
+
+abbrev layers : List ℕ → Section
+layers b = entry (treeOf b) 4
 
 abbrev pub Right : List Case → Type 0
 Right [] = Unit {0}
@@ -165,6 +215,9 @@ Right ((b uses f leaving bytes) ∷ cs) = ((usageAnswer b 3 6 ≡ answer f) × (
 Right ((b repeats a) ∷ cs) = ((usageAnswer b 3 6 ≡ a) × (usageMemory b 3 lent ≡ (0 ∷ 0 ∷ 0 ∷ 0 ∷ 9 ∷ 9 ∷ []))) × Right cs
 Right ((b sizes i is s) ∷ cs) = (dataSizeAnswer b i ≡ answer s) × Right cs
 Right ((b compares a) ∷ cs) = (nameBytesAnswer b ≡ a) × Right cs
+Right ((b reads e from c is a) ∷ cs) = (cornerAnswer b (layers b) e c ≡ a) × Right cs
+Right ((b types e is a) ∷ cs) = (ownTypeAnswer b (layers b) e ≡ a) × Right cs
+Right ((b hands e is ns) ∷ cs) = (elementCornersMemory b (layers b) e (replicate 8 (pos 99)) ≡ ns) × Right cs
 
 abbrev tetraCounts : Counts
 tetraCounts = record { validated = 17; skipped = 0; zones = 1; sections = 2 }
@@ -278,6 +331,53 @@ cases =
     -- the name of an earlier sibling; an image that breaks rule 20 alone
     ∷ (named (("Ab", 0) ∷ ("Ac", 0) ∷ ("Ab", 0) ∷ []) compares rejected (rejection 11 3))
     ∷ (inMesh (pointList 1 5 2 ∷ []) compares answer 3)
+    -- §4 a hexahedron and a prism: corner 1 is the first node, the type is no corner; the prism's third corner, its last, one more
+    ∷ (withTypes 17 14 10 accepts record { validated = 8; skipped = 0; zones = 1; sections = 1 })
+    ∷ (withTypes 17 14 10 reads 1 from 1 is answer (pos 1))
+    ∷ (withTypes 17 14 10 reads 2 from 1 is answer (pos 5))
+    ∷ (withTypes 17 14 10 reads 2 from 3 is answer (pos 9))
+    ∷ (withTypes 17 14 10 reads 2 from 6 is answer (pos 10))
+    ∷ (withTypes 17 14 10 reads 2 from 7 is rejected (rejection 42 0))
+    ∷ (withTypes 17 14 10 hands 2 is (pos 5 ∷ pos 6 ∷ pos 9 ∷ pos 8 ∷ pos 7 ∷ pos 10 ∷ pos 99 ∷ pos 99 ∷ []))
+    ∷ (withTypes 17 14 10 types 1 is answer 17)
+    ∷ (withTypes 17 14 10 types 2 is answer 14)
+    ∷ (withTypes 17 14 10 types 3 is rejected (rejection 41 0))
+    -- in other sections the section's
+    ∷ (twoOf 22 (0 ∷ 3 ∷ 6 ∷ []) (1 ∷ 2 ∷ 3 ∷ 4 ∷ 5 ∷ 6 ∷ []) types 2 is answer 22)
+    ∷ (twoOf 5 (0 ∷ 3 ∷ 6 ∷ []) (1 ∷ 2 ∷ 3 ∷ 4 ∷ 5 ∷ 6 ∷ []) types 2 is answer 5)
+    -- another type with as many nodes
+    ∷ (withTypes 8 6 10 accepts record { validated = 8; skipped = 0; zones = 1; sections = 1 })
+    ∷ (withTypes 8 6 10 types 2 is answer 6)
+    -- stored types that are not in the list, 22, 20 and −14; the readers: 43
+    ∷ (withTypes 17 22 10 refuses 38 at 4)
+    ∷ (withTypes 20 14 10 refuses 38 at 4)
+    ∷ (withTypes 17 (minus 14) 10 refuses 38 at 4)
+    ∷ (withTypes 17 (minus 14) 10 reads 2 from 1 is rejected (rejection 43 0))
+    ∷ (withTypes 17 (minus 14) 10 reads 1 from 8 is answer (pos 8))
+    ∷ (withTypes 17 22 10 types 2 is rejected (rejection 43 0))
+    -- not in the list, and nothing behind it: 1 + 0 is end − start
+    ∷ (twoElements (0 ∷ 1 ∷ 3 ∷ []) (22 ∷ 2 ∷ 1 ∷ []) refuses 38 at 4)
+    ∷ (twoElements (0 ∷ 1 ∷ 3 ∷ []) (22 ∷ 2 ∷ 1 ∷ []) types 1 is rejected (rejection 43 0))
+    -- 10 in 8 bytes; −10 and 2^32 + 10
+    ∷ (wideType 10 accepts record { validated = 8; skipped = 0; zones = 1; sections = 1 })
+    ∷ (wideType 10 reads 1 from 4 is answer (pos 5))
+    ∷ (wideType (256 ^ 8 - 10) refuses 38 at 4)
+    ∷ (wideType 4294967306 refuses 38 at 4)
+    ∷ (wideType 4294967306 types 1 is rejected (rejection 43 0))
+    -- a type that does not fit its offsets, in the offsets and in the type; with a node 11 before it
+    ∷ (twoElements (0 ∷ 8 ∷ 16 ∷ []) (hexahedron 17 (14 ∷ 5 ∷ 6 ∷ 9 ∷ 8 ∷ 7 ∷ 10 ∷ [])) refuses 38 at 4)
+    ∷ (withTypes 17 12 10 refuses 38 at 4)
+    ∷ (withTypes 17 12 10 reads 2 from 1 is rejected (rejection 43 0))
+    ∷ (twoElements (0 ∷ 5 ∷ 9 ∷ []) (10 ∷ 11 ∷ 2 ∷ 3 ∷ 4 ∷ 7 ∷ 1 ∷ 2 ∷ 3 ∷ []) refuses 38 at 4)
+    -- a node 11, a node 0; the types 17 and 14, above VertexSize too, are no nodes
+    ∷ (withTypes 17 14 11 refuses 34 at 4)
+    ∷ (withTypes 17 14 0 refuses 34 at 4)
+    -- offsets as for 22: their number, the first, the rise, the last; 33 never: one node
+    ∷ (twoElements (0 ∷ 9 ∷ []) (hexahedron 17 (14 ∷ 5 ∷ 6 ∷ 9 ∷ 8 ∷ 7 ∷ 10 ∷ [])) refuses 29 at 4)
+    ∷ (twoElements (1 ∷ 9 ∷ 16 ∷ []) (hexahedron 17 (14 ∷ 5 ∷ 6 ∷ 9 ∷ 8 ∷ 7 ∷ 10 ∷ [])) refuses 30 at 4)
+    ∷ (twoElements (0 ∷ 0 ∷ 16 ∷ []) (hexahedron 17 (14 ∷ 5 ∷ 6 ∷ 9 ∷ 8 ∷ 7 ∷ 10 ∷ [])) refuses 31 at 4)
+    ∷ (twoElements (0 ∷ 9 ∷ 15 ∷ []) (hexahedron 17 (14 ∷ 5 ∷ 6 ∷ 9 ∷ 8 ∷ 7 ∷ 10 ∷ [])) refuses 32 at 4)
+    ∷ (twoElements (0 ∷ 2 ∷ 5 ∷ []) (2 ∷ 1 ∷ 3 ∷ 1 ∷ 2 ∷ []) accepts record { validated = 8; skipped = 0; zones = 1; sections = 1 })
     ∷ []
 
 infixr 5 _also_
@@ -293,4 +393,9 @@ all-right =
     also refl also refl also refl also refl also refl also refl also refl also refl also refl
     also refl also refl also refl also refl also refl also refl also refl also refl also refl
     also refl also refl also refl also refl also refl also refl also refl also refl
-    also refl also refl also refl also refl also refl also refl also refl also refl also refl also tt
+    also refl also refl also refl also refl also refl also refl also refl also refl also refl
+    also refl also refl also refl also refl also refl also refl also refl also refl also refl also refl
+    also refl also refl also refl also refl also refl also refl also refl also refl
+    also refl also refl also refl also refl also refl also refl also refl also refl also refl
+    also refl also refl also refl also refl also refl also refl also refl
+    also refl also refl also refl also refl also tt

@@ -4,7 +4,7 @@ use mathlib.Core.Path.{_≡_, refl, ap, _∙_}
 use mathlib.Core.Bool.{Bool, true, false, cond, not, _&&_}
 use mathlib.Core.List.{List, [], _∷_}
 use native.Mathlib.Omega.{arith}
-use lib.Dec.{leb, ltb}
+use lib.Dec.{eqb, leb, ltb}
 use borrow.Author.Tests.{le-leb, lt-ltb}
 use Rattle.model.specs.Lists.{_⊃_}
 use Rattle.model.specs.Bytes.{negative, below, signed, half}
@@ -13,20 +13,22 @@ use Rattle.model.specs.Image.{treeOf, width, number}
 use Rattle.model.specs.Values.{offsetsOf, connectivityOf}
 use Rattle.model.specs.Elements.{nodesPer, hasOffsets, elementType, firstElement, lastElement, elementCount, startOffset, reference, connectivityLength}
 use Rattle.model.specs.Elements.{elementStart, elementSize, cornerReference, elementRules}
+use Rattle.model.specs.Elements.{MIXED, startOf, ownType, sizeOf, cornerPlace, typeFits, layoutOf}
 use Rattle.model.specs.Sections.{entry, dataStart}
-use Rattle.model.specs.Corner.{inEntry, inside, numberAt, entryStart, entrySize, startsBefore, readable, isCorner, cornerCheck, cornerNumber}
+use Rattle.model.specs.Corner.{inEntry, inside, numberAt, layoutIn, entryStart, entrySize, startsBefore, readable, isCorner, cornerCheck, cornerNumber}
 use Rattle.model.specs.Corner.{cornerAnswer}
 use Rattle.model.specs.ElementCorners.{elementCornersCheck, elementCornersAnswer}
+use Rattle.model.specs.OwnType.{ownTypeCheck, ownTypeAnswer}
 use Rattle.model.proofs.Logic.{and-both, implied, between, not-between}
 use Rattle.model.proofs.Accepted.{table-passed}
 use Rattle.model.proofs.TwosComplement.{not-negative, below-is}
 use Rattle.model.proofs.Arrays.{indices-inside, indices-at}
-use Rattle.model.proofs.InZone.{InZone, section-rule, connectivity, offsets, offsets-size, offsets-small, span}
+use Rattle.model.proofs.InZone.{InZone, section-rule, connectivity, offsets, offsets-size, offsets-not-negative, span, type-fits, corner-before-end}
 
 module _ {b : List ℕ} {z s : ℕ} (a : InZone b z s) where
   -- where an element starts
   start-read : (k : ℕ) → k ≤ elementCount (treeOf b) s → entryStart b (entry (treeOf b) s) k ≡ elementStart (treeOf b) s k
-  unfolding entryStart entry elementStart startOffset
+  unfolding entryStart entry elementStart startOffset startOf layoutIn layoutOf
   start-read k h = by-type (hasOffsets (elementType (treeOf b) s)) refl
     where
       j : ℕ
@@ -48,8 +50,8 @@ module _ {b : List ℕ} {z s : ℕ} (a : InZone b z s) where
 
   start-small : hasOffsets (elementType (treeOf b) s) ≡ true → (k : ℕ) → k ≤ elementCount (treeOf b) s
       → elementStart (treeOf b) s k < half (width (treeOf b) (offsetsOf (treeOf b) s))
-  unfolding elementStart
-  start-small o k h = rw o (offsets-small a o k h)
+  unfolding elementStart startOf layoutOf
+  start-small o k h = rw o (offsets-not-negative a o k h)
 
   starts-lawful : (k : ℕ) → k < elementCount (treeOf b) s
       → startsBefore (entry (treeOf b) s) (elementStart (treeOf b) s k) (elementStart (treeOf b) s (suc k)) ≡ true
@@ -71,10 +73,23 @@ module _ {b : List ℕ} {z s : ℕ} (a : InZone b z s) where
           (below-is w x y (span a k h .starts-before) (start-small o (suc k) h))
       by-type false o = lt-ltb x y (span a k h .starts-before)
 
+  -- its own type
+  type-read : (k : ℕ) → k < elementCount (treeOf b) s → ownType (layoutIn b (entry (treeOf b) s)) k ≡ ownType (layoutOf (treeOf b) s) k
+  unfolding ownType entry entryStart elementStart layoutIn layoutOf reference connectivityLength
+  type-read k h =
+      rw (start-read k (omega arith))
+      (ap (λ x. cond (eqb (elementType (treeOf b) s) MIXED) x (elementType (treeOf b) s))
+      (indices-at b (table-passed b (a .accepted)) (connectivityOf (treeOf b) s) (connectivity a) (elementStart (treeOf b) s k) (omega (arith, span a k h))))
+
+  fits-read : (k : ℕ) → k < elementCount (treeOf b) s → typeFits (layoutIn b (entry (treeOf b) s)) k ≡ typeFits (layoutOf (treeOf b) s) k
+  unfolding typeFits entryStart elementStart
+  fits-read k h = rw (start-read k (omega arith), start-read (suc k) h, type-read k h)
+
   pub readable-at : (k : ℕ) → k < elementCount (treeOf b) s → readable b (entry (treeOf b) s) k ≡ true
   unfolding readable entry elementRules connectivityLength
   readable-at k h =
-      rw (start-read k (omega arith), start-read (suc k) h)
+      rw (start-read k (omega arith), start-read (suc k) h, fits-read k h)
+      (and-both _ _
       (and-both _ _
       (and-both _ _
       (and-both _ _
@@ -83,24 +98,24 @@ module _ {b : List ℕ} {z s : ℕ} (a : InZone b z s) where
       (offsets-inside k h))
       (starts-lawful k h))
       (le-leb _ _ (span a k h .ends-inside)))
+      (type-fits a k h))
 
   -- an element's size, and the number stored at a corner
   size-read : (k : ℕ) → k < elementCount (treeOf b) s → entrySize b (entry (treeOf b) s) k ≡ elementSize (treeOf b) s k
-  unfolding entrySize elementSize
-  size-read k h = rw (start-read k (omega arith), start-read (suc k) h)
+  unfolding entrySize elementSize sizeOf entry entryStart elementStart layoutIn layoutOf
+  size-read k h = rw (start-read k (omega arith), start-read (suc k) h, type-read k h)
 
   pub corner-inside : (k c : ℕ) → k < elementCount (treeOf b) s → 1 ≤ c → c ≤ elementSize (treeOf b) s k
-      → elementStart (treeOf b) s k + (c - 1) < connectivityLength (treeOf b) s
-  unfolding elementSize
-  corner-inside k c h l m = omega (arith, span a k h)
+      → cornerPlace (layoutOf (treeOf b) s) k c < connectivityLength (treeOf b) s
+  corner-inside k c h l m = omega (arith, span a k h .ends-inside, corner-before-end a k c h l m)
 
   number-read : (k c : ℕ) → k < elementCount (treeOf b) s → 1 ≤ c → c ≤ elementSize (treeOf b) s k
       → cornerNumber b (entry (treeOf b) s) k c ≡ signed (width (treeOf b) (connectivityOf (treeOf b) s)) (cornerReference (treeOf b) s k c)
-  unfolding cornerNumber entry cornerReference reference connectivityLength
+  unfolding cornerNumber entry cornerReference reference connectivityLength cornerPlace entryStart elementStart layoutIn layoutOf
   number-read k c h l m =
       rw (start-read k (omega arith))
       (ap (signed (width (treeOf b) (connectivityOf (treeOf b) s)))
-      (indices-at b (table-passed b (a .accepted)) (connectivityOf (treeOf b) s) (connectivity a) (elementStart (treeOf b) s k + (c - 1))
+      (indices-at b (table-passed b (a .accepted)) (connectivityOf (treeOf b) s) (connectivity a) (cornerPlace (layoutOf (treeOf b) s) k c)
       (corner-inside k c h l m)))
 
   -- an element of the range is one of the elements
@@ -119,6 +134,11 @@ module _ {b : List ℕ} {z s : ℕ} (a : InZone b z s) where
       → elementCornersAnswer b (entry (treeOf b) s) el room ≡ rejected (rejection 41 0)
   unfolding elementCornersAnswer elementCornersCheck check _gives_ _then_ inEntry entry
   element-41 el room f = rw (not-between (firstElement (treeOf b) s) el (lastElement (treeOf b) s) f)
+
+  pub type-41 : (el : ℕ) → ((firstElement (treeOf b) s ≤ el) × (el ≤ lastElement (treeOf b) s) → ⊥)
+      → ownTypeAnswer b (entry (treeOf b) s) el ≡ rejected (rejection 41 0)
+  unfolding ownTypeAnswer ownTypeCheck check _gives_ _then_ inEntry entry
+  type-41 el f = rw (not-between (firstElement (treeOf b) s) el (lastElement (treeOf b) s) f)
 
   module _ (el c : ℕ) (l : firstElement (treeOf b) s ≤ el) (m : el ≤ lastElement (treeOf b) s) where
     in-entry : inEntry (entry (treeOf b) s) el ≡ true
@@ -160,3 +180,8 @@ module _ {b : List ℕ} {z s : ℕ} (a : InZone b z s) where
         (el - firstElement (treeOf b) s))
     unfolding elementCornersAnswer elementCornersCheck check entry
     element-answer room = rw (in-entry, can-read, size-read (el - firstElement (treeOf b) s) (element-inside el l m))
+
+    -- an element's own type
+    pub type-answer : ownTypeAnswer b (entry (treeOf b) s) el ≡ answer (ownType (layoutOf (treeOf b) s) (el - firstElement (treeOf b) s))
+    unfolding ownTypeAnswer ownTypeCheck check _gives_ _then_ entry
+    type-answer = rw (in-entry, can-read, type-read (el - firstElement (treeOf b) s) (element-inside el l m))

@@ -1,19 +1,22 @@
 -- Demand 3, proved. A read with the k-th entry is the corner reader's at the zone's k-th section, whose answer the image's rules decide; and a run of
 -- reads changes nothing, so each of its reads is one from the given state.
-use Prim.Native.Nat.{ℕ, _+_, _-_, _/_, _<_}
+use Prim.Native.Nat.{ℕ, suc, _+_, _-_, _/_, _<_}
 use mathlib.Core.Path.{_≡_, sym, _∙_}
 use mathlib.Core.Bool.{true}
 use mathlib.Core.List.{List}
 use mathlib.Core.Logic.{⊎-elim}
 use native.Mathlib.Omega.{arith}
+use native.Mathlib.Decide.{ℕ-discrete}
 use lib.ListN.{length}
 use lib.IntN.{ℤ, natAbs}
+use borrow.Author.Tests.{ne-eqb}
 use Rattle.model.specs.declared.Corner.{Corner}
 use Rattle.model.specs.Lists.{over}
 use Rattle.model.specs.Rules.{Answer, answer, passed, leaves}
 use Rattle.model.specs.Image.{Tree, treeOf}
 use Rattle.model.specs.Containment.{isZone}
-use Rattle.model.specs.Elements.{NFACE, elementType, firstElement, lastElement, elementStart, elementSize, cornerReference, connectivityLength}
+use Rattle.model.specs.Elements.{MIXED, NFACE, elementType, firstElement, lastElement, elementStart, elementSize, cornerReference, connectivityLength}
+use Rattle.model.specs.Elements.{startOf, sizeOf, cornerPlace, typeFits, layoutOf}
 use Rattle.model.specs.Validation.{imageCheck}
 use Rattle.model.specs.Sections.{sectionNodes, entry, entries, sectionsCheck, sectionsAnswer, sectionNumbersMemory}
 use Rattle.model.specs.Corner.{cornerAnswer}
@@ -21,13 +24,14 @@ use Rattle.model.specs.Answers.{cornerTells}
 use Rattle.model.specs.Reads.{readAnswer, ReadMade, IsRead}
 use Rattle.model.specs.Demand3.{sectionCount, sectionNode, given, InSection, sizeIn, SizeExact, IsCornerOf, storedAt, NodeNumber, FaceNumber, ReadAnswers}
 use Rattle.model.specs.Demand3.{ReadHolds, Listed, Claim3, Demand3, EntriesGiven}
-use Rattle.model.proofs.Logic.{inside-or-not}
+use Rattle.model.proofs.Logic.{when, inside-or-not}
 use Rattle.model.proofs.ReaderCases.{ReaderCase, outside, lacking, stored, case-41, case-rule, case-no-other, case-value, case-stored}
 use Rattle.model.proofs.Passed.{check-pass, then-first, then-second, gives-check, gives-value}
 use Rattle.model.proofs.Runs.{read-leaves, run-exists, run-kept, ReadKept, all-of}
 use Rattle.model.proofs.ZoneEntries.{nodes-counted, section-at, section-listed, listed-once, read-is, one-for-each}
 use Rattle.model.proofs.Accepted.{accepted}
-use Rattle.model.proofs.InZone.{InZone, span}
+use Rattle.model.proofs.Layouts.{mixed-to-end, mixed-some, plain-to-end}
+use Rattle.model.proofs.InZone.{InZone, span, type-fits, corner-no-type}
 use Rattle.model.proofs.Corners.{corner-inside, element-inside, answer-41, answer-42, answer-stored}
 use Rattle.model.proofs.NoneNegative.{not-one-negative}
 use Rattle.model.proofs.References.{one-section, HasFace, face-inside, node-inside, node-signed, face-signed}
@@ -67,10 +71,23 @@ module _ (b : List ℕ) (ok : imageCheck b ≡ passed) (z : ℕ) (rest : List �
   corner-read k f c h i j m r e q = (read-leaves m r ∙ e, case-value (λ j n. n j) (rw q at (step-case m r e (rw q h))) i j)
 
   size-exact : (k el : ℕ) → k < sectionCount (treeOf b) z → InSection (treeOf b) z k el → SizeExact (treeOf b) z k el
-  unfolding elementSize
+  unfolding elementSize elementStart layoutOf
   size-exact k el h i =
-      let s = span (in-zone k h) _ (element-inside (in-zone k h) el (i .0) (i .1)) in
-      record { not-empty = omega (arith, s .starts-before); to-end = omega (arith, s .starts-before) }
+      let a = in-zone k h in
+      let l = layoutOf (treeOf b) (sectionNode (treeOf b) z k) in
+      let j = element-inside a el (i .0) (i .1) in
+      let s = span a _ j .starts-before in
+      let d = el - firstElement (treeOf b) (sectionNode (treeOf b) z k) in
+      let plain : (l .sectionType ≡ MIXED → ⊥) → startOf l d + sizeOf l d ≡ startOf l (suc d) = λ n. plain-to-end l d (ne-eqb (l .sectionType) MIXED n) s in
+      let fits : l .sectionType ≡ MIXED → typeFits l d ≡ true = λ m. when _ _ (type-fits a d j) (rw m) in
+      record {
+        not-empty = elim (ℕ-discrete (l .sectionType) MIXED) [
+          | yes m ↦ mixed-some l _ (rw m) (fits m)
+          | no n ↦ omega (arith, plain n)
+        ];
+        to-end = plain;
+        mixed-to-end = λ m. mixed-to-end l _ (rw m) (fits m);
+      }
 
   -- a face of the zone
   face : (f : ℕ) → HasFace b z f → FaceNumber b z rest f
@@ -96,7 +113,7 @@ module _ (b : List ℕ) (ok : imageCheck b ≡ passed) (z : ℕ) (rest : List �
     s = sectionNode (treeOf b) z k
 
     place-inside : InSection (treeOf b) z k el → IsCornerOf (treeOf b) z k el c
-        → elementStart (treeOf b) s (el - firstElement (treeOf b) s) + (c - 1) < connectivityLength (treeOf b) s
+        → cornerPlace (layoutOf (treeOf b) s) (el - firstElement (treeOf b) s) c < connectivityLength (treeOf b) s
     unfolding s
     place-inside i j = corner-inside (in-zone k h) _ c (element-inside (in-zone k h) el (i .0) (i .1)) (j .0) (j .1)
 
@@ -104,8 +121,9 @@ module _ (b : List ℕ) (ok : imageCheck b ≡ passed) (z : ℕ) (rest : List �
         → NodeNumber (treeOf b) z (storedAt (treeOf b) z k el c)
     unfolding s cornerReference
     node-read zone y i j =
-        let n = node-inside (in-zone k h) y _ (place-inside i j) in
-        record { node = _; number-is = node-signed (in-zone k h) zone y _ (place-inside i j); from-one = n .0; to-vertex-size = n .1 }
+        let v = corner-no-type (in-zone k h) _ c (element-inside (in-zone k h) el (i .0) (i .1)) (j .0) (j .1) in
+        let n = node-inside (in-zone k h) y _ (place-inside i j) v in
+        record { node = _; number-is = node-signed (in-zone k h) zone y _ (place-inside i j) v; from-one = n .0; to-vertex-size = n .1 }
 
     face-read : elementType (treeOf b) s ≡ NFACE → InSection (treeOf b) z k el → IsCornerOf (treeOf b) z k el c
         → FaceNumber b z rest (natAbs (storedAt (treeOf b) z k el c))

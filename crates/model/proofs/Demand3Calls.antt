@@ -19,18 +19,19 @@ use Rattle.model.specs.Bytes.{le, numbers, signed}
 use Rattle.model.specs.Rules.{Answer, answer, passed, _unless_, check, _then_, _gives_, leaves}
 use Rattle.model.specs.Image.{treeOf, nodeCount}
 use Rattle.model.specs.Containment.{isZone, sectionOf}
-use Rattle.model.specs.Elements.{NFACE, elementType, firstElement, lastElement, elementSize, connectivityLength}
+use Rattle.model.specs.Elements.{NFACE, elementType, firstElement, lastElement, ownType, layoutOf, connectivityLength}
 use Rattle.model.specs.Validation.{Counts, validation, imageCheck}
 use Rattle.model.specs.Sections.{sectionNodes, entry, sectionEntries, allNumbers, sectionsCheck, sectionsAnswer, sectionsMemory, sectionNumbersMemory}
 use Rattle.model.specs.Answers.{cornerTells}
 use Rattle.model.specs.Reads.{sectionAt, readAnswer, ReadState, IsRead, done, next, AllOf, all-none, all-more}
 use Rattle.model.specs.ReadList.{ruleOf, cornerFrom}
 use Rattle.model.specs.ElementCorners.{elementCornersAnswer, elementCornersMemory}
+use Rattle.model.specs.OwnType.{ownTypeAnswer}
 use Rattle.model.specs.Exports.{wordsFit, exportRule, exportBytes, exportMemory, countWords, sectionIn, readFits, cornerExported, numberBytes}
-use Rattle.model.specs.Exports.{elementExported, sizeWord, ElementExport}
-use Rattle.model.specs.Demand3.{sectionCount, sectionNode, given, InSection, sizeIn, Listed, ReadHolds}
+use Rattle.model.specs.Exports.{elementExported, countWord, ElementExport, typeExported, TypeExport}
+use Rattle.model.specs.Demand3.{sectionCount, sectionNode, given, InSection, typeIn, sizeIn, Listed, ReadHolds}
 use Rattle.model.specs.Demand3Calls.{StructsGiven, ElementAnswers, CornerCall, Copied, CopiedNumbers, IsCornerCall, readMade, CallRun, no-call, next-call}
-use Rattle.model.specs.Demand3Calls.{ElementCall, SectionsGiven}
+use Rattle.model.specs.Demand3Calls.{ElementCall, TypeAnswers, TypeCall, SectionsGiven}
 use Rattle.model.proofs.Logic.{inside-or-not}
 use Rattle.model.proofs.Passed.{check-pass, then-first, then-second, gives-check, gives-value}
 use Rattle.model.proofs.LittleEndian.{le-written, signed-bits, bits-small}
@@ -42,9 +43,10 @@ use Rattle.model.proofs.Bounds.{table-laid}
 use Rattle.model.proofs.Walks.{count-few}
 use Rattle.model.proofs.Arrays.{indices-few}
 use Rattle.model.proofs.Numbered.{fromOne, of-check, of-then, all-numbered, answered}
-use Rattle.model.proofs.InZone.{range, connectivity, span}
+use Rattle.model.proofs.InZone.{range, connectivity, size-inside}
 use Rattle.model.proofs.References.{vertex-size-small}
-use Rattle.model.proofs.Corners.{element-inside, element-41, element-answer}
+use Rattle.model.proofs.NoneNegative.{own-type-small}
+use Rattle.model.proofs.Corners.{element-inside, element-41, element-answer, type-41, type-answer}
 use Rattle.model.proofs.ElementCorners.{by-corner-reads, behind-kept, refused-kept}
 use Rattle.model.proofs.ReaderCases.{ReaderCase, outside, lacking, stored, case-41, case-rule, case-no-other, case-value, case-stored}
 use Rattle.model.proofs.Demand3.{in-zone, read-case, read-answers, claim3, demand3, entries-given}
@@ -115,6 +117,28 @@ module _ (b : List ℕ) (ok : imageCheck b ≡ passed) (z : ℕ) (rest : List �
     where
       same-answer : {x y : ℤ} → answer x ≡ answer y → x ≡ y
       same-answer p = cc
+
+  -- its own type: no rule but 41 comes
+  TypeCase : Answer ℕ → Type 0
+  TypeCase a = ReaderCase (InSection (treeOf b) z k element) (Unit {0}) ⊥ 0 (typeIn (treeOf b) z k element) a
+
+  type-case : TypeCase (ownTypeAnswer b (sectionAt (given b z rest .entries) k) element)
+  unfolding TypeCase
+  type-case =
+      let i = in-zone b ok z rest k h in
+      rw (entry-is b z rest k h)
+      (⊎-elim (λ j. stored j tt (type-answer i element 1 (j .0) (j .1))) (λ n. outside n (type-41 i element n))
+      (inside-or-not (firstElement (treeOf b) (sectionNode (treeOf b) z k)) element (lastElement (treeOf b) (sectionNode (treeOf b) z k))))
+
+  pub type-answers : (a : Answer ℕ) → a ≡ ownTypeAnswer b (sectionAt (given b z rest .entries) k) element → TypeAnswers b z k element a
+  unfolding TypeCase
+  type-answers a e =
+      let d : TypeCase a = rw e type-case in
+      record {
+        meets-41 = case-41 (λ q. omega arith) d;
+        never-43 = case-no-other 43 (λ q. omega arith) (λ q. omega arith) d;
+        type-answered = λ i. case-value (λ x y. y) d i tt;
+      }
 
 -- the bytes that a caller copied hold the k-th entry
 section-front : (l : List ℕ) → sectionAt (take 9 l) 0 ≡ sectionAt l 0
@@ -201,20 +225,19 @@ module _ (b : List ℕ) (c : Counts) (acc : validation b ≡ answer c) (z : ℕ)
 
   size-few : (k element room : ℕ) → k < sectionCount (treeOf b) z → (n : ℕ)
       → elementCornersAnswer b (sectionAt (given b z rest .entries) k) element room ≡ answer n → n ≤ 16777216
-  unfolding ElementCase elementSize connectivityLength
+  unfolding ElementCase connectivityLength
   size-few k element room h n q =
       let ok = accepted b acc in
       let a = in-zone b ok z rest k h in
       let w = case-stored (element-case b ok z rest k h element room) n q in
-      let s = span a _ (element-inside a element (w .0 .0) (w .0 .1)) in
-      omega (arith, w .2, s .ends-inside, indices-few b (table-passed b ok) _ (connectivity a))
+      omega (arith, w .2, size-inside a _ (element-inside a element (w .0 .0) (w .0 .1)), indices-few b (table-passed b ok) _ (connectivity a))
 
   -- a call of the export of all corners
   pub element-call : (k element : ℕ) (section : List ℕ) (out : List ℤ) (size : List ℕ) (r : ℕ) (b′ section′ : List ℕ) (out′ : List ℤ) (size′ : List ℕ)
       → k < sectionCount (treeOf b) z
       → CopiedNumbers (given b z rest .entries) k section → 8 ≤ length size → ElementExport b section element out size r b′ section′ out′ size′
       → ElementCall b z rest k element out r out′ size′
-  unfolding elementExported ruleOf sizeWord leaves over _then_
+  unfolding elementExported ruleOf countWord leaves over _then_
   element-call k element section out size r b′ section′ out′ size′ h copied room w =
       let ok = accepted b acc in
       let a = elementCornersAnswer b (sectionAt (given b z rest .entries) k) element (length out) in
@@ -228,6 +251,33 @@ module _ (b : List ℕ) (c : Counts) (acc : validation b ≡ answer c) (z : ℕ)
         size-is = λ n q.
             let few : n < 256 ^ 8 = omega (arith, size-few k element (length out) h n q) in
             (w .rule-is ∙ ap ruleOf (e ∙ q), rw (w .size-is, fits, numbers-copied copied, q) (le-written 8 n _ few));
+      }
+
+  type-few : (k element : ℕ) → k < sectionCount (treeOf b) z → (n : ℕ) → ownTypeAnswer b (sectionAt (given b z rest .entries) k) element ≡ answer n → n ≤ 23
+  unfolding TypeCase
+  type-few k element h n q =
+      let ok = accepted b acc in
+      let a = in-zone b ok z rest k h in
+      let w = case-stored (type-case b ok z rest k h element) n q in
+      omega (arith, w .2, own-type-small a _ (element-inside a element (w .0 .0) (w .0 .1)))
+
+  -- a call of the export of an element's own type
+  pub type-call : (k element : ℕ) (section out : List ℕ) (r : ℕ) (b′ section′ out′ : List ℕ) → k < sectionCount (treeOf b) z
+      → CopiedNumbers (given b z rest .entries) k section → 8 ≤ length out → TypeExport b section element out r b′ section′ out′
+      → TypeCall b z k element r out′
+  unfolding typeExported ruleOf countWord leaves over _then_
+  type-call k element section out r b′ section′ out′ h copied room w =
+      let ok = accepted b acc in
+      let a = ownTypeAnswer b (sectionAt (given b z rest .entries) k) element in
+      let fits = read-fits 9 section out (copied .whole) room in
+      let e : typeExported b section element out ≡ a = rw (fits, numbers-copied copied) in
+      record {
+        tells = a;
+        answers = type-answers b ok z rest k h element a refl;
+        refused-by = λ why q. w .rule-is ∙ ap ruleOf (e ∙ q);
+        type-is = λ n q.
+            let few : n < 256 ^ 8 = omega (arith, type-few k element h n q) in
+            (w .rule-is ∙ ap ruleOf (e ∙ q), rw (w .type-is, fits, numbers-copied copied, q) (le-written 8 n _ few));
       }
 
 sections-few : (b : List ℕ) (z room n : ℕ) → sectionsAnswer b z room ≡ answer n → nodeCount b ≤ 4096

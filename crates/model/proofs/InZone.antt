@@ -6,24 +6,26 @@ use mathlib.Core.Bool.{Bool, true, false, _&&_}
 use mathlib.Core.List.{List, [], _∷_}
 use native.Mathlib.Omega.{arith}
 use native.Mathlib.Nat.{suc-mul, mul-le-mul-right}
-use lib.Dec.{leb, ltb}
+use lib.Dec.{eqb, leb, ltb}
 use borrow.Author.Tests.{eqb-true, leb-true, ltb-true, ltb-false}
-use Rattle.model.specs.Lists.{row}
-use Rattle.model.specs.Bytes.{numbers, text, spells, half, below}
+use Rattle.model.specs.Lists.{_⊃_, row}
+use Rattle.model.specs.Bytes.{numbers, text, spells, half}
 use Rattle.model.specs.Rules.{passed}
 use Rattle.model.specs.Image.{Tree, treeOf, nodeCount, node, name, width, number, I4, I8}
 use Rattle.model.specs.Containment.{role, Elements, IndexRange, DataArray, sectionOf, found}
 use Rattle.model.specs.Values.{sidsRules, size, typed, elementArray, complete, valueLawful, conforming, rangeOf, offsetsOf, connectivityOf}
 use Rattle.model.specs.Values.{rangeValue, indexRangeValue}
 use Rattle.model.specs.Elements.{nodesPer, hasOffsets, taken, elementType, firstElement, lastElement, elementCount, startOffset, connectivityLength}
-use Rattle.model.specs.Elements.{elementStart, elementRules, lengthsFit, startsAtZero, rises, allRise, endsAtLength}
+use Rattle.model.specs.Elements.{elementStart, elementSize, elementRules, lengthsFit, startsAtZero, allRise, endsAtLength}
+use Rattle.model.specs.Elements.{MIXED, startOf, cornerPlace, typeFits, layoutOf, allTypesFit, isTypeNumber}
 use Rattle.model.specs.Validation.{imageCheck}
-use Rattle.model.proofs.Logic.{untrue, and-first, and-second, or-left, or-right, or-cases, when}
+use Rattle.model.proofs.Logic.{untrue, and-first, and-second, or-left, or-right, or-cases, when, implied}
 use Rattle.model.proofs.Walks.{every-at}
 use Rattle.model.proofs.Passed.{Claim}
 use Rattle.model.proofs.Accepted.{table-passed, sids-rule, element-rule}
 use Rattle.model.proofs.Conforming.{IsSection, section-is, conforming-inside, conforming-value, conforming-parent, conforming-role, conforming-name}
-use Rattle.model.proofs.TwosComplement.{rise-small, rise-next, rise-last}
+use Rattle.model.proofs.StartOffsets.{offsets-small, offsets-next, offsets-end}
+use Rattle.model.proofs.Layouts.{corners-fill, corner-next, corner-behind-type, no-type-between}
 use Rattle.model.proofs.Arrays.{Indices, indices, element-array}
 use Rattle.model.proofs.Absent.{absent-size}
 
@@ -120,34 +122,20 @@ module _ {b : List ℕ} {z s : ℕ} (a : InZone b z s) where
         (sized-found b (offsetsOf (treeOf b) s) (omega (arith, offsets-size)))
 
     -- 30, 31, 32
-    offsets-first : startOffset (treeOf b) s 0 ≡ 0
-    unfolding elementRules startsAtZero
-    offsets-first = eqb-true _ _ (when _ _ (section-rule 30) o)
+    starts-at-zero : startsAtZero (treeOf b) s ≡ true
+    unfolding elementRules
+    starts-at-zero = when _ _ (section-rule 30) o
 
-    offsets-rise : (k : ℕ) → k < elementCount (treeOf b) s
-        → below (width (treeOf b) (offsetsOf (treeOf b) s)) (startOffset (treeOf b) s k) (startOffset (treeOf b) s (suc k)) ≡ true
-    unfolding elementRules allRise rises
-    offsets-rise k h =
-        every-at (rises (treeOf b) s) (elementCount (treeOf b) s) 0 k (when _ _ (section-rule 31) o) (omega arith) (omega arith)
+    all-rise : allRise (treeOf b) s ≡ true
+    unfolding elementRules
+    all-rise = when _ _ (section-rule 31) o
 
-    offsets-last : startOffset (treeOf b) s (elementCount (treeOf b) s) ≡ connectivityLength (treeOf b) s
-    unfolding elementRules endsAtLength
-    offsets-last = eqb-true _ _ (when _ _ (section-rule 32) o)
+    ends-at-length : endsAtLength (treeOf b) s ≡ true
+    unfolding elementRules
+    ends-at-length = when _ _ (section-rule 32) o
 
-    -- none is negative
-    pub offsets-small : (k : ℕ) → k ≤ elementCount (treeOf b) s → startOffset (treeOf b) s k < half (width (treeOf b) (offsetsOf (treeOf b) s))
-    offsets-small k h =
-        rise-small (width (treeOf b) (offsetsOf (treeOf b) s)) (elementCount (treeOf b) s) (startOffset (treeOf b) s) offsets-first offsets-rise k h
-
-    offsets-next : (k : ℕ) → k < elementCount (treeOf b) s → startOffset (treeOf b) s k < startOffset (treeOf b) s (suc k)
-    offsets-next k h =
-        rise-next (width (treeOf b) (offsetsOf (treeOf b) s)) (elementCount (treeOf b) s) (startOffset (treeOf b) s) offsets-first offsets-rise k h
-
-    offsets-end : (k : ℕ) → k ≤ elementCount (treeOf b) s → startOffset (treeOf b) s k ≤ connectivityLength (treeOf b) s
-    offsets-end k h =
-        let n = elementCount (treeOf b) s in
-        let r = rise-last n (startOffset (treeOf b) s) offsets-next k (n - k) (omega arith) in
-        omega (arith, offsets-last)
+    pub offsets-not-negative : (k : ℕ) → k ≤ elementCount (treeOf b) s → startOffset (treeOf b) s k < half (width (treeOf b) (offsetsOf (treeOf b) s))
+    offsets-not-negative k h = offsets-small (treeOf b) s starts-at-zero all-rise k h
 
   module _ (o : hasOffsets (elementType (treeOf b) s) ≡ false) where
     -- 27: some nodes an element
@@ -162,14 +150,54 @@ module _ {b : List ℕ} {z s : ℕ} (a : InZone b z s) where
 
   -- the k-th element starts before it ends, and it ends in the connectivity
   pub span : (k : ℕ) → k < elementCount (treeOf b) s → Span (treeOf b) s k
-  unfolding elementStart
+  unfolding elementStart startOf layoutOf
   span k h = by-type (hasOffsets (elementType (treeOf b) s)) refl
     where
       by-type : (t : Bool) → hasOffsets (elementType (treeOf b) s) ≡ t → Span (treeOf b) s k
-      by-type true o = record { starts-before = rw o (offsets-next o k h); ends-inside = rw o (offsets-end o (suc k) h) }
+      by-type true o =
+          record {
+            starts-before = rw o (offsets-next (treeOf b) s (starts-at-zero o) (all-rise o) k h);
+            ends-inside = rw o (offsets-end (treeOf b) s (starts-at-zero o) (all-rise o) (ends-at-length o) (suc k) h);
+          }
       by-type false o =
           let m = nodesPer (elementType (treeOf b) s) in
           record {
             starts-before = rw o (omega (arith, nodes-some o, suc-mul k m));
             ends-inside = rw o (omega (arith, connectivity-size o, mul-le-mul-right m h));
           }
+
+  -- 38
+  pub type-fits : (k : ℕ) → k < elementCount (treeOf b) s → (eqb (elementType (treeOf b) s) MIXED ⊃ typeFits (layoutOf (treeOf b) s) k) ≡ true
+  unfolding elementRules allTypesFit
+  type-fits k h =
+      implied _ _ (λ m. every-at (typeFits (layoutOf (treeOf b) s)) (elementCount (treeOf b) s) 0 k (when _ _ (section-rule 38) m) (omega arith) (omega arith))
+
+  pub size-inside : (k : ℕ) → k < elementCount (treeOf b) s → elementSize (treeOf b) s k ≤ connectivityLength (treeOf b) s
+  unfolding elementSize elementStart layoutOf
+  size-inside k h =
+      let r = span k h in
+      omega (arith, corners-fill (layoutOf (treeOf b) s) k (type-fits k h) (r .starts-before), r .ends-inside)
+
+  -- a corner stands before its element's end
+  pub corner-before-end : (k c : ℕ) → k < elementCount (treeOf b) s → 1 ≤ c → c ≤ elementSize (treeOf b) s k
+      → cornerPlace (layoutOf (treeOf b) s) k c < elementStart (treeOf b) s (suc k)
+  unfolding elementSize elementStart layoutOf
+  corner-before-end k c h p q =
+      let l = layoutOf (treeOf b) s in
+      omega (arith, corner-next l k c p, corners-fill l k (type-fits k h) (span k h .starts-before))
+
+  -- and is no type number
+  pub corner-no-type : (k c : ℕ) → k < elementCount (treeOf b) s → 1 ≤ c → c ≤ elementSize (treeOf b) s k
+      → isTypeNumber (treeOf b) s (cornerPlace (layoutOf (treeOf b) s) k c) ≡ false
+  unfolding isTypeNumber elementStart layoutOf
+  corner-no-type k c h p q = by-type (eqb (elementType (treeOf b) s) MIXED) refl
+    where
+      place : ℕ
+      place = cornerPlace (layoutOf (treeOf b) s) k c
+
+      by-type : (t : Bool) → eqb (elementType (treeOf b) s) MIXED ≡ t → isTypeNumber (treeOf b) s place ≡ false
+      by-type true m =
+          let l = layoutOf (treeOf b) s in
+          no-type-between (treeOf b) s (λ i u. span i u .starts-before) k place h (omega (arith, corner-next l k c p, corner-behind-type l k m))
+          (corner-before-end k c h p q)
+      by-type false m = rw m

@@ -13,6 +13,8 @@ pub mod Members
 pub mod Flat
 pub mod Runs
 pub mod TwosComplement
+pub mod StartOffsets
+pub mod Layouts
 pub mod Arrays
 pub mod InZone
 pub mod Corners

@@ -5,21 +5,22 @@ use mathlib.Core.Bool.{Bool, true, false, _&&_}
 use mathlib.Core.List.{List, [], _∷_}
 use native.Mathlib.Omega.{arith}
 use lib.IntN.{pos}
-use lib.Dec.{eqb, leb}
+use lib.Dec.{eqb, leb, ltb}
 use borrow.Author.Tests.{eqb-true, leb-true, leb-false, ne-eqb}
 use Rattle.model.specs.Lists.{Row, _has_, row, among}
 use Rattle.model.specs.Bytes.{text, signed}
 use Rattle.model.specs.Image.{Tree, treeOf, dataType, width, I4, I8}
 use Rattle.model.specs.Containment.{role, Zone, IndexRange, isZone, validated}
-use Rattle.model.specs.Values.{sidsRules, typed, shaped, rangeShape, typeLawful, indexDimension, vertexSize, rangeOf, offsetsOf}
+use Rattle.model.specs.Values.{sidsRules, typed, shaped, rangeShape, typeLawful, indexDimension, vertexSize, rangeOf, offsetsOf, connectivityOf}
 use Rattle.model.specs.Elements.{nodesPer, hasOffsets, taken, elementType, firstElement, lastElement, startOffset, elementRules}
+use Rattle.model.specs.Elements.{MIXED, elementCount, ownType, fitsLength, typeFits, layoutOf}
 use Rattle.model.specs.Demand3.{NoneNegative}
-use Rattle.model.proofs.Logic.{untrue, and-first, and-second, or-left, or-cases}
+use Rattle.model.proofs.Logic.{untrue, and-first, and-second, or-left, or-cases, when}
 use Rattle.model.proofs.Accepted.{sids-rule}
 use Rattle.model.proofs.Conforming.{conforming-type, conforming-role}
 use Rattle.model.proofs.TwosComplement.{half-wide, signed-is}
 use Rattle.model.proofs.Arrays.{width-lawful}
-use Rattle.model.proofs.InZone.{InZone, parts, role-is, section-rule, range, range-found, offsets-small}
+use Rattle.model.proofs.InZone.{InZone, parts, role-is, section-rule, range, range-found, offsets-not-negative, connectivity, type-fits}
 use Rattle.model.proofs.References.{zone-kind, zone-listed, vertex-size-small}
 
 -- a key past all keys of a table
@@ -37,7 +38,7 @@ row-past n key default ((k has v) ∷ rest) e h =
 -- a type that is taken is small
 not-taken : (y : ℕ) → 23 < y → taken y ≡ false
 unfolding taken nodesPer hasOffsets keysTo
-not-taken y h = rw (row-past 23 y 0 _ refl h, ne-eqb y 22 (λ q. omega arith), ne-eqb y 23 (λ q. omega arith))
+not-taken y h = rw (row-past 23 y 0 _ refl h, ne-eqb y 20 (λ q. omega arith), ne-eqb y 22 (λ q. omega arith), ne-eqb y 23 (λ q. omega arith))
 
 type-small : (y : ℕ) → taken y ≡ true → y ≤ 23
 type-small y e = by-test (leb y 23) refl
@@ -65,6 +66,18 @@ module _ {b : List ℕ} {z s : ℕ} (a : InZone b z s) where
       (rw (conforming-role (treeOf b) s IndexRange (text "ElementRange") (range-found a)) at
       (conforming-type (treeOf b) s IndexRange (text "ElementRange") (range-found a)))
 
+  -- 27 and 38
+  pub own-type-small : (k : ℕ) → k < elementCount (treeOf b) s → ownType (layoutOf (treeOf b) s) k ≤ 23
+  unfolding ownType layoutOf elementRules taken typeFits fitsLength
+  own-type-small k h = by-type (eqb (elementType (treeOf b) s) MIXED) refl
+    where
+      own : ℕ
+      own = ownType (layoutOf (treeOf b) s) k
+
+      by-type : (t : Bool) → eqb (elementType (treeOf b) s) MIXED ≡ t → own ≤ 23
+      by-type true m = type-small own (or-left (ltb 0 (nodesPer own)) _ (and-first (ltb 0 (nodesPer own)) _ (when _ _ (type-fits a k h) m)))
+      by-type false m = rw m (type-small (elementType (treeOf b) s) (section-rule a 27))
+
   module _ (zone : isZone (treeOf b) z ≡ true) where
     zone-typed : typed (treeOf b) z (I4 ∷ I8 ∷ []) ≡ true
     unfolding sidsRules typeLawful row
@@ -82,6 +95,9 @@ module _ {b : List ℕ} {z s : ℕ} (a : InZone b z s) where
           type-is = small-signed t s (elementType t s) section-typed (omega (arith, type-small (elementType t s) (section-rule a 27)));
           first-is = small-signed t (rangeOf t s) (firstElement t s) range-typed (omega arith);
           last-is = small-signed t (rangeOf t s) (lastElement t s) range-typed (omega arith);
-          offset-is = λ o i h. signed-is (width t (offsetsOf t s)) (startOffset t s i) (offsets-small a o i h);
+          offset-is = λ o i h. signed-is (width t (offsetsOf t s)) (startOffset t s i) (offsets-not-negative a o i h);
+          own-type-is = λ m i h.
+              let w = width t (connectivityOf t s) in
+              signed-is w (ownType (layoutOf t s) i) (omega (arith, own-type-small i h, half-wide w (connectivity a .wide)));
           vertex-size-is = small-signed t z (vertexSize t z 0) zone-typed (vertex-size-small a zone);
         }

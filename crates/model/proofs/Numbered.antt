@@ -24,6 +24,7 @@ use Rattle.model.specs.ArrayValue.{valueCheck, valueAnswer}
 use Rattle.model.specs.FaceUsage.{useEntry, useEntries, useNodes, usage, usageCheck, usageAnswer, usesIn, unused, useSign, usePlace}
 use Rattle.model.specs.ReadList.{ruleOf}
 use Rattle.model.specs.ElementCorners.{elementCornersCheck, elementCornersAnswer}
+use Rattle.model.specs.OwnType.{ownTypeCheck, ownTypeAnswer}
 use Rattle.model.specs.Exports.{Numbered, AllNumbered}
 use Rattle.model.proofs.Logic.{and-first, and-second}
 
@@ -100,7 +101,7 @@ of-nodes t z zero s bytes = tt
 of-nodes t z (suc n) s bytes = of-into (useEntries t s (usesIn t z s) 0 bytes) _ (of-entries t s (usesIn t z s) 0 bytes) (λ later. of-nodes t z n (suc s) later)
 
 pub all-numbered : (b : List ℕ) → AllNumbered b
-unfolding validation sectionsAnswer sectionsCheck cornerAnswer cornerCheck elementCornersAnswer elementCornersCheck usageAnswer usageCheck usage
+unfolding validation sectionsAnswer sectionsCheck cornerAnswer cornerCheck elementCornersAnswer elementCornersCheck ownTypeAnswer ownTypeCheck usageAnswer usageCheck usage
     nameBytesAnswer pathAnswer pathCheck dataSizeAnswer valueAnswer valueCheck fromOne
 all-numbered b =
     record {
@@ -108,6 +109,7 @@ all-numbered b =
       of-sections = λ z room. of-gives _ _ (of-then (imageCheck b) _ (of-image b) (of-check 0 _ refl));
       of-corner = λ e element corner. of-gives _ _ (of-check 0 _ refl);
       of-element = λ e element room. of-gives _ _ (of-check 0 _ refl);
+      of-type = λ e element. of-gives _ _ (of-check 0 _ refl);
       of-usage = λ z room.
           of-into _ _ (of-then _ _ (of-then (imageCheck b) _ (of-image b) (of-check 0 _ refl)) (of-nodes (treeOf b) z _ 0 _))
           (λ bytes. tt);

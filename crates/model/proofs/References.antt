@@ -15,7 +15,7 @@ use Rattle.model.specs.Containment.{role, Zone, Elements, isZone, valida
 use Rattle.model.specs.Values.{sidsRules, reads, structured, unstructured, zoneTypeOf, indexDimension, vertexSize, cellSize, unstructuredSizes, zoneValue}
 use Rattle.model.specs.Values.{typeLawful, valueLawful, placed, connectivityOf}
 use Rattle.model.specs.Elements.{NGON, NFACE, elementType, firstElement, lastElement, inRange, meets, overlap, overlaps, reference, connectivityLength}
-use Rattle.model.specs.Elements.{isNode, allNodes, faceSection, hasFace, faceOf, faceNumber, isFace, allFaces, elementRules}
+use Rattle.model.specs.Elements.{isTypeNumber, isNode, allNodes, faceSection, hasFace, faceOf, faceNumber, isFace, allFaces, elementRules}
 use Rattle.model.specs.Validation.{imageCheck}
 use Rattle.model.proofs.Logic.{same-is, untrue, and-first, and-second, and-both, or-cases, when, neither}
 use Rattle.model.proofs.Walks.{every-at, some-by, some-at}
@@ -72,13 +72,13 @@ module _ {b : List ℕ} {z s : ℕ} (a : InZone b z s) where
         (and-first (leb 1 v && leb v 2147483647 && leb (cellSize (treeOf b) z 0) 2147483647) _ h)))
 
   -- 34
-  pub node-inside : (elementType (treeOf b) s ≡ NFACE → ⊥) → (i : ℕ) → i < connectivityLength (treeOf b) s
+  pub node-inside : (elementType (treeOf b) s ≡ NFACE → ⊥) → (i : ℕ) → i < connectivityLength (treeOf b) s → isTypeNumber (treeOf b) s i ≡ false
       → (1 ≤ reference (treeOf b) s i) × (reference (treeOf b) s i ≤ vertexSize (treeOf b) z 0)
   unfolding elementRules allNodes isNode
-  node-inside n i h =
+  node-inside n i h y =
       let x = reference (treeOf b) s i in
       let r = when (not (eqb (elementType (treeOf b) s) NFACE)) (allNodes (treeOf b) s) (section-rule a 34) (rw (ne-eqb (elementType (treeOf b) s) NFACE n)) in
-      let e = rw (parts a .parent-is) at (every-at (isNode (treeOf b) s) (connectivityLength (treeOf b) s) 0 i r (omega arith) (omega arith)) in
+      let e = rw (parts a .parent-is, y) at (every-at (isNode (treeOf b) s) (connectivityLength (treeOf b) s) 0 i r (omega arith) (omega arith)) in
       (leb-true 1 x (and-first (leb 1 x) _ e), leb-true x (vertexSize (treeOf b) z 0) (and-second (leb 1 x) _ e))
 
   -- 28: an element number is not in the range of an earlier section too
@@ -140,11 +140,12 @@ face-inside {b} {z} {s} a e i h =
 -- what a signed reference says: a node number, or a face number's magnitude
 module _ {b : List ℕ} {z s : ℕ} (a : InZone b z s) where
   pub node-signed : isZone (treeOf b) z ≡ true → (elementType (treeOf b) s ≡ NFACE → ⊥) → (i : ℕ) → i < connectivityLength (treeOf b) s
+      → isTypeNumber (treeOf b) s i ≡ false
       → signed (width (treeOf b) (connectivityOf (treeOf b) s)) (reference (treeOf b) s i) ≡ pos (reference (treeOf b) s i)
-  node-signed zone n i h =
+  node-signed zone n i h y =
       let w = width (treeOf b) (connectivityOf (treeOf b) s) in
       signed-is w (reference (treeOf b) s i)
-      (omega (arith, node-inside a n i h, vertex-size-small a zone, half-wide w (connectivity a .wide)))
+      (omega (arith, node-inside a n i h y, vertex-size-small a zone, half-wide w (connectivity a .wide)))
 
   pub face-signed : elementType (treeOf b) s ≡ NFACE → (i : ℕ) → i < connectivityLength (treeOf b) s
       → natAbs (signed (width (treeOf b) (connectivityOf (treeOf b) s)) (reference (treeOf b) s i)) ≡ faceNumber (treeOf b) s i

@@ -15,7 +15,8 @@ use Rattle.model.specs.Rules.{rejected, answer, rejection}
 use Rattle.model.specs.Image.{Tree, treeOf, width}
 use Rattle.model.specs.Containment.{sectionOf, isZone}
 use Rattle.model.specs.Values.{vertexSize, rangeOf, offsetsOf, connectivityOf}
-use Rattle.model.specs.Elements.{NGON, NFACE, elementType, firstElement, lastElement, elementCount, startOffset, hasOffsets, elementStart, elementSize, cornerReference}
+use Rattle.model.specs.Elements.{MIXED, NGON, NFACE, elementType, firstElement, lastElement, elementCount, startOffset, hasOffsets, elementStart, elementSize}
+use Rattle.model.specs.Elements.{layoutOf, ownType, cornerReference}
 use Rattle.model.specs.Validation.{Counts, validation}
 use Rattle.model.specs.Sections.{entryLength, sectionNodes, entry, sectionEntries, allNumbers, sectionNumbersMemory}
 use Rattle.model.specs.Answers.{cornerTells}
@@ -32,11 +33,15 @@ sectionNode t z k = getD (sectionNodes t z) k 0
 abbrev pub given : List ℕ → ℕ → List ℕ → ReadState
 given b z rest = record { image = b; entries = allNumbers (sectionEntries (treeOf b) z) ++ rest }
 
--- of the zone's k-th section, as the image stores it: an element in its ElementRange, an element's size, a corner of it, the number stored there. The size is
--- end − start; in an accepted image an element starts before it ends (rule 31, and a fixed type has nodes), so the difference is exact (`SizeExact`).
+-- of the zone's k-th section, as the image stores it: an element in its ElementRange, an element's own type, its size, a corner of it, the number stored
+-- there. The size is end − start; in an accepted image an element starts before it ends (rule 31, and a fixed type has nodes), so the difference is exact
+-- (`SizeExact`). In a MIXED section it is the node count of the element's own type, and 1 + size is end − start (rule 38).
 module _ (t : Tree) (z k : ℕ) where
   abbrev pub InSection : ℕ → Type 0
   InSection element = (firstElement t (sectionNode t z k) ≤ element) × (element ≤ lastElement t (sectionNode t z k))
+
+  abbrev pub typeIn : ℕ → ℕ
+  typeIn element = ownType (layoutOf t (sectionNode t z k)) (element - firstElement t (sectionNode t z k))
 
   abbrev pub sizeIn : ℕ → ℕ
   sizeIn element = elementSize t (sectionNode t z k) (element - firstElement t (sectionNode t z k))
@@ -51,7 +56,11 @@ module _ (t : Tree) (z k : ℕ) where
 
   pub record SizeExact (element : ℕ) : Type 0 where
     pub not-empty : 1 ≤ sizeIn element
-    pub to-end : elementStart t (sectionNode t z k) (element - firstElement t (sectionNode t z k)) + sizeIn element
+    pub to-end : (elementType t (sectionNode t z k) ≡ MIXED → ⊥)
+        → elementStart t (sectionNode t z k) (element - firstElement t (sectionNode t z k)) + sizeIn element
+        ≡ elementStart t (sectionNode t z k) (suc (element - firstElement t (sectionNode t z k)))
+    pub mixed-to-end : elementType t (sectionNode t z k) ≡ MIXED
+        → elementStart t (sectionNode t z k) (element - firstElement t (sectionNode t z k)) + (1 + sizeIn element)
         ≡ elementStart t (sectionNode t z k) (suc (element - firstElement t (sectionNode t z k)))
 
 -- "A node number so read lies from 1 to VertexSize."
@@ -61,13 +70,15 @@ pub record NodeNumber (t : Tree) (z : ℕ) (n : ℤ) : Type 0 where
   pub from-one : 1 ≤ node
   pub to-vertex-size : node ≤ vertexSize t z 0
 
--- "type, range, offsets and connectivity, signed, in their own widths" (document 01): a section's numbers but for the connectivity, and VertexSize,
--- are not negative, so their bits are their values
+-- "type, range, offsets and connectivity, signed, in their own widths" (document 01). None of these is negative, so its bits are its value: a section's
+-- type, range and start offsets, the own types of the elements of a MIXED section, VertexSize
 pub record NoneNegative (t : Tree) (z s : ℕ) : Type 0 where
   pub type-is : signed (width t s) (elementType t s) ≡ pos (elementType t s)
   pub first-is : signed (width t (rangeOf t s)) (firstElement t s) ≡ pos (firstElement t s)
   pub last-is : signed (width t (rangeOf t s)) (lastElement t s) ≡ pos (lastElement t s)
   pub offset-is : hasOffsets (elementType t s) ≡ true → (i : ℕ) → i ≤ elementCount t s → signed (width t (offsetsOf t s)) (startOffset t s i) ≡ pos (startOffset t s i)
+  pub own-type-is : elementType t s ≡ MIXED → (i : ℕ) → i < elementCount t s
+      → signed (width t (connectivityOf t s)) (ownType (layoutOf t s) i) ≡ pos (ownType (layoutOf t s) i)
   pub vertex-size-is : signed (width t z) (vertexSize t z 0) ≡ pos (vertexSize t z 0)
 
 module _ (b : List ℕ) (z : ℕ) (rest : List ℕ) where

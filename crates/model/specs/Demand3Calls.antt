@@ -1,4 +1,4 @@
--- Demand 3 reaches the calls that ship: section entries as structs, all corners of an element at once, and the exports for C.
+-- Demand 3 reaches the calls that ship: section entries as structs, all corners of an element at once, an element's own type, and the exports for C.
 use Prim.Native.Nat.{ℕ, _*_, _-_, _≤_, _<_}
 use mathlib.Core.Path.{_≡_}
 use mathlib.Core.List.{List, [], _∷_}
@@ -16,7 +16,7 @@ use Rattle.model.specs.Corner.{cornerAnswer}
 use Rattle.model.specs.Reads.{CornerRead, sectionAt, ReadState, Request, ReadMade, IsRead}
 use Rattle.model.specs.ReadList.{cornerFrom}
 use Rattle.model.specs.Exports.{sectionSize, CornerExport}
-use Rattle.model.specs.Demand3.{sectionCount, given, InSection, sizeIn, IsCornerOf, storedAt, Claim3}
+use Rattle.model.specs.Demand3.{sectionCount, given, InSection, typeIn, sizeIn, IsCornerOf, storedAt, Claim3}
 
 -- The structs that the call for them leaves, where it answers a count: the k-th is the entry that the claim speaks of, and the corner reader on it
 -- makes a read with the k-th entry.
@@ -50,6 +50,13 @@ pub record ElementAnswers (b : List ℕ) (z : ℕ) (rest : List ℕ) (k element 
       → (getD out′ (c - 1) (pos 0) ≡ storedAt (treeOf b) z k element c)
       × (cornerAnswer b (sectionAt (given b z rest .entries) k) element c ≡ answer (getD out′ (c - 1) (pos 0)))
   pub rest-kept : (n : ℕ) → a ≡ answer n → drop n out′ ≡ drop n out
+
+-- An element's own type, with the k-th entry.
+pub record TypeAnswers (b : List ℕ) (z k element : ℕ) (a : Answer ℕ) : Type 0 where
+  -- 41 exactly when the element is outside the section's range, 43 never; every other call answers the type that the image has for the element
+  pub meets-41 : (a ≡ rejected (rejection 41 0)) ↔ (InSection (treeOf b) z k element → ⊥)
+  pub never-43 : (why : Rejection) → a ≡ rejected why → why .rule ≡ 43 → ⊥
+  pub type-answered : InSection (treeOf b) z k element → a ≡ answer (typeIn (treeOf b) z k element)
 
 -- A call of the corner export. The caller has copied the section's bytes from the list that the section call left: their nine words are the entry asked for.
 pub record CornerCall : Type 0 where
@@ -95,6 +102,13 @@ pub record ElementCall (b : List ℕ) (z : ℕ) (rest : List ℕ) (k element : �
   pub answers : ElementAnswers b z rest k element tells out out′
   pub refused-by : (why : Rejection) → tells ≡ rejected why → r ≡ why .rule
   pub size-is : (n : ℕ) → tells ≡ answer n → (r ≡ 0) × (le 8 size′ ≡ n)
+
+-- The export of an element's own type, likewise.
+pub record TypeCall (b : List ℕ) (z k element : ℕ) (r : ℕ) (out′ : List ℕ) : Type 0 where
+  pub tells : Answer ℕ
+  pub answers : TypeAnswers b z k element tells
+  pub refused-by : (why : Rejection) → tells ≡ rejected why → r ≡ why .rule
+  pub type-is : (n : ℕ) → tells ≡ answer n → (r ≡ 0) × (le 8 out′ ≡ n)
 
 -- The export of a zone's sections, where it answers rule 0: the second word of its answer is their count, and the list that it leaves is one that the claim
 -- speaks of.

@@ -1,4 +1,4 @@
--- Document 01, "Sections", and document 02, §2: rules 27 to 35.
+-- Document 01, "Sections", and document 02, §2 and §4: rules 27 to 35, and 38 between 33 and 34.
 use Prim.Native.Nat.{ℕ, zero, suc, _+_, _*_, _-_}
 use mathlib.Core.Bool.{Bool, cond, not, _&&_, _||_}
 use mathlib.Core.List.{List, [], _∷_}
@@ -9,6 +9,9 @@ use Rattle.model.specs.Rules.{Rule, _unless_}
 use Rattle.model.specs.Image.{Tree, parent, width, number}
 use Rattle.model.specs.Containment.{sectionOf, found}
 use Rattle.model.specs.Values.{size, cellDimension, vertexSize, typeLawful, valueLawful, rangeOf, offsetsOf, connectivityOf}
+
+abbrev pub MIXED : ℕ
+MIXED = 20
 
 abbrev pub NGON : ℕ
 NGON = 22
@@ -25,11 +28,42 @@ nodesPer e =
 
 -- the types whose elements are found by start offsets
 unfoldable pub hasOffsets : ℕ → Bool
-hasOffsets e = eqb e NGON || eqb e NFACE
+hasOffsets e = eqb e MIXED || eqb e NGON || eqb e NFACE
 
 -- the types that are taken
 unfoldable pub taken : ℕ → Bool
 taken e = ltb 0 (nodesPer e) || hasOffsets e
+
+-- What places a section's elements: its type, its start offsets and the entries of its connectivity, counted from 0, as their bits. A section of the
+-- image has one (`layoutOf`), and so has a section entry (`layoutIn`): whoever asks for an element's start, type, size or corners asks here.
+pub record Layout : Type 0 where
+  pub sectionType : ℕ
+  pub offset : ℕ → ℕ
+  pub connectivity : ℕ → ℕ
+
+-- where the k-th element starts, counted from 0; it ends where the next one starts
+unfoldable pub startOf : Layout → ℕ → ℕ
+startOf l k = cond (hasOffsets (l .sectionType)) (l .offset k) (k * nodesPer (l .sectionType))
+
+-- its own type: in a MIXED section the number that it begins with
+unfoldable pub ownType : Layout → ℕ → ℕ
+ownType l k = cond (eqb (l .sectionType) MIXED) (l .connectivity (startOf l k)) (l .sectionType)
+
+-- its size: in a MIXED section the nodes of its own type, else end − start
+unfoldable pub sizeOf : Layout → ℕ → ℕ
+sizeOf l k = cond (eqb (l .sectionType) MIXED) (nodesPer (ownType l k)) (startOf l (suc k) - startOf l k)
+
+-- the place of its corner c, counted from 1: in a MIXED section start + c, else start + c − 1
+unfoldable pub cornerPlace : Layout → ℕ → ℕ → ℕ
+cornerPlace l k c = startOf l k + cond (eqb (l .sectionType) MIXED) c (c - 1)
+
+-- a type fits a length: it is of the fixed list, and 1 + its nodes is the length
+unfoldable pub fitsLength : ℕ → ℕ → Bool
+fitsLength type length = ltb 0 (nodesPer type) && eqb (1 + nodesPer type) length
+
+-- the own type of the k-th element of a MIXED section fits end − start
+unfoldable pub typeFits : Layout → ℕ → Bool
+typeFits l k = fitsLength (ownType l k) (startOf l (suc k) - startOf l k)
 
 -- a section's type, and the numbers of its elements
 unfoldable pub elementType : Tree → ℕ → ℕ
@@ -58,16 +92,19 @@ reference t s k = number t (connectivityOf t s) k
 unfoldable pub connectivityLength : Tree → ℕ → ℕ
 connectivityLength t s = size t (connectivityOf t s)
 
--- where the section's k-th element starts, counted from 0; it ends where the next one starts
+-- the section's layout
+unfoldable pub layoutOf : Tree → ℕ → Layout
+layoutOf t s = record { sectionType = elementType t s; offset = startOffset t s; connectivity = reference t s }
+
+-- start and size of its k-th element, counted from 0, and the number stored at its corner c, counted from 1
 unfoldable pub elementStart : Tree → ℕ → ℕ → ℕ
-elementStart t s k = cond (hasOffsets (elementType t s)) (startOffset t s k) (k * nodesPer (elementType t s))
+elementStart t s k = startOf (layoutOf t s) k
 
 unfoldable pub elementSize : Tree → ℕ → ℕ → ℕ
-elementSize t s k = elementStart t s (suc k) - elementStart t s k
+elementSize t s k = sizeOf (layoutOf t s) k
 
--- corner c of the section's k-th element, counted from 1
 unfoldable pub cornerReference : Tree → ℕ → ℕ → ℕ → ℕ
-cornerReference t s k c = reference t s (elementStart t s k + (c - 1))
+cornerReference t s k c = reference t s (cornerPlace (layoutOf t s) k c)
 
 -- 28: the range meets that of an earlier section of the zone
 unfoldable pub meets : Tree → ℕ → ℕ → Bool
@@ -111,9 +148,20 @@ largeEnough t s k = leb (leastSize t s) (elementSize t s k)
 unfoldable pub allLargeEnough : Tree → ℕ → Bool
 allLargeEnough t s = everyFrom (largeEnough t s) (elementCount t s) 0
 
--- 34: a node reference lies in 1 to VertexSize
+-- 38: in a MIXED section each element's own type fits
+unfoldable pub allTypesFit : Tree → ℕ → Bool
+allTypesFit t s = everyFrom (typeFits (layoutOf t s)) (elementCount t s) 0
+
+-- entry k of a MIXED section is a type number where an element starts
+unfoldable pub startsAt : Tree → ℕ → ℕ → ℕ → Bool
+startsAt t s k j = eqb (elementStart t s j) k
+
+unfoldable pub isTypeNumber : Tree → ℕ → ℕ → Bool
+isTypeNumber t s k = eqb (elementType t s) MIXED && someFrom (startsAt t s k) (elementCount t s) 0
+
+-- 34: a node reference, which is every entry that is no type number, lies in 1 to VertexSize
 unfoldable pub isNode : Tree → ℕ → ℕ → Bool
-isNode t s k = leb 1 (reference t s k) && leb (reference t s k) (vertexSize t (parent t s) 0)
+isNode t s k = isTypeNumber t s k || (leb 1 (reference t s k) && leb (reference t s k) (vertexSize t (parent t s) 0))
 
 unfoldable pub allNodes : Tree → ℕ → Bool
 allNodes t s = everyFrom (isNode t s) (connectivityLength t s) 0
@@ -148,6 +196,7 @@ elementRules t s =
     ∷ 31 unless (hasOffsets (elementType t s) ⊃ allRise t s)
     ∷ 32 unless (hasOffsets (elementType t s) ⊃ endsAtLength t s)
     ∷ 33 unless allLargeEnough t s
+    ∷ 38 unless (eqb (elementType t s) MIXED ⊃ allTypesFit t s)
     ∷ 34 unless (not (eqb (elementType t s) NFACE) ⊃ allNodes t s)
     ∷ 35 unless (eqb (elementType t s) NFACE ⊃ allFaces t s)
     ∷ []

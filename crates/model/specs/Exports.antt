@@ -23,6 +23,7 @@ use Rattle.model.specs.FaceUsage.{usageAnswer}
 use Rattle.model.specs.Reads.{sectionAt}
 use Rattle.model.specs.ReadList.{ruleOf}
 use Rattle.model.specs.ElementCorners.{elementCornersAnswer, elementCornersMemory}
+use Rattle.model.specs.OwnType.{ownTypeAnswer}
 
 -- The words of an answer: the node, 0 where no rule names one, then the values, 0 beside a rule.
 -- nodes validated, nodes skipped, zones, sections
@@ -76,6 +77,7 @@ pub record AllNumbered (b : List ℕ) : Type 0 where
   pub of-sections : (z room : ℕ) → Numbered (sectionsAnswer b z room)
   pub of-corner : (e : Section) (element corner : ℕ) → Numbered (cornerAnswer b e element corner)
   pub of-element : (e : Section) (element room : ℕ) → Numbered (elementCornersAnswer b e element room)
+  pub of-type : (e : Section) (element : ℕ) → Numbered (ownTypeAnswer b e element)
   pub of-usage : (z room : ℕ) → Numbered (usageAnswer b z room)
   pub of-name-bytes : Numbered (nameBytesAnswer b)
   pub of-path : (i room : ℕ) → Numbered (pathAnswer b i room)
@@ -109,18 +111,29 @@ pub record CornerExport (image section : List ℕ) (element corner : ℕ) (numbe
   pub image-kept : image′ ≡ image
   pub section-kept : section′ ≡ section
 
--- all corners of an element, of the nine numbers of a section entry: how many, 0 beside a rule
+-- all corners of an element, of the nine numbers of a section entry: how many
 unfoldable pub elementExported : List ℕ → List ℕ → ℕ → ℕ → List ℕ → Answer ℕ
 elementExported b section element room out = readFits entryLength section out then elementCornersAnswer b (sectionAt section 0) element room
 
-unfoldable pub sizeWord : Answer ℕ → ℕ
-sizeWord (rejected r) = 0
-sizeWord (answer n) = n
+-- an element's size, or its type, in one word: 0 beside a rule
+unfoldable pub countWord : Answer ℕ → ℕ
+countWord (rejected r) = 0
+countWord (answer n) = n
 
 pub record ElementExport (image section : List ℕ) (element : ℕ) (out : List ℤ) (size : List ℕ) (r : ℕ)
     (image′ section′ : List ℕ) (out′ : List ℤ) (size′ : List ℕ) : Type 0 where
   pub rule-is : r ≡ ruleOf (elementExported image section element (length out) size)
   pub out-is : out′ ≡ leaves (readFits entryLength section size) out (elementCornersMemory image (sectionAt section 0) element out)
-  pub size-is : size′ ≡ leaves (readFits entryLength section size) size (over size (leBytes 8 (sizeWord (elementExported image section element (length out) size))))
+  pub size-is : size′ ≡ leaves (readFits entryLength section size) size (over size (leBytes 8 (countWord (elementExported image section element (length out) size))))
+  pub image-kept : image′ ≡ image
+  pub section-kept : section′ ≡ section
+
+-- an element's own type, of the nine numbers of a section entry
+unfoldable pub typeExported : List ℕ → List ℕ → ℕ → List ℕ → Answer ℕ
+typeExported b section element out = readFits entryLength section out then ownTypeAnswer b (sectionAt section 0) element
+
+pub record TypeExport (image section : List ℕ) (element : ℕ) (out : List ℕ) (r : ℕ) (image′ section′ out′ : List ℕ) : Type 0 where
+  pub rule-is : r ≡ ruleOf (typeExported image section element out)
+  pub type-is : out′ ≡ leaves (readFits entryLength section out) out (over out (leBytes 8 (countWord (typeExported image section element out))))
   pub image-kept : image′ ≡ image
   pub section-kept : section′ ≡ section

@@ -22,6 +22,7 @@ pub mod Reads
 pub mod Demand3
 pub mod ReadList
 pub mod ElementCorners
+pub mod OwnType
 pub mod Exports
 pub mod Demand3Calls
 pub mod Build

@@ -45,7 +45,7 @@ unfoldable pub _into_ : {A B : Type 0} → Answer A → (A → Answer B) → Ans
 pub data Rule : Type 0 where
   _unless_ : ℕ → Bool → Rule
 
--- at a node the lowest rule: the first of an ascending list whose test fails
+-- at a node the first rule of a list whose test fails; lists are ascending, but for 38, which stands between 33 and 34
 unfoldable pub check : ℕ → List Rule → Check
 check node [] = passed
 check node ((rule unless holds) ∷ rest) = let later = check node rest in cond holds later (rejected (rejection rule node))

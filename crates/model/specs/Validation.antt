@@ -11,7 +11,7 @@ use Rattle.model.specs.Containment.{Zone, Elements, role, validated, ski
 use Rattle.model.specs.Values.{sidsRules}
 use Rattle.model.specs.Elements.{elementRules}
 
--- a section has rules 27 to 35 besides
+-- a section has rules 27 to 35 and 38 besides
 unfoldable pub nodeRules : Tree → ℕ → List Rule
 nodeRules t i = sidsRules t i ++ cond (eqb (role t i) Elements) (elementRules t i) []
 

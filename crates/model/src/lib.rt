@@ -73,7 +73,7 @@ pub enum Validation {
     Rejected(Rejection),
 }
 
-// A count: a path's length in bytes, the section entries written, the corners of an element, the name bytes compared.
+// One number: a path's length in bytes, the section entries written, the corners of an element, an element's own type, the name bytes compared.
 pub enum Count {
     Of(u64),
     Rejected(Rejection),

@@ -25,7 +25,7 @@ use model::Stage;
 use model::Validation;
 pub use sizes::data_size;
 
-// Rules 27 to 35 where node i is a section.
+// Rules 27 to 35 and 38 where node i is a section.
 fn section_stage(
     image: &[u8],
     index: &[u16],
@@ -49,7 +49,7 @@ fn section_stage(
     Stage::Pass
 }
 
-// Rules 20 to 35 at node i, to which validation has come; a node that is not validated is skipped.
+// Rules 20 to 35 and 38 at node i, to which validation has come; a node that is not validated is skipped.
 fn node_stage(
     image: &[u8],
     index: &[u16],
@@ -75,7 +75,7 @@ fn node_stage(
     section_stage(image, index, i, overlap, firsts, reach, faces, levels)
 }
 
-// Rules 20 to 35 at every node, the lowest first. `overlap` is the first node that breaks rule 28; the tables hold the faces of all zones.
+// Rules 20 to 35 and 38 at every node, the lowest node first. `overlap` is the first node that breaks rule 28; the tables hold the faces of all zones.
 fn every_node(
     image: &[u8],
     index: &[u16],
@@ -119,7 +119,7 @@ fn nodes_stage(
     every_node(image, index, overlap, firsts, reach, faces, levels)
 }
 
-// Every rule, 1 to 35, as one stage, in lent tables. The index is that of the image where rules 1 to 18 hold.
+// Every rule, 1 to 35 and 38, as one stage, in lent tables. The index is that of the image where rules 1 to 18 hold.
 pub fn image_stage_with(
     image: &[u8],
     index: &mut [u16],

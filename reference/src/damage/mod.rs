@@ -5,11 +5,14 @@ mod answer;
 mod containment;
 mod flat;
 mod header;
+mod mixed;
 mod names;
 mod pick;
 mod points;
 mod records;
 mod sections;
+mod site;
+mod stored_types;
 mod values;
 
 use crate::build::Image;
@@ -19,11 +22,13 @@ use header::*;
 use points::points;
 use records::*;
 use sections::*;
+use stored_types::*;
 use values::*;
 
 pub use answer::Answer;
 pub use flat::{flat_case, FLAT_CASES};
 pub use header::flips;
+pub use mixed::{mixed_case, MIXED_CASES};
 pub use names::{name_case, NAME_CASES};
 pub use points::{point_case, POINT_CASES};
 
@@ -38,7 +43,7 @@ pub enum Damage {
 use Damage::{Length, Nodes, Words};
 
 /// The rules that an image may break, each with its damages.
-pub const DAMAGES: [(u32, &[Damage]); 33] = [
+pub const DAMAGES: [(u32, &[Damage]); 34] = [
     (1, &[Length(cut_short), Length(cut_short), Length(cut_short), Length(too_long)]),
     (2, &[Words(other_form)]),
     (3, &[Words(other_length), Length(more_bytes), Length(fewer_bytes)]),
@@ -101,6 +106,7 @@ pub const DAMAGES: [(u32, &[Damage]); 33] = [
     (33, &[Nodes(flat_element), Nodes(flat_element), Nodes(flat_element), Nodes(third_dimension)]),
     (34, &[Nodes(other_node_reference)]),
     (35, &[Nodes(other_face_reference), Nodes(other_face_reference), Nodes(face_section_lost)]),
+    (38, &[Nodes(unlisted), Nodes(unlisted), Nodes(of_other_size), Nodes(other_start), Nodes(called_mixed)]),
 ];
 
 /// The damages of a rule.

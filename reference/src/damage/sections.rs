@@ -1,17 +1,22 @@
-//! Damage to sections (rules 27 to 35).
+//! Damage to sections (rules 27 to 35). For rule 38 see `stored_types.rs`.
 
 use super::pick::{change, labelled, section, section_child};
+use super::stored_types::type_places;
 use super::values::break_type;
 use crate::build::Image;
+use crate::elements::{MIXED, NFACE_N, NGON_N};
 use crate::lawful::FIXED_TYPES;
 use crate::random::Random;
 use crate::sizes::MAX_NUMBER;
 use crate::text::padded;
 
+/// The element types that have start offsets.
+const WITH_OFFSETS: [i64; 3] = [MIXED, NGON_N, NFACE_N];
+
 /// An element type that is not supported (rule 27).
 pub fn other_element_type(image: &mut Image, random: &mut Random) {
     if let Some(node) = section(image, random) {
-        let types = [0, 1, 20, 20, 24, 25, 39, 56, 57, -1, -22, 278, 65_558, MAX_NUMBER, i64::from(i32::MIN)];
+        let types = [0, 1, 24, 25, 39, 56, 57, -1, -20, -22, 276, 278, 65_558, MAX_NUMBER, i64::from(i32::MIN)];
         change(image, node, 0, *random.pick(&types));
     }
 }
@@ -86,19 +91,24 @@ pub fn other_array_length(image: &mut Image, random: &mut Random) {
 
 /// Start offsets absent or not conforming (rule 29).
 pub fn no_offsets(image: &mut Image, random: &mut Random) {
-    if let Some(offsets) = section_child(image, random, &[22, 23], "ElementStartOffset") {
-        match random.below(4) {
-            0 => image.remove(offsets),
-            1 => image.nodes[offsets].name = padded(b"elementStartOffset"),
-            2 => image.nodes[offsets].data_type = if image.nodes[offsets].width() == 4 { *b"U4" } else { *b"U8" },
-            _ => image.nodes[offsets].dimensions.push(1),
-        }
+    if let Some(offsets) = section_child(image, random, &WITH_OFFSETS, "ElementStartOffset") {
+        lose_offsets(image, random, offsets);
+    }
+}
+
+/// Takes start offsets away, or lets them not conform.
+pub fn lose_offsets(image: &mut Image, random: &mut Random, offsets: usize) {
+    match random.below(4) {
+        0 => image.remove(offsets),
+        1 => image.nodes[offsets].name = padded(b"elementStartOffset"),
+        2 => image.nodes[offsets].data_type = if image.nodes[offsets].width() == 4 { *b"U4" } else { *b"U8" },
+        _ => image.nodes[offsets].dimensions.push(1),
     }
 }
 
 /// A first start offset other than 0 (rule 30).
 pub fn first_offset(image: &mut Image, random: &mut Random) {
-    if let Some(offsets) = section_child(image, random, &[22, 23], "ElementStartOffset") {
+    if let Some(offsets) = section_child(image, random, &WITH_OFFSETS, "ElementStartOffset") {
         let number = *random.pick(&[1, -1, 2, i64::from(i32::MIN), MAX_NUMBER, i64::MIN]);
         change(image, offsets, 0, number);
     }
@@ -106,7 +116,7 @@ pub fn first_offset(image: &mut Image, random: &mut Random) {
 
 /// A start offset not above its predecessor (rule 31).
 pub fn offset_not_rising(image: &mut Image, random: &mut Random) {
-    if let Some(offsets) = section_child(image, random, &[22, 23], "ElementStartOffset") {
+    if let Some(offsets) = section_child(image, random, &WITH_OFFSETS, "ElementStartOffset") {
         let numbers = image.nodes[offsets].numbers();
         let place = 1 + random.index(numbers.len().max(2) - 1);
         if let Some(&before) = numbers.get(place - 1) {
@@ -118,7 +128,7 @@ pub fn offset_not_rising(image: &mut Image, random: &mut Random) {
 
 /// Another last start offset (rule 32).
 pub fn last_offset(image: &mut Image, random: &mut Random) {
-    if let Some(offsets) = section_child(image, random, &[22, 23], "ElementStartOffset") {
+    if let Some(offsets) = section_child(image, random, &WITH_OFFSETS, "ElementStartOffset") {
         let numbers = image.nodes[offsets].numbers();
         if let Some(&last) = numbers.last() {
             let (below, above, far) = (last.saturating_sub(1), last.saturating_add(1), last.saturating_add(256));
@@ -130,7 +140,7 @@ pub fn last_offset(image: &mut Image, random: &mut Random) {
 
 /// Connectivity one longer or shorter (rule 32).
 pub fn connectivity_longer(image: &mut Image, random: &mut Random) {
-    if let Some(array) = section_child(image, random, &[22, 23], "ElementConnectivity") {
+    if let Some(array) = section_child(image, random, &WITH_OFFSETS, "ElementConnectivity") {
         let mut numbers = image.nodes[array].numbers();
         if random.one_in(2) || numbers.len() < 2 {
             numbers.push(1);
@@ -182,7 +192,7 @@ pub fn third_dimension(image: &mut Image, random: &mut Random) {
 /// A node reference out of range (rule 34).
 pub fn other_node_reference(image: &mut Image, random: &mut Random) {
     let mut types = FIXED_TYPES.to_vec();
-    types.push(22);
+    types.extend([MIXED, NGON_N]);
     let Some(array) = section_child(image, random, &types, "ElementConnectivity") else {
         return;
     };
@@ -193,8 +203,11 @@ pub fn other_node_reference(image: &mut Image, random: &mut Random) {
     };
     let (above, below) = (vertices.saturating_add(1), vertices.saturating_neg());
     let choices = [0, -1, above, below, i64::from(i32::MIN), MAX_NUMBER, i64::MIN, i64::MAX];
-    let place = random.index(image.nodes[array].numbers().len());
-    change(image, array, place, *random.pick(&choices));
+    let types = type_places(image, section);
+    let places: Vec<usize> = (0..image.nodes[array].numbers().len()).filter(|place| !types.contains(place)).collect();
+    if !places.is_empty() {
+        change(image, array, *random.pick(&places), *random.pick(&choices));
+    }
 }
 
 /// A face reference that is zero or may be no face (rule 35).

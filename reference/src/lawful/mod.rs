@@ -3,6 +3,7 @@
 
 mod deck;
 mod foreign;
+mod mixed;
 mod order;
 mod points;
 mod sections;
@@ -75,6 +76,7 @@ struct Limits {
 
 pub use deck::Deck;
 pub use foreign::STORING_TYPES;
+pub use mixed::{some_types, typed_element, types_of_other_size, types_of_same_size};
 pub use points::{some_list, some_range, values_of};
 pub use sections::FIXED_TYPES;
 

@@ -1,10 +1,11 @@
 //! Element sections of an unstructured zone.
 
 use super::deck::Deck;
+use super::mixed::{node_reference, some_types, typed_element};
 use super::Maker;
 use super::STORING_TYPES;
 use crate::build::Node;
-use crate::elements::{least_size, shape_of, Shape, NFACE_N, NGON_N};
+use crate::elements::{least_size, shape_of, Shape, MIXED, NFACE_N, NGON_N};
 use crate::random::Random;
 use crate::sizes::MAX_NUMBER;
 
@@ -59,7 +60,7 @@ impl Maker<'_> {
     /// The element types of a zone's sections.
     fn section_types(&mut self) -> Vec<i64> {
         let fixed = |random: &mut Random| *random.pick(&FIXED_TYPES);
-        match self.random.below(9) {
+        match self.random.below(13) {
             0 => vec![],
             1 => vec![fixed(self.random)],
             2 => vec![fixed(self.random), fixed(self.random)],
@@ -67,7 +68,11 @@ impl Maker<'_> {
             4 | 5 => vec![NGON_N, NFACE_N],
             6 => vec![NGON_N, fixed(self.random), NFACE_N],
             7 => vec![NGON_N, NGON_N, NFACE_N],
-            _ => vec![NGON_N, NFACE_N, NFACE_N],
+            8 => vec![NGON_N, NFACE_N, NFACE_N],
+            9 => vec![MIXED],
+            10 => vec![MIXED, fixed(self.random)],
+            11 => vec![MIXED, MIXED],
+            _ => vec![MIXED, NGON_N, NFACE_N],
         }
     }
 
@@ -75,6 +80,7 @@ impl Maker<'_> {
     fn section_count(&mut self, element_type: i64) -> i64 {
         let most = match shape_of(element_type) {
             Some(Shape::Fixed(nodes)) if nodes > 8 => (self.limits.elements / 3).max(1),
+            Some(Shape::Mixed) => (self.limits.elements / 3).max(4),
             _ => self.limits.elements,
         };
         self.random.between(1, most)
@@ -106,16 +112,26 @@ impl Maker<'_> {
         let section = self.add(zone, own);
         let (width, range) = (self.width(), [plan.first, plan.first + plan.count - 1]);
         self.add(section, Node::integers("ElementRange", "IndexRange_t", width, &[2], &range));
-        let sizes = self.element_sizes(plan, deck.unused());
-        let length: i64 = sizes.iter().sum();
-        let connectivity: Vec<i64> = if plan.is(NFACE_N) {
-            deck.take(self.random, length as usize)
-        } else {
-            (0..length).map(|_| self.node_reference(vertices)).collect()
-        };
+        let elements = self.elements(plan, vertices, deck);
+        let sizes: Vec<i64> = elements.iter().map(|element| element.len() as i64).collect();
         let width = self.width();
-        self.add(section, Node::list("ElementConnectivity", width, &connectivity));
+        self.add(section, Node::list("ElementConnectivity", width, &elements.concat()));
         self.section_extras(section, plan, &sizes);
+    }
+
+    /// The elements of a section, each as its connectivity entries.
+    fn elements(&mut self, plan: &Plan, vertices: i64, deck: &mut Deck) -> Vec<Vec<i64>> {
+        if plan.is(MIXED) {
+            let types = some_types(self.random, plan.count as usize);
+            return types.into_iter().map(|own_type| typed_element(self.random, own_type, vertices)).collect();
+        }
+        let sizes = self.element_sizes(plan, deck.unused());
+        if plan.is(NFACE_N) {
+            let mut faces = deck.take(self.random, sizes.iter().sum::<i64>() as usize).into_iter();
+            return sizes.iter().map(|&size| faces.by_ref().take(size as usize).collect()).collect();
+        }
+        let random = &mut *self.random;
+        sizes.iter().map(|&size| (0..size).map(|_| node_reference(random, vertices)).collect()).collect()
     }
 
     /// How many references each element of a section has: those of cells no more than the unused ones of a deck, where
@@ -130,19 +146,10 @@ impl Maker<'_> {
         (0..count).map(|_| self.random.between(plan.least, most)).collect()
     }
 
-    /// A node number, the least and the greatest among them.
-    fn node_reference(&mut self, vertices: i64) -> i64 {
-        match self.random.below(8) {
-            0 => 1,
-            1 => vertices,
-            _ => self.random.between(1, vertices),
-        }
-    }
-
     /// Start offsets, where they are needed or now and then, and other children of a section.
     fn section_extras(&mut self, section: usize, plan: &Plan, sizes: &[i64]) {
         let width = self.width();
-        if plan.is(NGON_N) || plan.is(NFACE_N) {
+        if shape_of(plan.element_type).is_some_and(Shape::has_offsets) {
             self.add(section, Node::start_offsets(width, sizes));
         } else if self.chance(6, 1) {
             let offsets: Vec<i64> = (0..1 + self.random.below(3)).map(|_| self.random.between(-2, 9)).collect();

@@ -182,8 +182,8 @@ impl Comparison<'_> {
     /// All corners of an element by a section's numbers, with `numbers` numbers lent for them.
     pub fn read_element(&mut self, section: &[u64], element: u64, numbers: usize, room: usize) {
         let (image, lent) = (self.image, self.lent);
-        let bytes: Vec<u8> = section.iter().flat_map(|number| number.to_le_bytes()).collect();
-        let (at, count) = (self.sections.place_before_end(&bytes, 0), section.len());
+        let (bytes, at) = self.place_numbers(section);
+        let count = section.len();
         self.hold(
             Call::ReadElement,
             format_args!("{section:?}, element {element}"),
@@ -199,10 +199,37 @@ impl Comparison<'_> {
         self.hold_section(Call::ReadElement, &bytes, at);
     }
 
+    /// The type of an element by a section's numbers.
+    pub fn element_type(&mut self, section: &[u64], element: u64, room: usize) {
+        let (image, lent) = (self.image, self.lent);
+        let (bytes, at) = self.place_numbers(section);
+        let count = section.len();
+        self.hold::<u8>(
+            Call::ElementType,
+            format_args!("{section:?}, element {element}"),
+            (0, room),
+            |_, answer| unsafe {
+                gongaurora_export_element_type(lent, image.len(), at.cast(), count, element, answer, room)
+            },
+            |_, answer| match nine(&bytes) {
+                Some(section) => tell(answer, || expected::element_type(image, &section, element)),
+                None => 46,
+            },
+        );
+        self.hold_section(Call::ElementType, &bytes, at);
+    }
+
     /// Puts a section's bytes at the end of their pages, or so near it that they begin at an odd address.
     fn place_section(&mut self, section: &[u8]) -> *const u8 {
         let gap = [0, 1, 0, 3, 0, 5, 0, 7, 4][self.tally.calls() as usize % 9];
         self.sections.place_before_end(section, gap)
+    }
+
+    /// Puts a section's numbers at the end of their pages; answers them as bytes, and where they are.
+    fn place_numbers(&mut self, section: &[u64]) -> (Vec<u8>, *const u8) {
+        let bytes: Vec<u8> = section.iter().flat_map(|number| number.to_le_bytes()).collect();
+        let at = self.sections.place_before_end(&bytes, 0);
+        (bytes, at)
     }
 
     /// Whether a call left the section as it was.

@@ -94,3 +94,11 @@ pub fn element(image: &[u8], section: &[u64; 9], element: u64, out: &mut [i64]) 
         Err(rejection) => (u64::from(rejection.rule), [0]),
     }
 }
+
+/// type
+pub fn element_type(image: &[u8], section: &[u64; 9], element: u64) -> Told<1> {
+    match reference::element_type(image, section, element) {
+        Ok(element_type) => (0, [element_type]),
+        Err(rejection) => (u64::from(rejection.rule), [0]),
+    }
+}

@@ -37,6 +37,15 @@ extern "C" {
         answer: *mut u8,
         room: usize,
     ) -> u64;
+    pub fn gongaurora_export_element_type(
+        image: *const u8,
+        length: usize,
+        section: *const u64,
+        nine: usize,
+        element: u64,
+        answer: *mut u8,
+        room: usize,
+    ) -> u64;
     pub fn gongaurora_export_face_usage(
         image: *const u8,
         length: usize,
@@ -79,6 +88,7 @@ pub enum Call {
     Sections,
     ReadCorner,
     ReadElement,
+    ElementType,
     FaceUsage,
     Path,
     NameBytes,
@@ -87,11 +97,12 @@ pub enum Call {
 }
 
 /// Their names, in the same order.
-pub const CALLS: [&str; 9] = [
+pub const CALLS: [&str; 10] = [
     "validate",
     "sections",
     "read_corner",
     "read_element",
+    "element_type",
     "face_usage",
     "path",
     "name_bytes",

@@ -1,6 +1,7 @@
 //! `compare SEED COUNT [small|medium|large]`: every call of the library held against the reference on generated images.
 //! Prints a summary; exit status 1 on any difference.
 
+mod changed;
 mod comparison;
 mod expected;
 mod fixed;
@@ -16,16 +17,20 @@ use reference::generate::image;
 use reference::lawful::SizeClass;
 use reference::random::Random;
 
+use changed::{changed, Changed};
 use comparison::Comparison;
 use fixed::fixed;
 use guarded::Arena;
-use questions::{ask, ask_part, some_sections};
+use questions::{ask, ask_changed, ask_part};
 use tally::{Place, Tally};
 
 const USAGE: &str = "compare SEED COUNT [small|medium|large]";
 
 /// More than the longest image, which rule 1 is broken by.
 const LONGEST: usize = 16_777_216 + 64;
+
+/// How often a number of a MIXED section is changed.
+const CHANGES: usize = 6;
 
 fn main() -> ExitCode {
     let arguments: Vec<String> = std::env::args().skip(1).collect();
@@ -71,14 +76,19 @@ struct Arenas {
     sections: Arena,
 }
 
-/// Compares all calls on an image and, now and then, some on a part of it.
+/// Compares all calls on an image, some of them on the image with a number of a MIXED section changed and, now and then, on a
+/// part of it.
 fn compare(bytes: &[u8], random: &mut Random, class: SizeClass, arenas: &mut Arenas, tally: &mut Tally) {
     let Arenas { images, sections } = arenas;
     tally.image(bytes.len(), expected::validation(bytes).0);
     let lent = place(images, bytes, random.one_in(2));
-    ask(&mut Comparison { image: bytes, lent, sections, tally }, random, class);
+    let entries = ask(&mut Comparison { image: bytes, lent, sections, tally }, random, class);
+    for _ in 0..CHANGES {
+        let Some(Changed { image, section, element }) = changed(bytes, &entries, random) else { break };
+        let lent = place(images, &image, random.one_in(2));
+        ask_changed(&mut Comparison { image: &image, lent, sections, tally }, random, &section, element);
+    }
     if random.one_in(4) {
-        let entries = some_sections(bytes);
         let part = &bytes[..random.index(bytes.len() + 1)];
         let lent = place(images, part, true);
         ask_part(&mut Comparison { image: part, lent, sections, tally }, random, &entries);

@@ -10,8 +10,8 @@ use reference::{path, section_entries, Section};
 
 use crate::comparison::{Comparison, SECTION};
 
-/// Asks everything about an image.
-pub fn ask(comparison: &mut Comparison, random: &mut Random, class: SizeClass) {
+/// Asks everything about an image; answers the sections of some of its zones, if it is accepted.
+pub fn ask(comparison: &mut Comparison, random: &mut Random, class: SizeClass) -> Vec<Section> {
     let mut asker = Asker { comparison, random, limits: Limits::of(class) };
     asker.validations();
     asker.name_bytes();
@@ -19,23 +19,29 @@ pub fn ask(comparison: &mut Comparison, random: &mut Random, class: SizeClass) {
     let entries = asker.about_zones();
     asker.corners(&entries);
     asker.absurd_corners();
+    entries
 }
 
 /// Asks about a part of the image that breaks off: validation, name bytes, and corners by the whole image's sections.
 pub fn ask_part(comparison: &mut Comparison, random: &mut Random, entries: &[Section]) {
-    let mut asker = Asker { comparison, random, limits: Limits { nodes: 2, zones: 1, reads: 12 } };
+    let mut asker = Asker { comparison, random, limits: Limits::FEW };
     asker.validations();
     asker.name_bytes();
-    asker.corners(entries);
+    asker.corners(&entries[..entries.len().min(8)]);
 }
 
-/// The sections of an image's first zones, if it is accepted.
-pub fn some_sections(image: &[u8]) -> Vec<Section> {
-    let Ok(tree) = validated_tree(image) else {
-        return Vec::new();
-    };
-    let zones = (0..tree.count()).filter(|&node| tree.is_validated_as(node, Label::Zone));
-    zones.take(2).flat_map(|zone| section_entries(image, zone as u64).unwrap_or_default()).take(8).collect()
+/// Asks about an image whose section was changed at an element: validation, and corners and types of this element and its
+/// neighbours.
+pub fn ask_changed(comparison: &mut Comparison, random: &mut Random, section: &Section, element: u64) {
+    let mut asker = Asker { comparison, random, limits: Limits::FEW };
+    asker.validations();
+    let numbers = section.numbers();
+    for element in element - 1..=element + 1 {
+        for corner in 0..=28 {
+            asker.corner(&numbers, element, corner);
+        }
+        asker.element(&numbers, element);
+    }
 }
 
 /// How much is asked: nodes of either kind, zones, corner reads of a section.
@@ -46,6 +52,8 @@ struct Limits {
 }
 
 impl Limits {
+    const FEW: Limits = Limits { nodes: 2, zones: 1, reads: 12 };
+
     fn of(class: SizeClass) -> Limits {
         match class {
             SizeClass::Small => Limits { nodes: 30, zones: 6, reads: 60 },
@@ -218,8 +226,22 @@ impl Asker<'_, '_> {
                 self.corner(&other, element, corner);
                 self.element(&other, element);
             }
+            self.as_other_types(entry);
             self.short(&bytes_of(&numbers), entry.first);
             self.short_numbers(&numbers, entry.first);
+        }
+    }
+
+    /// Reads by the section with other types: its elements are then laid out in another way.
+    fn as_other_types(&mut self, entry: &Section) {
+        for element_type in [3, 5, 10, 20, 22, 23] {
+            let other = Section { element_type, ..*entry }.numbers();
+            let inside = entry.first + self.random.below(entry.last - entry.first + 1);
+            for element in [entry.first, inside, entry.last] {
+                let corner = 1 + self.random.below(4);
+                self.corner(&other, element, corner);
+                self.element(&other, element);
+            }
         }
     }
 
@@ -234,13 +256,14 @@ impl Asker<'_, '_> {
         }
     }
 
-    /// Reads of an element with fewer or more numbers lent than the section has, and with fewer bytes than the count has.
+    /// Reads of an element with fewer or more numbers lent than the section has, and with fewer bytes than the answer has.
     fn short_numbers(&mut self, section: &[u64; 9], element: u64) {
         let few = self.random.index(9);
         let longer = [&section[..], &[0x55; 2]].concat();
         for section in [&section[..few], &section[..8], section, &longer[..10], &longer] {
             for room in self.answers(1) {
                 self.comparison.read_element(section, element, 8, room);
+                self.comparison.element_type(section, element, room);
             }
         }
     }
@@ -250,10 +273,12 @@ impl Asker<'_, '_> {
         self.comparison.read_corner(&bytes_of(section), element, corner, 8);
     }
 
-    /// All corners of an element: room for about as many as elements mostly have, or for all of any element asked about.
+    /// All corners of an element, with room for about as many as elements mostly have, or for all of any element asked about; and
+    /// its type.
     fn element(&mut self, section: &[u64; 9], element: u64) {
         let numbers = if self.random.one_in(4) { 40 } else { self.random.index(10) };
         self.comparison.read_element(section, element, numbers, 8);
+        self.comparison.element_type(section, element, 8);
     }
 
     /// Corners of a section: its ends, all elements where they are few, else some.
@@ -302,7 +327,7 @@ impl Asker<'_, '_> {
             for number in section.iter_mut() {
                 *number = self.odd_number(8);
             }
-            section[1] = *self.random.pick(&[2, 5, 17, 20, 22, 23, 24, u64::MAX, 0]);
+            section[1] = *self.random.pick(&[2, 5, 17, 20, 20, 22, 23, 24, u64::MAX, 0]);
             section[5] = *self.random.pick(&[4, 4, 8, 8, 0, 16, u64::MAX]);
             section[7] = *self.random.pick(&[4, 4, 8, 8, 0, u64::MAX]);
             if self.random.one_in(2) {

@@ -1,4 +1,5 @@
--- The two tests are those of the definition.
+-- The three tests are those of the definition.
+use borrow.Author.Needs.{needs}
 use borrow.Author.Tests.{ne-eqb, eq-eqb}
 use Rattle.model.specs.Elements.{hasOffsets}
 use Rattle.element_types.proofs.has_offsets.Statement.{statement}
@@ -10,7 +11,7 @@ returns c = rw (eq-eqb _ _ (c .if1 .taken))
 
 returns-2 : tie.Need-returns-2
 unfolding hasOffsets
-returns-2 c = rw (ne-eqb _ _ (c .if1 .left))
+returns-2 c = rw (ne-eqb _ _ (c .before .if1 .left)) (c .of-any-size .ensures)
 
 pub has-offsets-spec : {M : Type 1} → statement M
-has-offsets-spec = tie.close (tie.spec returns returns-2)
+has-offsets-spec = tie.close (tie.spec returns (search needs) returns-2)

@@ -12,7 +12,7 @@ returns-2 c = element-short _ _ _ _ _ (full 9 _ _ (c .before .if1 .left) (c .if2
 
 returns-3 : tie.Need-returns-3
 returns-3 c =
-    let p = c .before .before .put-size .ensures in
+    let p = c .before .before .put-count .ensures in
     let d = c .before .before .before .before .before in
     let e = rw (d .before .before .section-at .ensures) at (d .element-corners .ensures) in
     element-long _ _ _ _ _ (fits 9 _ _ (d .before .before .before .before .if1 .left) (d .before .before .before .if2 .left)) (e .0) (e .1) (p .0) (p .1)

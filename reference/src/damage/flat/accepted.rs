@@ -1,8 +1,9 @@
 //! Cases that are accepted: the least sizes, repeats, and small elements where no least size is asked for.
 
-use super::site::{Site, LEAST_CELL, LEAST_FACE};
+use super::site::{LEAST_CELL, LEAST_FACE};
 use super::Answer;
 use crate::build::Image;
+use crate::damage::site::Site;
 use crate::random::Random;
 
 /// Faces of three nodes and cells of four faces, all of them.

@@ -12,6 +12,8 @@ use crate::random::Random;
 use accepted::*;
 use refused::*;
 
+pub use site::{LEAST_CELL, LEAST_FACE};
+
 /// A case: it changes a lawful image and answers how that is to be answered.
 pub type FlatCase = fn(&mut Image, &mut Random) -> Option<Answer>;
 

@@ -1,10 +1,10 @@
 //! Cases that are refused: by rule 33, and by the rules beside it where these come first.
 
 use super::accepted::add_flat_surface;
-use super::site::{Site, LEAST_CELL, LEAST_FACE};
+use super::site::{LEAST_CELL, LEAST_FACE};
 use super::Answer;
 use crate::build::Image;
-use crate::damage::pick::change;
+use crate::damage::site::Site;
 use crate::random::Random;
 
 /// 33 at faces, one of them flat; now and then there are cells of them, which pass.
@@ -32,7 +32,7 @@ pub fn flat_faces_and_cells(image: &mut Image, random: &mut Random) -> Option<An
     let mut site = Site::new(image, random, 3);
     let (faces, cells) = (site.flat_sizes(LEAST_FACE), site.flat_sizes(LEAST_CELL));
     site.add_mesh(&faces, &cells);
-    site.refused_at_lower(33, 33)
+    site.refused_at_lower((33, "Faces"), (33, "Cells"))
 }
 
 /// 33 at a flat last face; the first has a node that is none.
@@ -78,7 +78,7 @@ pub fn flat_faces_and_bad_cell(image: &mut Image, random: &mut Random) -> Option
     let mut site = Site::new(image, random, 3);
     let (faces, cells) = (site.flat_sizes(LEAST_FACE), site.sizes(LEAST_CELL));
     add_bad_cells(&mut site, &faces, &cells);
-    site.refused_at_lower(33, 35)
+    site.refused_at_lower((33, "Faces"), (35, "Cells"))
 }
 
 /// Adds faces and cells of these sizes, the first cell with a face that is none.
@@ -104,23 +104,6 @@ pub fn flat_and_bad_offsets(image: &mut Image, random: &mut Random) -> Option<An
     let mut site = Site::new(image, random, 3);
     let sizes = site.flat_last_sizes(LEAST_FACE);
     site.add_faces_of(&sizes);
-    let section = site.section("Faces")?;
-    let offsets = site.image.child(section, "ElementStartOffset")?;
-    let connectivity = site.image.child(section, "ElementConnectivity")?;
-    let rule = 29 + site.random.below(4) as u32;
-    match rule {
-        29 => {
-            let mut numbers = site.image.nodes[offsets].numbers();
-            numbers.pop();
-            site.image.nodes[offsets].set_list(&numbers);
-        }
-        30 => change(site.image, offsets, 0, 1),
-        31 => change(site.image, offsets, 1, 0),
-        _ => {
-            let mut numbers = site.image.nodes[connectivity].numbers();
-            numbers.push(1);
-            site.image.nodes[connectivity].set_list(&numbers);
-        }
-    }
+    let rule = site.break_offsets("Faces")?;
     site.refused(rule, "Faces")
 }

@@ -26,10 +26,10 @@ corner-in-requires c κs = rw (c .before .span .given .1) at (c .before .before 
 
 returns-4 : tie.Need-returns-4
 returns-4 c =
+    let g = c .before .before .span .given .1 in
+    let e = c .before .before .before .before .element-span .ensures in
     record {
-      answers = c .corner-in .ensures
-          ∙ corner-is _ _ _ _ (omega arith) (omega arith) _ _
-          (sym (c .before .before .span .given .1) ∙ c .before .before .before .before .element-span .ensures .0);
+      answers = c .corner-in .ensures ∙ corner-is _ _ _ _ (omega arith) (omega arith) _ _ (sym g ∙ e .0) ((rw g at (e .1)) .0);
       image-kept = refl;
     }
 

@@ -1,5 +1,5 @@
 -- The first stage that rejects is the answer.
-use Rattle.model.proofs.Staging.{stop, go}
+use Rattle.model.proofs.Staging.{stop, go, passes}
 use Rattle.elements.proofs.StageLaws.{length-read, row-is}
 use native.Mathlib.Omega.{arith}
 use borrow.Author.Needs.{needs}
@@ -22,7 +22,7 @@ reference-stage-requires : tie.Need-reference-stage-requires
 reference-stage-requires c κs =
     let r = c .before .before .before .before in
     let p = r .before .before .before .before .before .before .before .pre in
-    ((p .0 .0 .sound, p .0 .1), ((row-is (r .before .connectivity-of .ensures .0) (r .row-of .ensures), p .1 .0 .0), p .1 .1))
+    (p .0, ((row-is (r .before .connectivity-of .ensures .0) (r .row-of .ensures), p .1 .0 .0), (p .1 .1, passes (c .before .before .before .shape-stage .ensures) (c .before .enum-told .given .1))))
 
 returns-2 : tie.Need-returns-2
 returns-2 c = go (c .before .before .before .before .before .before .shape-stage .ensures) (c .before .before .before .before .enum-told .given .1)

@@ -2,8 +2,8 @@
 use mathlib.Core.Path.{sym, _∙_}
 use borrow.Author.Needs.{needs}
 use borrow.Author.Tests.{not-true, not-false}
-use Rattle.elements.proofs.references.two_within.Statement.{statement}
-use Rattle.elements.proofs.references.two_within.Tie as tie
+use Rattle.elements.proofs.nodes.two_within.Statement.{statement}
+use Rattle.elements.proofs.nodes.two_within.Tie as tie
 
 returns : tie.Need-returns
 returns c = rw (sym (c .before .is-within .ensures) ∙ not-true _ (c .if1 .taken))

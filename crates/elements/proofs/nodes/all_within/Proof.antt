@@ -8,8 +8,8 @@ use Rattle.elements.specs.Arrays.{isWithin}
 use Rattle.model.specs.Lists.{everyFrom}
 use Rattle.model.proofs.Loops.{EveryLeft, every-start, every-more, every-stop, every-done}
 use Rattle.elements.proofs.Agree.{two-more, two-stop, last-one}
-use Rattle.elements.proofs.references.all_within.Statement.{statement}
-use Rattle.elements.proofs.references.all_within.Tie as tie
+use Rattle.elements.proofs.nodes.all_within.Statement.{statement}
+use Rattle.elements.proofs.nodes.all_within.Tie as tie
 
 abbrev Inv-loop : tie.InvT-loop
 Inv-loop image row limit n k₀ k = EveryLeft (isWithin image (row .at) (row .width) limit) n k (everyFrom (isWithin image (row .at) (row .width) limit) n 0)

@@ -2,8 +2,8 @@
 use borrow.Author.Needs.{needs}
 use borrow.Author.Tests.{lt-leb, le-leb}
 use Rattle.elements.specs.Arrays.{isWithin}
-use Rattle.elements.proofs.references.is_within.Statement.{statement}
-use Rattle.elements.proofs.references.is_within.Tie as tie
+use Rattle.elements.proofs.nodes.is_within.Statement.{statement}
+use Rattle.elements.proofs.nodes.is_within.Tie as tie
 
 returns : tie.Need-returns
 unfolding isWithin
