@@ -24,9 +24,9 @@
  *              gongaurora_name_bytes and gongaurora_array_value under 40,000; gongaurora_read_corner,
  *              gongaurora_read_element and gongaurora_element_type under 1,000.
  *   Threads    There is no state: any calls may run at the same time, as long as no other thread writes what they read.
- *   Cost       Measured, not proved. One validation of a usual mesh costs about one pass over the image's bytes; of an image
- *              with 1,000 face sections and references at random among them 17. No image measured takes as long as 20 passes
- *              over 16 MB. Each call says whether it validates.
+ *   Cost       Measured, not proved. One validation of a usual mesh costs about one pass over the image's bytes, with MIXED
+ *              sections up to 1.6; of an image with 1,000 face sections and references at random among them 17. No image
+ *              measured takes as long as 20 passes over 16 MB. Each call says whether it validates.
  *   Linking    The archive needs one symbol from outside, memset.
  *   Proof      What is proved is proved of the archive's exports. The calls of this header are C around them: tested, not
  *              proved.
