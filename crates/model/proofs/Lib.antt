@@ -42,3 +42,4 @@ pub mod Validated
 pub mod Sections
 pub mod Above
 pub mod LookedUp
+pub mod Never22

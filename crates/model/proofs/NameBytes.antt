@@ -81,14 +81,14 @@ same-place (x ∷ s) (y ∷ u) l = by-test (eqb x y) (same-place s u (omega arit
     by-test false h = sym (le-ltb (suc (length s)) 1 (omega arith))
 
 -- every name has 32 bytes
-name-size : (b : List ℕ) → tableCheck b ≡ passed → (j : ℕ) → j < nodeCount b → length (name (treeOf b) j) ≡ 32
+pub name-size : (b : List ℕ) → tableCheck b ≡ passed → (j : ℕ) → j < nodeCount b → length (name (treeOf b) j) ≡ 32
 name-size b ok j h =
     let l = table-laid b ok in
     rw (name-at b j h) (length-take-le 32 (drop (recordAt j) b) (rw length-drop (omega (arith, l .data-at, l .whole))))
 
 module _ (b : List ℕ) (ok : tableCheck b ≡ passed) (i j : ℕ) (l : j < i) (h : i < nodeCount b) (e : sibling (treeOf b) i j ≡ true) where
   -- 11
-  names-differ : same (name (treeOf b) j) (name (treeOf b) i) ≡ false
+  pub names-differ : same (name (treeOf b) j) (name (treeOf b) i) ≡ false
   unfolding recordRules nameTaken namesake
   names-differ = by-test (same (name (treeOf b) j) (name (treeOf b) i)) refl
     where
