@@ -1,16 +1,15 @@
 -- Tests and their joins.
 use Prim.Native.Nat.{ℕ, zero, suc, _≤_, _<_}
-use mathlib.Core.Path.{_≡_, refl, sym, _∙_}
+use mathlib.Core.Path.{_≡_, refl}
 use mathlib.Core.Bool.{Bool, true, false, cond, _&&_, _||_}
 use mathlib.Core.List.{List, [], _∷_}
 use native.Mathlib.Omega.{arith}
 use native.Mathlib.Decide.{ℕ-discrete}
 use lib.Dec.{leb, eqb}
-use lib.ListN.{length}
 use mathlib.Core.Logic.{_⊎_, inl, inr}
-use borrow.Author.Tests.{leb-true, leb-false, le-leb, eqb-true, eq-eqb}
+use borrow.Author.Tests.{leb-true, leb-false, le-leb, eqb-true}
 use Rattle.model.specs.Lists.{_⊃_}
-use Rattle.model.specs.Bytes.{same, blank, spells}
+use Rattle.model.specs.Bytes.{same}
 
 pub untrue : {A : Type 0} → false ≡ true → A
 untrue e = let z : _≡_ {A = ℕ} 0 1 = cc in absurd (omega arith)
@@ -99,25 +98,6 @@ same-is (x ∷ s) (y ∷ u) e =
     let p = eqb-true x y (and-first (eqb x y) (same s u) e) in
     let q = same-is s u (and-second (eqb x y) (same s u) e) in
     rw (p, q)
-
--- two fields of one length that hold one text are the same
-blanks-same : (s u : List ℕ) → length s ≡ length u → blank s ≡ true → blank u ≡ true → same s u ≡ true
-unfolding blank same
-blanks-same [] [] l e f = refl
-blanks-same [] (y ∷ u) l e f = absurd (omega arith)
-blanks-same (x ∷ s) [] l e f = absurd (omega arith)
-blanks-same (x ∷ s) (y ∷ u) l e f =
-    let q : x ≡ y = eqb-true x 32 (and-first (eqb x 32) _ e) ∙ sym (eqb-true y 32 (and-first (eqb y 32) _ f)) in
-    rw (eq-eqb x y q) (blanks-same s u (omega arith) (and-second (eqb x 32) _ e) (and-second (eqb y 32) _ f))
-
-pub spelled-same : (t s u : List ℕ) → length s ≡ length u → spells s t ≡ true → spells u t ≡ true → same s u ≡ true
-unfolding spells same
-spelled-same [] s u l e f = blanks-same s u l e f
-spelled-same (z ∷ t) [] u l e f = untrue e
-spelled-same (z ∷ t) (x ∷ s) [] l e f = untrue f
-spelled-same (z ∷ t) (x ∷ s) (y ∷ u) l e f =
-    let q : x ≡ y = eqb-true x z (and-first (eqb x z) _ e) ∙ sym (eqb-true y z (and-first (eqb y z) _ f)) in
-    rw (eq-eqb x y q) (spelled-same t s u (omega arith) (and-second (eqb x z) _ e) (and-second (eqb y z) _ f))
 
 -- the last arm of a match: a number that is none of the keys, beside what is known before
 abbrev pub NoneOf : Type 0 → List ℕ → ℕ → Type 0

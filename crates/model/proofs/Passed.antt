@@ -1,4 +1,4 @@
--- What a check that passed says: every rule of the list holds, at every node of the walk. And how a loop over the nodes meets a check.
+-- What a check that passed says: every rule of the list holds, at every node of the walk. How a loop over the nodes meets a check. Where two checks are equal.
 use Prim.Native.Nat.{ℕ, zero, suc, _+_, _-_, _≤_, _<_}
 use mathlib.Core.Path.{_≡_, refl, subst, sym, _∙_}
 use mathlib.Core.Bool.{Bool, true, false, cond}
@@ -93,7 +93,7 @@ checkFrom-at f (suc k) i j e l h =
       | no n ↦ checkFrom-at f k (suc i) j (then-second (f i) (checkFrom f k (suc i)) e) (omega (arith, n)) (omega arith)
     ]
 
--- two checks are alike where what follows is alike after the first passed; two walks, where they are alike at each node before which all passed
+-- equal where what follows is equal after a pass; two walks, where they agree at each node that the second comes to
 pub then-same : (c : Check) {s u : Check} → (c ≡ passed → s ≡ u) → (c then s) ≡ (c then u)
 unfolding _then_
 then-same (rejected r) f = refl
