@@ -41,9 +41,9 @@
 
 /* The version of this header and of the archive beside it. */
 #define GONGAURORA_VERSION_MAJOR 0
-#define GONGAURORA_VERSION_MINOR 6
+#define GONGAURORA_VERSION_MINOR 7
 #define GONGAURORA_VERSION_PATCH 0
-#define GONGAURORA_VERSION "0.6.0"
+#define GONGAURORA_VERSION "0.7.0"
 
 #ifdef __cplusplus
 extern "C" {
@@ -82,7 +82,8 @@ enum gongaurora_rule {
     /* the meaning; the node itself, for 23 the parent, from 27 on the section */
     GONGAURORA_RULE_CONTAINMENT = 20,     /* a label that may not stand here */
     GONGAURORA_RULE_FIXED_NAME = 21,      /* not the name that the label asks for */
-    GONGAURORA_RULE_SECOND_CHILD = 22,    /* a second child of a label allowed once */
+    /* there is no rule 22, and its number is not used again: where a parent has two validated children of a label allowed
+     * once, one of them breaks 11, 20 or 21 */
     GONGAURORA_RULE_REQUIRED_CHILD = 23,  /* a required child is missing */
     GONGAURORA_RULE_LABEL_TYPE = 24,      /* data type or dimensions not the label's */
     GONGAURORA_RULE_VALUE = 25,           /* a stored value that is not permitted; a PointRange and a PointList */
@@ -134,7 +135,6 @@ static inline const char *gongaurora_rule_text(uint64_t rule)
     case 18: return "Dimension words or data bytes are left over that belong to no node.";
     case 20: return "A node with this label may not stand under this parent.";
     case 21: return "The node does not have the name that its label asks for.";
-    case 22: return "The parent has a second child of a label that is allowed once.";
     case 23: return "A required child of the node is missing or not as it has to be.";
     case 24: return "The node's data type or dimensions are not those of its label.";
     case 25: return "A value stored in the node is not permitted, or it has both a PointRange and a PointList.";

@@ -5,6 +5,7 @@ use crate::build::{Image, Node};
 use crate::flat_cases::flat_cases;
 use crate::mixed_cases::mixed_cases;
 use crate::name_cases::name_cases;
+use crate::once_cases::once_cases;
 use crate::point_cases::point_cases;
 
 /// The nodes of a tetrahedron's four faces (001).
@@ -95,7 +96,7 @@ pub fn rind_planes() -> Vec<u8> {
 pub const RIND_ARRAY: u64 = 7;
 
 /// All cases, each with its name; (j) has three, those of points begin with `p1_`, those of flat faces and cells with
-/// `f2_`, those of name bytes with `n3_`, those of MIXED sections with `m4_`.
+/// `f2_`, those of name bytes with `n3_`, those of MIXED sections with `m4_`, those of labels allowed once with `o5_`.
 pub fn cases() -> Vec<(&'static str, Vec<u8>)> {
     let a = tetrahedron().to_bytes();
     let b = a[..31].to_vec();
@@ -121,6 +122,7 @@ pub fn cases() -> Vec<(&'static str, Vec<u8>)> {
     cases.extend(flat_cases());
     cases.extend(name_cases());
     cases.extend(mixed_cases());
+    cases.extend(once_cases());
     cases
 }
 

@@ -86,8 +86,3 @@ pub fn fixed_name(parent: Parent, label: Label) -> Option<&'static str> {
         _ => None,
     }
 }
-
-/// Whether a parent may have the label once only (rule 22).
-pub fn once_only(label: Label) -> bool {
-    matches!(label, Label::CGNSLibraryVersion | Label::ZoneType | Label::Rind | Label::GridLocation)
-}

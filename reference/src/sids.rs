@@ -1,9 +1,9 @@
-//! Rules 20 to 26 (document 01, "Placing and meaning"; document 02, §1), each as one test that says whether it holds at a validated node.
-//! A rule that does not concern a node holds there.
+//! Rules 20 to 26 (document 01, "Placing and meaning"; document 02, §1), each as one test that says whether it holds at a
+//! validated node. A rule that does not concern a node holds there. There is no rule 22 (document 02, §5).
 
 use crate::bytes::Integers;
 use crate::data_type::DataType;
-use crate::labels::{fixed_name, may_hold, once_only, Label, Parent};
+use crate::labels::{fixed_name, may_hold, Label, Parent};
 use crate::points::{has_range_and_list, is_point_range, list_type_lawful, range_type_lawful, range_values_lawful};
 use crate::sizes::{data_size_of, index_dimension, is_structured, is_unstructured};
 use crate::sizes::{read_zone_sizes, ZoneSizes, MAX_NUMBER};
@@ -24,14 +24,6 @@ pub fn fixed_name_used(tree: &Tree, node: usize) -> bool {
         return true;
     };
     fixed_name(row, label).is_none_or(|name| tree.is_named(node, name))
-}
-
-/// Rule 22: no earlier sibling has a label that is allowed once.
-pub fn allowed_again(tree: &Tree, node: usize) -> bool {
-    let (Some(label), Some(parent)) = (tree.label(node), tree.parent(node)) else {
-        return true;
-    };
-    !once_only(label) || tree.children_labelled(parent, label).next() == Some(node)
 }
 
 /// Rule 23: the required children are there. Under the root a child labelled CGNSBase_t will do; the others conform.

@@ -1,12 +1,13 @@
 //! The whole verdict (document 01, "Rule numbers"): header, records, trailing words or bytes, then the nodes in order, at
-//! a node the lowest rule first, but for 38, which comes before 34 (document 02, §4).
+//! a node the lowest rule first, but for 38, which comes before 34 (document 02, §4). There is no rule 22 (document 02,
+//! §5).
 
 use crate::elements::{faces_in_zone, nodes_in_zone, none_flat, stored_types_fit};
 use crate::elements::{first_offset_zero, last_offset_is_length, offsets_rise};
 use crate::elements::{lengths_fit, range_free, type_taken};
 use crate::labels::Label;
 use crate::rejection::Rejection;
-use crate::sids::{allowed_again, array_sized, contained, fixed_name_used};
+use crate::sids::{array_sized, contained, fixed_name_used};
 use crate::sids::{required_children, type_lawful, values_lawful};
 use crate::table::Table;
 use crate::tree::Tree;
@@ -20,13 +21,13 @@ pub struct Counts {
     pub sections: u64,
 }
 
-type NodeRule = (u32, fn(&Tree, usize) -> bool);
+/// A rule of validated nodes: its number, and whether it holds at a node.
+pub type NodeRule = (u32, fn(&Tree, usize) -> bool);
 
 /// The rules of a validated node in the order in which they are asked. This list alone knows it.
-const NODE_RULES: [NodeRule; 17] = [
+pub const NODE_RULES: [NodeRule; 16] = [
     (20, contained),
     (21, fixed_name_used),
-    (22, allowed_again),
     (23, required_children),
     (24, type_lawful),
     (25, values_lawful),
@@ -51,19 +52,17 @@ pub fn validate(image: &[u8]) -> Result<Counts, Rejection> {
 /// The tree of an accepted image, or the first broken rule and its node.
 pub fn validated_tree(image: &[u8]) -> Result<Tree<'_>, Rejection> {
     let tree = Tree::new(Table::read(image)?);
-    for node in 0..tree.count() {
-        if tree.is_validated(node) {
-            check_node(&tree, node)?;
-        }
-    }
+    check_nodes(&tree, &NODE_RULES)?;
     Ok(tree)
 }
 
-/// The first broken rule of a validated node.
-fn check_node(tree: &Tree, node: usize) -> Result<(), Rejection> {
-    for (rule, holds) in NODE_RULES {
-        if !holds(tree, node) {
-            return Err(Rejection::at_node(rule, node));
+/// The first broken of these rules: at the lowest validated node, there the first of the list.
+pub fn check_nodes(tree: &Tree, rules: &[NodeRule]) -> Result<(), Rejection> {
+    for node in (0..tree.count()).filter(|&node| tree.is_validated(node)) {
+        for &(rule, holds) in rules {
+            if !holds(tree, node) {
+                return Err(Rejection::at_node(rule, node));
+            }
         }
     }
     Ok(())

@@ -20,7 +20,7 @@ fn folder(name: &str) -> PathBuf {
 #[test]
 fn calls() {
     let place = folder("cases");
-    assert_eq!(run(&["cases", place.to_str().unwrap()]), "cases 94\n");
+    assert_eq!(run(&["cases", place.to_str().unwrap()]), "cases 120\n");
     let file = |name: &str| place.join(format!("{name}.img")).to_str().unwrap().to_string();
     let (a, l) = (file("a"), file("l"));
     assert_eq!(run(&["validate", &a]), "accept 17 0 1 2\n");

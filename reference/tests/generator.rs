@@ -179,14 +179,6 @@ fn lawful_cells_have_their_usage_answered() {
 }
 
 #[test]
-fn rule_22_never_comes() {
-    for index in 0..5000 {
-        let refusal = validate(&image(22, index, SizeClass::Small)).err();
-        assert!(refusal.is_none_or(|r| r.rule != 22));
-    }
-}
-
-#[test]
 fn same_seed_same_images() {
     for index in 0..100 {
         assert_eq!(image(4, index, SizeClass::Small), image(4, index, SizeClass::Small));

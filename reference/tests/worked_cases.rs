@@ -1,5 +1,5 @@
 //! The worked cases (a) to (m) of document 01, with their face usage and sizes, and those of points, of flat faces and
-//! cells, of name bytes and of MIXED sections (document 02, §1 to §4).
+//! cells, of name bytes, of MIXED sections and of labels allowed once (document 02, §1 to §5).
 
 use reference::answers::validate_line;
 use reference::bytes::u32_at;
@@ -9,7 +9,7 @@ use reference::{check_table, corner, data_size, element_type, face_usage, sectio
 use reference::{Counts, Rejection};
 
 /// The cases with their verdicts.
-const VERDICTS: [(&str, &str); 94] = [
+const VERDICTS: [(&str, &str); 120] = [
     ("a", "accept 17 0 1 2"),
     ("b", "refuse 1 0"),
     ("c", "refuse 4 0"),
@@ -104,6 +104,32 @@ const VERDICTS: [(&str, &str); 94] = [
     ("m4_beside_faces", "accept 21 0 1 3"),
     ("m4_cell_of_mixed", "refuse 35 13"),
     ("m4_meets", "refuse 28 17"),
+    ("o5_rind", "refuse 11 7"),
+    ("o5_rind_name", "refuse 21 7"),
+    ("o5_rind_first", "refuse 21 6"),
+    ("o5_rind_alike", "refuse 11 7"),
+    ("o5_rind_names", "refuse 21 6"),
+    ("o5_rind_last_byte", "refuse 21 7"),
+    ("o5_rind_bad", "refuse 21 7"),
+    ("o5_rind_bad_first", "refuse 25 6"),
+    ("o5_rind_apart", "refuse 11 8"),
+    ("o5_rind_other_label", "refuse 11 7"),
+    ("o5_coordinates", "refuse 11 7"),
+    ("o5_coordinates_name", "refuse 21 7"),
+    ("o5_location", "refuse 11 7"),
+    ("o5_location_name", "refuse 21 7"),
+    ("o5_type", "refuse 11 5"),
+    ("o5_type_name", "refuse 21 5"),
+    ("o5_type_first", "refuse 21 4"),
+    ("o5_type_names", "refuse 23 3"),
+    ("o5_version", "refuse 11 6"),
+    ("o5_version_name", "refuse 21 6"),
+    ("o5_user", "accept 6 2 1 0"),
+    ("o5_user_alike", "refuse 11 7"),
+    ("o5_unknown", "accept 5 3 1 0"),
+    ("o5_two_flows", "accept 9 0 1 0"),
+    ("o5_zone", "refuse 11 7"),
+    ("o5_zone_name", "refuse 20 6"),
 ];
 
 #[test]

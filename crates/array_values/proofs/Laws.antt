@@ -1,11 +1,11 @@
 -- Bits of a float, the size of an array, and the widths of the data types that are handed out.
 use Prim.Native.Nat.{ℕ, suc, _+_, _*_, _-_, _<_, _≤_}
-use mathlib.Core.Path.{_≡_, refl, sym, ap, _∙_}
-use mathlib.Core.Bool.{Bool, true, false, not, _&&_, _||_}
-use mathlib.Core.List.{List, [], _∷_}
+use mathlib.Core.Path.{_≡_, refl, sym, _∙_}
+use mathlib.Core.Bool.{Bool, true, false, not, _&&_}
+use mathlib.Core.List.{List}
 use native.Mathlib.Omega.{arith}
 use native.Mathlib.Nat.{mul-le-mul-left, mul-comm, mul-suc}
-use lib.Dec.{T, eqb, leb}
+use lib.Dec.{T, leb}
 use lib.IntN.{ℤ}
 use lib.ListN.{getD}
 use lib.Ieee.{Format, nanBits, ofBits, toBits, isNan, top}
@@ -19,7 +19,8 @@ use Rattle.model.specs.Given.{Sound}
 use Rattle.model.specs.ArrayValue.{whole, single, double, valueAt}
 use Rattle.words.specs.Width.{isWidth}
 use Rattle.array_values.specs.Readable.{readable}
-use Rattle.model.proofs.Logic.{untrue, and-first, and-second}
+use Rattle.model.proofs.Logic.{and-first, and-second}
+use Rattle.model.proofs.Walks.{each}
 use Rattle.model.proofs.Accepted.{record-rule}
 
 pub no-nan : (t : Bool) → t ≡ false → T (not t)
@@ -52,22 +53,6 @@ array-room b s i h f n w g u k l =
     let d : w * suc k ≡ w * k + w = omega (arith, mul-suc w k) in
     (e, omega arith)
 
-abbrev every : (ℕ → Bool) → List ℕ → Bool
-every p [] = true
-every p (x ∷ xs) = p x && every p xs
-
--- what holds of each of a list holds of one among them
-each : (p : ℕ → Bool) (x : ℕ) (xs : List ℕ) → T (every p xs) → among x xs ≡ true → p x ≡ true
-unfolding among
-each p x [] h e = untrue e
-each p x (y ∷ ys) h e = by-test (p y) refl h (eqb x y) refl e (λ g. each p x ys g)
-  where
-    by-test : (a : Bool) → p y ≡ a → T (a && every p ys) → (t : Bool) → eqb x y ≡ t → (t || among x ys) ≡ true
-        → (T (every p ys) → among x ys ≡ true → p x ≡ true) → p x ≡ true
-    by-test true q g true f m later = ap p (eqb-true x y f) ∙ q
-    by-test true q g false f m later = later g m
-    by-test false q g t f m later = absurd g
-
 wide : ℕ → Bool
 wide d = isWidth (getD widths d 0) && leb d 11
 
@@ -75,7 +60,7 @@ wide d = isWidth (getD widths d 0) && leb d 11
 pub readable-wide : (d : ℕ) → among d readable ≡ true → T (isWidth (getD widths d 0)) × (d ≤ 11)
 unfolding widths wide
 readable-wide d e =
-    let h = each wide d readable tt e in
+    let h = each wide d readable refl e in
     (rw (and-first (isWidth (getD widths d 0)) (leb d 11) h) tt, leb-true d 11 (and-second (isWidth (getD widths d 0)) (leb d 11) h))
 
 -- value k by its data type

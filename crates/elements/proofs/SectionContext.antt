@@ -13,7 +13,7 @@ use Rattle.model.specs.Records.{recordRules, dataSizeLawful, product}
 use Rattle.model.specs.Containment.{role, validated, found, Zone, Elements}
 use Rattle.model.specs.Values.{typed, shaped, indexDimension, typeLawful, complete, rangeOf, connectivityOf, sidsRules}
 use Rattle.model.proofs.Logic.{untrue, and-first, and-second}
-use Rattle.model.proofs.Passed.{check-pass}
+use Rattle.model.proofs.Passed.{claim, check-pass}
 use Rattle.model.proofs.Accepted.{record-rule}
 use Rattle.model.proofs.Parents.{parent-lower, lawful-at}
 use Rattle.model.proofs.Sections.{not-root}
@@ -60,8 +60,8 @@ unfolding sidsRules
 section-ready {b} {s} g v e c =
     let t = treeOf b in
     let held = check-pass s (sidsRules t s) c in
-    let full = sym (complete-is t s e) ∙ held .1 .1 .1 .0 in
-    let own = sym (type-section t s e) ∙ held .1 .1 .1 .1 .0 in
+    let full = sym (complete-is t s e) ∙ claim 23 (sidsRules t s) held in
+    let own = sym (type-section t s e) ∙ claim 24 (sidsRules t s) held in
     let u = section-held b s g v (held .0) e .zone in
     record {
       inside = g .inside;

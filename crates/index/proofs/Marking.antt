@@ -145,10 +145,6 @@ kind-parts t j {r} e h = by-test (validated t j) e
     by-test true q = (refl, q)
     by-test false q = absurd (omega arith)
 
--- the roles of validated nodes are few
-pub role-few : {b index : List ℕ} → Index b index → (j : ℕ) → j < nodeCount b → validated (treeOf b) j ≡ true → role (treeOf b) j < 16
-role-few {b} x j h v = rw (← kind-role (treeOf b) j v refl, ← x .rows .kinds j h) (x .rows .few j h)
-
 -- a slot tells the model's look-up
 module _ {b index : List ℕ} (x : Index b index) (p k : ℕ) (h : p < nodeCount b) (l : k < 4) where
   pub slot-found : (slotAt index p k ≡ 0 → ⊥) → (slotAt index p k ≡ slotChild (treeOf b) p k) × (slotAt index p k ≤ nodeCount b)

@@ -43,7 +43,7 @@ fixed-cell above below h l =
     same-is _ _ (every-cell above below h l (λ (a c : ℕ). same (fixedName a c [] fixedNames) (getD ([] ∷ knownNames) (cellOf a c - 1) [])) refl)
 
 -- an empty text stands for none
-abbrev pub orElse : List ℕ → List ℕ → List ℕ
+abbrev orElse : List ℕ → List ℕ → List ℕ
 orElse d [] = d
 orElse d (y ∷ x) = y ∷ x
 
@@ -52,7 +52,7 @@ someNames [] = true
 someNames ((a holds b called []) ∷ rest) = false
 someNames ((a holds b called (y ∷ n)) ∷ rest) = someNames rest
 
-pub fixed-or : (above below : ℕ) (d : List ℕ) (rows : List Named) → someNames rows ≡ true
+fixed-or : (above below : ℕ) (d : List ℕ) (rows : List Named) → someNames rows ≡ true
     → fixedName above below d rows ≡ orElse d (fixedName above below [] rows)
 unfolding fixedName
 fixed-or above below d [] t = refl

@@ -5,13 +5,14 @@ use mathlib.Core.Path.{_≡_, refl, sym, _∙_}
 use mathlib.Core.Bool.{Bool, true, false, cond}
 use mathlib.Core.List.{List, [], _∷_}
 use lib.Dec.{eqb}
+use borrow.Author.Tests.{ne-eqb}
 use Rattle.model.specs.Lists.{Row, _has_, row, among}
-use Rattle.model.specs.Image.{treeOf, nodeCount, parent}
+use Rattle.model.specs.Image.{Tree, treeOf, nodeCount, parent}
 use Rattle.model.specs.Given.{Sound, NodesTo}
-use Rattle.model.specs.Containment.{containment, mayHold, validated}
-use Rattle.model.specs.Values.{sidsRules}
+use Rattle.model.specs.Containment.{role, containment, mayHold, validated}
+use Rattle.model.specs.Values.{placed, sidsRules}
 use Rattle.model.specs.Validation.{nodeRules, nodeCheckAt}
-use Rattle.model.proofs.Logic.{untrue, and-second}
+use Rattle.model.proofs.Logic.{untrue, and-first, and-second}
 use Rattle.model.proofs.Passed.{Hold, Claim, claim, check-pass, hold-left}
 use Rattle.model.proofs.Validated.{joins, validated-step}
 
@@ -49,3 +50,8 @@ holder x key ((k has v) ∷ rest) e = by-test (eqb key k) refl (among x v) refl 
 pub held-by : (above below : ℕ) → mayHold above below ≡ true → among above (holders below containment) ≡ true
 unfolding mayHold
 held-by above below e = holder below above containment e
+
+-- 20, of a node that is not the root: the table lets its parent hold it
+pub placed-held : (t : Tree) (i : ℕ) → (i ≡ 0 → ⊥) → placed t i ≡ true → mayHold (role t (parent t i)) (role t i) ≡ true
+unfolding placed
+placed-held t i n e = and-first (mayHold (role t (parent t i)) (role t i)) _ (rw (ne-eqb i 0 n) at e)

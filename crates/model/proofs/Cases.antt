@@ -2,6 +2,7 @@
 use Prim.Native.Nat.{ℕ, _*_, _-_, _^_}
 use Prim.Native.String.{String}
 use mathlib.Core.Path.{_≡_, refl}
+use mathlib.Core.Bool.{Bool, true, false}
 use mathlib.Core.List.{List, [], _∷_}
 use lib.ListN.{length, replicate}
 use lib.IntN.{ℤ, pos}
@@ -19,8 +20,9 @@ use Rattle.model.specs.OwnType.{ownTypeAnswer}
 use Rattle.model.specs.FaceUsage.{usageAnswer, usageMemory}
 use Rattle.model.specs.Build.{minus, Plan, plan, image}
 use Rattle.model.specs.Computed.{computed}
+use Rattle.model.proofs.Rule22.{onceOnly, sameRole, second}
 
-infix 10 _refuses_at_ _accepts_ _starts_ _sizes_is_ _uses_leaving_ _repeats_ _compares_ _reads_from_is_ _types_is_ _hands_is_
+infix 10 _refuses_at_ _accepts_ _starts_ _sizes_is_ _uses_leaving_ _repeats_ _compares_ _reads_from_is_ _types_is_ _hands_is_ _seconds_is_
 -- the root that real files have
 abbrev rootPlan : Plan
 rootPlan = plan "HDF5 MotherNode" "Root Node of HDF5 File" "MT" [] 4294967295 []
@@ -99,10 +101,14 @@ flow zone type children =
     ∷ plan "Wall" "FlowSolution_t" "MT" [] 2 []
     ∷ children)
 
+abbrev block : Plan
+block = plan "Zone" "Zone_t" "I4" (3 ∷ 3 ∷ []) 1 (allBytes 4 (5 ∷ 4 ∷ 3 ∷ 4 ∷ 3 ∷ 2 ∷ 0 ∷ 0 ∷ 0 ∷ []))
+
+abbrev zoneType : String → Plan
+zoneType name = plan name "ZoneType_t" "C1" (10 ∷ []) 2 (text "Structured")
+
 abbrev inBlock : List Plan → List ℕ
-inBlock =
-    flow (plan "Zone" "Zone_t" "I4" (3 ∷ 3 ∷ []) 1 (allBytes 4 (5 ∷ 4 ∷ 3 ∷ 4 ∷ 3 ∷ 2 ∷ 0 ∷ 0 ∷ 0 ∷ [])))
-    (plan "ZoneType" "ZoneType_t" "C1" (10 ∷ []) 2 (text "Structured"))
+inBlock = flow block (zoneType "ZoneType")
 
 abbrev inMesh : List Plan → List ℕ
 inMesh =
@@ -179,6 +185,16 @@ wideType type =
     inZone 20 (integers "ElementRange" "IndexRange_t" (1 ∷ 1 ∷ []) 4) (plan "ElementStartOffset" "DataArray_t" "I8" (2 ∷ []) 4 (allBytes 8 (0 ∷ 5 ∷ [])))
     (plan "ElementConnectivity" "DataArray_t" "I8" (5 ∷ []) 4 (allBytes 8 (type ∷ 1 ∷ 2 ∷ 3 ∷ 5 ∷ [])))
 
+-- §5: nodes of labels allowed once, over name and parent
+abbrev version : String → ℕ → Plan
+version name up = plan name "CGNSLibraryVersion_t" "R4" (1 ∷ []) up (replicate 4 0)
+
+abbrev rind : String → ℕ → Plan
+rind name up = integers name "Rind_t" (replicate 6 0) up
+
+abbrev location : String → ℕ → Plan
+location name up = plan name "GridLocation_t" "C1" (6 ∷ []) up (text "Vertex")
+
 -- what a case says of an image
 pub data Case : Type 0 where
   -- the header's words
@@ -199,6 +215,8 @@ pub data Case : Type 0 where
   _reads_from_is_ : List ℕ → ℕ → ℕ → Answer ℤ → Case
   _types_is_ : List ℕ → ℕ → Answer ℕ → Case
   _hands_is_ : List ℕ → ℕ → List ℤ → Case
+  -- whether a node is a second child of a label allowed once
+  _seconds_is_ : List ℕ → ℕ → Bool → Case
 
 abbrev lent : List ℕ
 lent = replicate 6 9
@@ -218,6 +236,7 @@ Right ((b compares a) ∷ cs) = (nameBytesAnswer b ≡ a) × Right cs
 Right ((b reads e from c is a) ∷ cs) = (cornerAnswer b (layers b) e c ≡ a) × Right cs
 Right ((b types e is a) ∷ cs) = (ownTypeAnswer b (layers b) e ≡ a) × Right cs
 Right ((b hands e is ns) ∷ cs) = (elementCornersMemory b (layers b) e (replicate 8 (pos 99)) ≡ ns) × Right cs
+Right ((b seconds i is a) ∷ cs) = (second (treeOf b) i ≡ a) × Right cs
 
 abbrev tetraCounts : Counts
 tetraCounts = record { validated = 17; skipped = 0; zones = 1; sections = 2 }
@@ -378,6 +397,32 @@ cases =
     ∷ (twoElements (0 ∷ 0 ∷ 16 ∷ []) (hexahedron 17 (14 ∷ 5 ∷ 6 ∷ 9 ∷ 8 ∷ 7 ∷ 10 ∷ [])) refuses 31 at 4)
     ∷ (twoElements (0 ∷ 9 ∷ 15 ∷ []) (hexahedron 17 (14 ∷ 5 ∷ 6 ∷ 9 ∷ 8 ∷ 7 ∷ 10 ∷ [])) refuses 32 at 4)
     ∷ (twoElements (0 ∷ 2 ∷ 5 ∷ []) (2 ∷ 1 ∷ 3 ∷ 1 ∷ 2 ∷ []) accepts record { validated = 8; skipped = 0; zones = 1; sections = 1 })
+    -- §5 a second child of each label allowed once: under its fixed name, under another
+    ∷ (inBlock (version "CGNSLibraryVersion" 0 ∷ version "CGNSLibraryVersion" 0 ∷ []) refuses 11 at 6)
+    ∷ (inBlock (version "CGNSLibraryVersion" 0 ∷ version "Version" 0 ∷ []) refuses 21 at 6)
+    ∷ (inBlock (zoneType "ZoneType" ∷ []) refuses 11 at 5)
+    ∷ (inBlock (zoneType "Type" ∷ []) refuses 21 at 5)
+    ∷ (inBlock (rind "Rind" 4 ∷ rind "Rind" 4 ∷ []) refuses 11 at 6)
+    ∷ (inBlock (rind "Rind" 4 ∷ rind "Rind1" 4 ∷ []) refuses 21 at 6)
+    ∷ (inBlock (location "GridLocation" 4 ∷ location "GridLocation" 4 ∷ []) refuses 11 at 6)
+    ∷ (inBlock (location "GridLocation" 4 ∷ location "Location" 4 ∷ []) refuses 21 at 6)
+    ∷ (inBlock (plan "Grid" "GridCoordinates_t" "MT" [] 2 [] ∷ rind "Rind" 5 ∷ rind "Rind1" 5 ∷ []) refuses 21 at 7)
+    -- these nodes are such children: 22 stands behind 11 and 21 alone
+    ∷ (inBlock (rind "Rind" 4 ∷ rind "Rind" 4 ∷ []) seconds 6 is true)
+    ∷ (inBlock (rind "Rind" 4 ∷ rind "Rind1" 4 ∷ []) seconds 6 is true)
+    ∷ (inBlock (rind "Rind" 4 ∷ rind "Rind1" 4 ∷ []) seconds 5 is false)
+    -- the first under another name, or both; two such zone types: the zone has none
+    ∷ (inBlock (rind "Rind1" 4 ∷ rind "Rind" 4 ∷ []) refuses 21 at 5)
+    ∷ (inBlock (rind "Rind1" 4 ∷ rind "Rind1" 4 ∷ []) refuses 11 at 6)
+    ∷ (flow block (zoneType "Type") (zoneType "Type1" ∷ []) refuses 23 at 2)
+    -- under a zone, which may hold none; below a UserDefinedData_t; one in each of two flow solutions; a label that may come again
+    ∷ (inBlock (rind "Rind" 2 ∷ rind "Rind1" 2 ∷ []) refuses 20 at 5)
+    ∷ (inBlock (plan "Own" "UserDefinedData_t" "MT" [] 4 [] ∷ rind "Rind1" 5 ∷ rind "Rind2" 5 ∷ [])
+    accepts record { validated = 6; skipped = 2; zones = 1; sections = 0 })
+    ∷ (inBlock (rind "Rind" 4 ∷ plan "Other" "FlowSolution_t" "MT" [] 2 [] ∷ rind "Rind" 6 ∷ [])
+    accepts record { validated = 8; skipped = 0; zones = 1; sections = 0 })
+    ∷ (inBlock (plan "Note" "Descriptor_t" "C1" (1 ∷ []) 4 (65 ∷ []) ∷ plan "Note1" "Descriptor_t" "C1" (1 ∷ []) 4 (65 ∷ []) ∷ [])
+    accepts record { validated = 7; skipped = 0; zones = 1; sections = 0 })
     ∷ []
 
 infixr 5 _also_
@@ -385,7 +430,7 @@ _also_ : {A B : Type 0} → A → B → A × B
 a also b = (a, b)
 
 pub all-right : Right cases
-unfolding computed
+unfolding computed onceOnly sameRole second
 all-right =
     refl also refl also refl also refl also refl also refl also refl also refl also refl also refl also refl also refl also refl also refl
     also (refl, refl) also refl also (refl, refl) also refl also refl
@@ -398,4 +443,6 @@ all-right =
     also refl also refl also refl also refl also refl also refl also refl also refl
     also refl also refl also refl also refl also refl also refl also refl also refl also refl
     also refl also refl also refl also refl also refl also refl also refl
-    also refl also refl also refl also refl also tt
+    also refl also refl also refl also refl
+    also refl also refl also refl also refl also refl also refl also refl also refl also refl also refl
+    also refl also refl also refl also refl also refl also refl also refl also refl also refl also tt

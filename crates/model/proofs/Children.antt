@@ -8,12 +8,9 @@ use lib.Dec.{eqb}
 use borrow.Author.Tests.{ne-eqb}
 use Rattle.model.specs.Image.{treeOf, nodeCount, parent}
 use Rattle.model.specs.Containment.{isChild, child}
-use Rattle.model.specs.Records.{sibling}
-use Rattle.model.specs.Values.{sameRole}
-use Rattle.model.specs.Lists.{someFrom}
 use Rattle.model.specs.Given.{Sound}
 use Rattle.model.proofs.Parents.{parent-lower, parent-none, lawful-at}
-use Rattle.model.proofs.Loops.{SeekLeft, seek-start, SomeLeft, some-start}
+use Rattle.model.proofs.Loops.{SeekLeft, seek-start}
 
 module _ (b : List ℕ) (s : Sound b) where
   pub no-child : (i : ℕ) → i < nodeCount b → (j : ℕ) → j ≤ i → eqb (parent (treeOf b) j) i ≡ false
@@ -30,11 +27,3 @@ module _ (b : List ℕ) (s : Sound b) where
   pub child-start : (i r : ℕ) (n : List ℕ) → i < nodeCount b → SeekLeft (isChild (treeOf b) i r n) (nodeCount b) (i + 1) (child (treeOf b) i r n)
   unfolding child isChild treeOf
   child-start i r n h = seek-start (isChild (treeOf b) i r n) (nodeCount b) (i + 1) (omega arith) (λ j l. rw (no-child i h j (omega arith)))
-
-  -- the search for an earlier sibling of the same role
-  pub sibling-start : (i : ℕ) → i < nodeCount b → (i ≡ 0 → ⊥)
-      → SomeLeft (sameRole (treeOf b) i) i (parent (treeOf b) i + 1) (someFrom (sameRole (treeOf b) i) i 0)
-  unfolding sameRole sibling
-  sibling-start i h z =
-      let q : parent (treeOf b) i < i = parent-lower (treeOf b) i (lawful-at b s i h) z in
-      some-start (sameRole (treeOf b) i) i (parent (treeOf b) i + 1) (omega arith) (λ j l. rw (no-child (parent (treeOf b) i) (omega arith) j (omega arith)))

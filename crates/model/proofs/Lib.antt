@@ -42,3 +42,5 @@ pub mod Validated
 pub mod Sections
 pub mod Above
 pub mod LookedUp
+pub mod Rule22
+pub mod Never22

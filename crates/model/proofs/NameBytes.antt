@@ -1,4 +1,5 @@
--- Document 02 §3: where rules 1 to 18 hold, the names of two siblings have a first byte that differs. Rule 11's comparison by that place.
+-- Document 02 §3: where rules 1 to 18 hold, the names of two siblings have a first byte that differs. Rule 11's comparison by that place. Two fields that hold
+-- one text.
 use Prim.Native.Nat.{ℕ, zero, suc, _-_, _≤_, _<_}
 use mathlib.Core.Path.{_≡_, refl, sym, _∙_}
 use mathlib.Core.Bool.{Bool, true, false, cond, _&&_}
@@ -8,12 +9,12 @@ use lib.ListN.{length, getD, drop, length-drop}
 use lib.Seq.{length-take-le}
 use lib.Dec.{eqb, ltb}
 use borrow.Author.Tests.{eqb-true, eqb-false, eq-eqb, ltb-true, ltb-false, lt-ltb, le-ltb, not-true}
-use Rattle.model.specs.Bytes.{same}
+use Rattle.model.specs.Bytes.{same, blank, spells}
 use Rattle.model.specs.Rules.{passed}
 use Rattle.model.specs.Image.{treeOf, nodeCount, recordAt, name}
 use Rattle.model.specs.Records.{sibling, namesake, nameTaken, tableCheck, recordRules}
 use Rattle.model.specs.NameBytes.{firstDifference, pairBytes, DifferFirst, SiblingsDiffer}
-use Rattle.model.proofs.Logic.{untrue, and-both}
+use Rattle.model.proofs.Logic.{untrue, and-first, and-second, and-both}
 use Rattle.model.proofs.Walks.{some-by}
 use Rattle.model.proofs.Accepted.{record-rule}
 use Rattle.model.proofs.Bounds.{table-laid}
@@ -80,15 +81,34 @@ same-place (x ∷ s) (y ∷ u) l = by-test (eqb x y) (same-place s u (omega arit
     by-test true h = h ∙ sym (up (length s) (firstDifference s u) (ltb (length s) (firstDifference s u)) refl)
     by-test false h = sym (le-ltb (suc (length s)) 1 (omega arith))
 
+-- two fields of one length that hold one text are the same
+blanks-same : (s u : List ℕ) → length s ≡ length u → blank s ≡ true → blank u ≡ true → same s u ≡ true
+unfolding blank same
+blanks-same [] [] l e f = refl
+blanks-same [] (y ∷ u) l e f = absurd (omega arith)
+blanks-same (x ∷ s) [] l e f = absurd (omega arith)
+blanks-same (x ∷ s) (y ∷ u) l e f =
+    let q : x ≡ y = eqb-true x 32 (and-first (eqb x 32) _ e) ∙ sym (eqb-true y 32 (and-first (eqb y 32) _ f)) in
+    rw (eq-eqb x y q) (blanks-same s u (omega arith) (and-second (eqb x 32) _ e) (and-second (eqb y 32) _ f))
+
+pub spelled-same : (t s u : List ℕ) → length s ≡ length u → spells s t ≡ true → spells u t ≡ true → same s u ≡ true
+unfolding spells same
+spelled-same [] s u l e f = blanks-same s u l e f
+spelled-same (z ∷ t) [] u l e f = untrue e
+spelled-same (z ∷ t) (x ∷ s) [] l e f = untrue f
+spelled-same (z ∷ t) (x ∷ s) (y ∷ u) l e f =
+    let q : x ≡ y = eqb-true x z (and-first (eqb x z) _ e) ∙ sym (eqb-true y z (and-first (eqb y z) _ f)) in
+    rw (eq-eqb x y q) (spelled-same t s u (omega arith) (and-second (eqb x z) _ e) (and-second (eqb y z) _ f))
+
 -- every name has 32 bytes
-name-size : (b : List ℕ) → tableCheck b ≡ passed → (j : ℕ) → j < nodeCount b → length (name (treeOf b) j) ≡ 32
+pub name-size : (b : List ℕ) → tableCheck b ≡ passed → (j : ℕ) → j < nodeCount b → length (name (treeOf b) j) ≡ 32
 name-size b ok j h =
     let l = table-laid b ok in
     rw (name-at b j h) (length-take-le 32 (drop (recordAt j) b) (rw length-drop (omega (arith, l .data-at, l .whole))))
 
 module _ (b : List ℕ) (ok : tableCheck b ≡ passed) (i j : ℕ) (l : j < i) (h : i < nodeCount b) (e : sibling (treeOf b) i j ≡ true) where
   -- 11
-  names-differ : same (name (treeOf b) j) (name (treeOf b) i) ≡ false
+  pub names-differ : same (name (treeOf b) j) (name (treeOf b) i) ≡ false
   unfolding recordRules nameTaken namesake
   names-differ = by-test (same (name (treeOf b) j) (name (treeOf b) i)) refl
     where

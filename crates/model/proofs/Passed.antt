@@ -1,7 +1,7 @@
--- What a check that passed says: every rule of the list holds, at every node of the walk. And how a loop over the nodes meets a check.
+-- What a check that passed says: every rule of the list holds, at every node of the walk. How a loop over the nodes meets a check. Where two checks are equal.
 use Prim.Native.Nat.{ℕ, zero, suc, _+_, _-_, _≤_, _<_}
 use mathlib.Core.Path.{_≡_, refl, subst, sym, _∙_}
-use mathlib.Core.Bool.{true, false, cond}
+use mathlib.Core.Bool.{Bool, true, false, cond}
 use mathlib.Core.List.{List, [], _∷_, _++_}
 use native.Mathlib.Omega.{arith}
 use native.Mathlib.Decide.{ℕ-discrete}
@@ -42,6 +42,13 @@ hold-left ((rule unless holds) ∷ xs) ys h = (h .0, hold-left xs ys (h .1))
 pub hold-right : (xs ys : List Rule) → Hold (xs ++ ys) → Hold ys
 hold-right [] ys h = h
 hold-right ((rule unless holds) ∷ xs) ys h = hold-right xs ys (h .1)
+
+-- a rule that holds wherever those before it hold makes no difference
+pub row-kept : (node rule : ℕ) (t : Bool) (xs ys : List Rule) → (Hold xs → t ≡ true) → check node (xs ++ (rule unless t ∷ ys)) ≡ check node (xs ++ ys)
+unfolding check
+row-kept node rule t [] ys f = rw (f tt)
+row-kept node rule t ((r unless true) ∷ xs) ys f = row-kept node rule t xs ys (λ h. f (refl, h))
+row-kept node rule t ((r unless false) ∷ xs) ys f = refl
 
 module _ {A : Type 0} where
   pub then-first : (c : Check) (s : Answer A) {a : A} → (c then s) ≡ answer a → c ≡ passed
@@ -85,6 +92,29 @@ checkFrom-at f (suc k) i j e l h =
       | yes q ↦ subst (λ (n : ℕ). f n ≡ passed) q (then-first (f i) (checkFrom f k (suc i)) e)
       | no n ↦ checkFrom-at f k (suc i) j (then-second (f i) (checkFrom f k (suc i)) e) (omega (arith, n)) (omega arith)
     ]
+
+-- equal where what follows is equal after a pass; two walks, where they agree at each node that the second comes to
+pub then-same : (c : Check) {s u : Check} → (c ≡ passed → s ≡ u) → (c then s) ≡ (c then u)
+unfolding _then_
+then-same (rejected r) f = refl
+then-same (answer x) f = f refl
+
+pub checkFrom-same : (f g : ℕ → Check) (k i : ℕ) → ((j : ℕ) → i ≤ j → j < i + k → ((m : ℕ) → i ≤ m → m < j → g m ≡ passed) → f j ≡ g j)
+    → checkFrom f k i ≡ checkFrom g k i
+unfolding checkFrom
+checkFrom-same f g zero i h = refl
+checkFrom-same f g (suc k) i h =
+    rw (h i (omega arith) (omega arith) (λ m l u. absurd (omega arith)))
+    (then-same (g i)
+    (λ p.
+    checkFrom-same f g k (suc i)
+    (λ j l u before.
+    h j (omega arith) (omega arith)
+    (λ m v w.
+    elim (ℕ-discrete i m) [
+      | yes q ↦ subst (λ (n : ℕ). g n ≡ passed) q p
+      | no n ↦ before m (omega (arith, n)) w
+    ]))))
 
 -- a loop over the nodes: one that passes, one that does not, the end
 module _ (f : ℕ → Check) (n i : ℕ) where

@@ -1,14 +1,17 @@
--- The walks of specs/Lists. As a loop with a counter i below n meets them: one step, and the end. What a walk says of each number, and the other way round.
+-- The walks of specs/Lists. As a loop with a counter i below n meets them: one step, and the end. What a walk says of each number, and the other way round. What
+-- holds of a list holds of those in it.
 use Prim.Native.Nat.{ℕ, zero, suc, _+_, _-_, _≤_, _<_}
-use mathlib.Core.Path.{_≡_, refl, sym, subst}
+use mathlib.Core.Path.{_≡_, refl, sym, ap, subst, _∙_}
 use mathlib.Core.Bool.{Bool, true, false, cond, not, _&&_, _||_}
-use mathlib.Core.List.{[], _∷_}
+use mathlib.Core.List.{List, [], _∷_}
 use native.Mathlib.Omega.{arith}
 use native.Mathlib.Decide.{ℕ-discrete}
 use native.Mathlib.Numerals.{add-one}
 use native.Mathlib.Nat.{add-zero}
-use Rattle.model.specs.Lists.{everyFrom, someFrom, countFrom, listFrom, seekFrom, sumBefore}
-use Rattle.model.proofs.Logic.{untrue, and-first, and-second, or-left, or-right}
+use lib.Dec.{eqb}
+use borrow.Author.Tests.{eqb-true, ne-eqb}
+use Rattle.model.specs.Lists.{everyFrom, someFrom, countFrom, listFrom, seekFrom, sumBefore, among}
+use Rattle.model.proofs.Logic.{untrue, and-first, and-second, or-left, or-right, or-cases}
 
 left : (n i : ℕ) → i < n → n - i ≡ suc (n - (i + 1))
 left n i h = omega arith
@@ -166,3 +169,23 @@ sum-part f i n h =
 -- no more are counted than there are
 pub count-few : (p : ℕ → Bool) (k i : ℕ) → countFrom p k i ≤ k
 count-few p k i = let e = count-both p (λ j. not (p j)) k i (λ j. refl) in omega arith
+
+-- every one of a list
+abbrev pub every : (ℕ → Bool) → List ℕ → Bool
+every p [] = true
+every p (x ∷ xs) = p x && every p xs
+
+-- what holds of every one holds of one among them
+pub each : (p : ℕ → Bool) (x : ℕ) (xs : List ℕ) → every p xs ≡ true → among x xs ≡ true → p x ≡ true
+unfolding among
+each p x [] h e = untrue e
+each p x (y ∷ ys) h e =
+    or-cases (eqb x y) (among x ys) e (λ q. ap p (eqb-true x y q) ∙ and-first (p y) _ h) (λ m. each p x ys (and-second (p y) _ h) m)
+
+-- what stands in a list is nothing that does not
+pub not-of : (xs : List ℕ) (x y : ℕ) → among x xs ≡ true → among y xs ≡ false → eqb x y ≡ false
+not-of xs x y e n =
+    elim (ℕ-discrete x y) [
+      | yes q ↦ untrue (sym n ∙ (rw q at e))
+      | no z ↦ ne-eqb x y z
+    ]

@@ -140,10 +140,6 @@ fixedName above below default [] = default
 fixedName above below default ((a holds b called n) ∷ rest) =
     let later = fixedName above below default rest in cond (eqb above a && eqb below b) n later
 
--- once only
-unfoldable pub onceOnly : List ℕ
-onceOnly = LibraryVersion ∷ ZoneType ∷ Rind ∷ GridLocation ∷ []
-
 -- a child of node i with that label and name
 unfoldable pub isChild : Tree → ℕ → ℕ → List ℕ → ℕ → Bool
 isChild t i r n j = eqb (parent t j) i && eqb (role t j) r && spells (name t j) n

@@ -8,8 +8,7 @@ use Rattle.model.specs.Lists.{_⊃_, Row, _has_, row, among, someFrom, e
 use Rattle.model.specs.Bytes.{below, magnitude, distance, text, same, spells}
 use Rattle.model.specs.Rules.{Rule, _unless_}
 use Rattle.model.specs.Image.{Tree, name, parent, dimensions, stored, dataType, width, number, MT, C1, I4, R4, I8, R8}
-use Rattle.model.specs.Records.{sibling}
-use Rattle.model.specs.Containment.{LibraryVersion, Base, Zone, ZoneType, GridCoordinates, FlowSolution, Elements, IndexRange, Rind, GridLocation, DataArray, Descriptor, UserDefinedData, IndexArray, Root, role, mayHold, fixedNames, fixedName, onceOnly, child, found, orMissing}
+use Rattle.model.specs.Containment.{LibraryVersion, Base, Zone, ZoneType, GridCoordinates, FlowSolution, Elements, IndexRange, Rind, GridLocation, DataArray, Descriptor, UserDefinedData, IndexArray, Root, role, mayHold, fixedNames, fixedName, child, found, orMissing}
 
 -- the greatest size, rind number and element number, and the greatest magnitude in a PointRange
 abbrev pub maxNumber : ℕ
@@ -233,13 +232,6 @@ placed t i =
 unfoldable pub named : Tree → ℕ → Bool
 named t i = spells (name t i) (fixedName (role t (parent t i)) (role t i) (name t i) fixedNames)
 
--- 22: a second child of a label allowed once
-unfoldable pub sameRole : Tree → ℕ → ℕ → Bool
-sameRole t i j = sibling t i j && eqb (role t j) (role t i)
-
-unfoldable pub second : Tree → ℕ → Bool
-second t i = among (role t i) onceOnly && someFrom (sameRole t i) i 0
-
 -- 23: the required children are there; any child labelled CGNSBase_t will do for the root
 unfoldable pub baseChild : Tree → ℕ → Bool
 baseChild t j = eqb (parent t j) 0 && eqb (role t j) Base
@@ -288,11 +280,11 @@ sizedArray t i = eqb (role t i) DataArray && among (role t (parent t i)) (GridCo
 unfoldable pub sizesLawful : Tree → ℕ → Bool
 sizesLawful t i = sizedArray t i ⊃ shaped t i (dataSizes t (parent t i))
 
+-- there is no rule 22 (document 02, §5)
 unfoldable pub sidsRules : Tree → ℕ → List Rule
 sidsRules t i =
     20 unless placed t i
     ∷ 21 unless named t i
-    ∷ 22 unless not (second t i)
     ∷ 23 unless complete t i
     ∷ 24 unless typeLawful t i
     ∷ 25 unless valueLawful t i

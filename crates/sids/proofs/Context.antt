@@ -5,9 +5,8 @@ use mathlib.Core.Logic.{_⊎_, inl, inr}
 use mathlib.Core.Bool.{Bool, true, false, _||_, or-false}
 use mathlib.Core.List.{List, [], _∷_, _++_}
 use native.Mathlib.Omega.{arith}
-use native.Mathlib.Decide.{ℕ-discrete}
 use lib.Dec.{eqb}
-use borrow.Author.Tests.{eqb-true, ne-eqb}
+use borrow.Author.Tests.{eqb-true}
 use Rattle.model.specs.Lists.{among}
 use Rattle.model.specs.Rules.{check, Check, _then_}
 use Rattle.model.specs.Image.{Tree, treeOf, nodeCount, parent}
@@ -18,20 +17,13 @@ use Rattle.model.proofs.Logic.{untrue, and-first, and-second}
 use Rattle.model.proofs.Parents.{parent-lower, lawful-at}
 use Rattle.model.proofs.Staging.{check-append}
 use Rattle.model.proofs.Sections.{not-root}
-use Rattle.model.proofs.Above.{validated-above, earlier-rule, held-by}
+use Rattle.model.proofs.Above.{validated-above, earlier-rule, held-by, placed-held}
+use Rattle.model.proofs.Walks.{not-of}
 use Rattle.index.specs.Index.{kind}
 use Rattle.index.proofs.Marking.{kind-role}
 use Rattle.types.specs.Given.{ZoneInBase, NodeContext}
 use Rattle.sids.specs.Given.{UnderZone, Sized}
 use Rattle.sids.specs.Groups.{placeRules, contentRules, sizeRules}
-
--- what stands in a list is nothing that does not
-pub not-of : (l : List ℕ) (r x : ℕ) → among r l ≡ true → among x l ≡ false → eqb r x ≡ false
-not-of l r x e n =
-    elim (ℕ-discrete r x) [
-      | yes q ↦ untrue (sym n ∙ (rw q at e))
-      | no z ↦ ne-eqb r x z
-    ]
 
 -- a list of one; what may hold a zone; what holds the three kinds of nodes under a zone
 among-one : (x y : ℕ) → among x (y ∷ []) ≡ true → x ≡ y
@@ -63,11 +55,6 @@ rind-under above e = held-by above Rind e
 no-root : (t : Tree) (j r : ℕ) → among r (GridCoordinates ∷ FlowSolution ∷ Elements ∷ []) ≡ true → role t j ≡ r → j ≡ 0 → ⊥
 unfolding among
 no-root t j r k e = not-root t j r e (not-of (GridCoordinates ∷ FlowSolution ∷ Elements ∷ []) r Root k refl)
-
--- a node that is no root is one of the table's
-pub placed-held : (t : Tree) (i : ℕ) → (i ≡ 0 → ⊥) → placed t i ≡ true → mayHold (role t (parent t i)) (role t i) ≡ true
-unfolding placed
-placed-held t i n e = and-first (mayHold (role t (parent t i)) (role t i)) _ (rw (ne-eqb i 0 n) at e)
 
 module _ (b : List ℕ) (i : ℕ) (g : NodesTo b i) where
   -- a validated node up to i, in its place

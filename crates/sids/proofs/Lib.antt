@@ -4,6 +4,5 @@ pub mod Found
 pub mod Rinds
 pub mod Context
 pub mod Sized
-pub mod Once
 mod Siblings
 mod RequiredChild

@@ -29,10 +29,10 @@ fn reject(rule: u64, node: usize) -> Stage
     Stage::Rejected(Rejection::at(rule, node as u64))
 }
 
-// Rules 20 to 22. Rule 22 is never broken where 21 holds: labels allowed once have fixed names, and siblings differ in their names (rule 11).
+// Rules 20 and 21.
 fn place_stage(image: &[u8], index: &[u16], i: usize) -> Stage
-    requires { ⌜ NodesTo (now image) i × (validated (treeOf (now image)) i ≡ true) ⌝ }
-    requires { ⌜ Index (now image) (now index) ⌝ }
+    requires { ⌜ Index (now image) (now index) × (i < nodeCount (now image)) ⌝ }
+    requires { ⌜ validated (treeOf (now image)) i ≡ true ⌝ }
     ensures { λ r. ⌜ stageTells r ≡ check i (placeRules (treeOf (now (image .entry))) i) ⌝ }
 {
     if i == 0 {

@@ -1,4 +1,4 @@
-//! Damage to containment and required children (rules 20 to 23).
+//! Damage to containment, fixed names and required children (rules 20, 21 and 23).
 
 use super::pick::{add_anywhere, is_validated, labelled, plain_node, points_node, some_node};
 use super::values::break_type;
@@ -43,23 +43,6 @@ pub fn renamed(image: &mut Image, random: &mut Random) {
     if let Some(node) = node {
         let names = ["Renamed", "rind", "Rind1", "CGNSLibraryVersio", "GridLocation_t", "Pointrange", "PointLis"];
         image.nodes[node].name = padded(random.pick(&names).as_bytes());
-    }
-}
-
-/// A second node of a label with a fixed name (rule 21).
-pub fn second_under_other_name(image: &mut Image, random: &mut Random) {
-    let (parent, label) = *random.pick(&[
-        ("Zone_t", "ZoneType_t"),
-        ("Elements_t", "IndexRange_t"),
-        ("Elements_t", "Rind_t"),
-        ("FlowSolution_t", "GridLocation_t"),
-        ("FlowSolution_t", "IndexRange_t"),
-        ("FlowSolution_t", "IndexArray_t"),
-        ("GridCoordinates_t", "Rind_t"),
-    ]);
-    if let Some(parent) = labelled(image, random, parent) {
-        let node = plain_node(random, "Second", label);
-        add_anywhere(image, random, parent, node);
     }
 }
 

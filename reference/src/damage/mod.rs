@@ -7,6 +7,7 @@ mod flat;
 mod header;
 mod mixed;
 mod names;
+mod once_only;
 mod pick;
 mod points;
 mod records;
@@ -19,6 +20,7 @@ use crate::build::Image;
 use crate::random::Random;
 use containment::*;
 use header::*;
+use once_only::*;
 use points::points;
 use records::*;
 use sections::*;
@@ -54,7 +56,7 @@ pub const DAMAGES: [(u32, &[Damage]); 34] = [
     (8, &[Nodes(too_deep)]),
     (9, &[Nodes(bad_name)]),
     (10, &[Nodes(bad_label)]),
-    (11, &[Nodes(twin_name)]),
+    (11, &[Nodes(twin_name), Nodes(second_under_fixed_name)]),
     (12, &[Nodes(link)]),
     (13, &[Nodes(unknown_type)]),
     (14, &[Nodes(dimension_count_out), Nodes(dimension_count_word)]),

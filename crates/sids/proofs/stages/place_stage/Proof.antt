@@ -1,18 +1,35 @@
--- The root passes; below it the roles decide 20 and 21, and 22 is then not broken.
-use mathlib.Core.Path.{_≡_, sym, ap, _∙_}
-use mathlib.Core.Bool.{not}
+-- The root passes; below it the roles decide 20 and 21.
+use Prim.Native.Nat.{ℕ}
+use mathlib.Core.Path.{_≡_, refl, sym, _∙_}
+use mathlib.Core.Bool.{Bool, _&&_}
+use mathlib.Core.List.{List}
 use borrow.Author.Needs.{needs}
-use borrow.Author.Tests.{not-true, not-false}
-use Rattle.model.specs.Image.{treeOf}
-use Rattle.model.specs.Values.{placed}
+use borrow.Author.Tests.{not-true, not-false, ne-eqb}
+use lib.Dec.{eqb}
+use Rattle.model.specs.Lists.{_⊃_}
+use Rattle.model.specs.Rules.{check, passed}
+use Rattle.model.specs.Image.{Tree, treeOf, parent}
+use Rattle.model.specs.Containment.{role, mayHold, Elements}
+use Rattle.model.specs.Values.{unstructured, placed}
 use Rattle.model.proofs.Staging.{broken, kept, no-rule}
 use Rattle.model.proofs.Above.{validated-above}
 use Rattle.labels.proofs.Nodes.{parent-inside}
-use Rattle.sids.proofs.Once.{never-second, root-place, placed-is}
+use Rattle.labels.proofs.Grid.{named-root}
+use Rattle.sids.specs.Groups.{placeRules}
 use Rattle.sids.proofs.stages.place_stage.Statement.{statement}
 use Rattle.sids.proofs.stages.place_stage.Tie as tie
 
+-- the root stands in its place, and has no fixed name
+root-place : (b : List ℕ) (i : ℕ) → i ≡ 0 → passed ≡ check i (placeRules (treeOf b) i)
+unfolding placed
+root-place b i z = rw z (sym (kept 0 20 _ refl ∙ kept 0 21 _ (sym (named-root b 0 refl)) ∙ no-rule 0))
+
 -- what the test of rule 20 tells
+placed-is : (t : Tree) (i : ℕ) {up above below : ℕ} {r : Bool} → (i ≡ 0 → ⊥) → up ≡ parent t i → above ≡ role t up → below ≡ role t i
+    → r ≡ (mayHold above below && (eqb below Elements ⊃ unstructured t up)) → placed t i ≡ r
+unfolding placed
+placed-is t i z e f g h = rw (ne-eqb i 0 z, ← e, ← f, ← g) (sym h)
+
 module _ (c : tie.After-placed) where
   abbrev start : tie.Start
   start = c .before .before .before .before .before .before .before
@@ -35,7 +52,8 @@ role-of-requires c κs =
     let i = a .args .i in
     let e = c .parent-of .ensures .0 in
     let n = c .before .if1 .left in
-    ((p .1, parent-inside b i (p .1 .sound) (p .0 .0 .inside) n e), rw e (validated-above b (p .1 .sound) i (p .0 .0 .inside) n (p .0 .1)))
+    let s = p .0 .0 .sound in
+    ((p .0 .0, parent-inside b i s (p .0 .1) n e), rw e (validated-above b s i (p .0 .1) n (p .1)))
 
 placed-requires : tie.Need-placed-requires
 placed-requires c κs =
@@ -52,7 +70,7 @@ named-requires c κs =
     let p = d .before .before .before .before .before .before .before .pre in
     let r = d .before .before .role-of .ensures in
     let q = d .before .role-of2 .ensures in
-    ((p .1 .sound .laid, p .0 .0 .inside), ((rw (← d .before .before .before .parent-of .ensures .0) (r .0), q .0), (r .1, q .1)))
+    ((p .0 .0 .sound .laid, p .0 .1), ((rw (← d .before .before .before .parent-of .ensures .0) (r .0), q .0), (r .1, q .1)))
 
 returns-3 : tie.Need-returns-3
 returns-3 c =
@@ -63,11 +81,9 @@ returns-3 c =
 returns-4 : tie.Need-returns-4
 returns-4 c =
     let d = c .before .before .before in
-    let a = d .before .before .before .before .before .before .before in
     let p = place-is d ∙ not-false _ (c .before .before .if2 .left) in
     let q = sym (c .before .named .ensures) ∙ not-false _ (c .if3 .left) in
-    sym (kept _ 20 _ p ∙ kept _ 21 _ q ∙ kept _ 22 _ (ap not (never-second (a .args .image .now) (a .args .i) (a .pre .0 .0) (a .pre .1) (a .pre .0 .1) p q))
-    ∙ no-rule _)
+    sym (kept _ 20 _ p ∙ kept _ 21 _ q ∙ no-rule _)
 
 pub place-stage-spec : {M : Type 1} → statement M
 place-stage-spec =

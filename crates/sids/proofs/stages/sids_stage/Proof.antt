@@ -8,6 +8,9 @@ use Rattle.sids.proofs.Context.{ready, sized, sids-groups}
 use Rattle.sids.proofs.stages.sids_stage.Statement.{statement}
 use Rattle.sids.proofs.stages.sids_stage.Tie as tie
 
+place-stage-requires : tie.Need-place-stage-requires
+place-stage-requires c κs = let p = c .before .before .pre in ((p .1, p .0 .0 .inside), p .0 .1)
+
 returns : tie.Need-returns
 returns c = stop (c .before .before .place-stage .ensures) _ (c .enum-told2 .given .1) ∙ sym (sids-groups _ _)
 
@@ -48,6 +51,6 @@ returns-4 c =
 
 pub sids-stage-spec : {M : Type 1} → statement M
 sids-stage-spec =
-    tie.close (tie.spec (λ c κs. search needs) (search needs) (search needs) returns content-stage-requires (search needs)
+    tie.close (tie.spec place-stage-requires (search needs) (search needs) returns content-stage-requires (search needs)
     (search needs) returns-2 sizes-lawful-requires
     (search needs) returns-3 returns-4)
