@@ -407,7 +407,7 @@ cases =
     ∷ (inBlock (location "GridLocation" 4 ∷ location "GridLocation" 4 ∷ []) refuses 11 at 6)
     ∷ (inBlock (location "GridLocation" 4 ∷ location "Location" 4 ∷ []) refuses 21 at 6)
     ∷ (inBlock (plan "Grid" "GridCoordinates_t" "MT" [] 2 [] ∷ rind "Rind" 5 ∷ rind "Rind1" 5 ∷ []) refuses 21 at 7)
-    -- these nodes are such children: 22 stands behind 11 and 21 alone
+    -- 22 would see the later one of two: 11 and 21 come before it
     ∷ (inBlock (rind "Rind" 4 ∷ rind "Rind" 4 ∷ []) seconds 6 is true)
     ∷ (inBlock (rind "Rind" 4 ∷ rind "Rind1" 4 ∷ []) seconds 6 is true)
     ∷ (inBlock (rind "Rind" 4 ∷ rind "Rind1" 4 ∷ []) seconds 5 is false)

@@ -1,13 +1,14 @@
 -- Document 02, §5: rule 22 never comes. A label allowed once has a fixed name wherever it may stand (20 comes before). An earlier sibling with that label
 -- stands below the same validated parent, so it was validated and met 21: both have one name, and 11 was given before.
 use Prim.Native.Nat.{ℕ, zero, suc, _<_}
-use mathlib.Core.Path.{_≡_, refl, sym, ap, _∙_}
+use mathlib.Core.Path.{_≡_, refl, sym, ap, subst, _∙_}
 use mathlib.Core.Bool.{Bool, true, false, cond, not, _&&_, _||_}
 use mathlib.Core.List.{List, [], _∷_, _++_}
 use native.Mathlib.Omega.{arith}
 use lib.Dec.{eqb}
 use lib.ListN.{take, drop}
-use borrow.Author.Tests.{eqb-true, eqb-false, not-true}
+use borrow.Author.Tests.{eqb-true, eq-eqb}
+use Rattle.model.specs.declared.Rejection.{Rejection}
 use Rattle.model.specs.Lists.{among, someFrom}
 use Rattle.model.specs.Bytes.{same, spells}
 use Rattle.model.specs.Rules.{Answer, rejected, answer, Check, passed, Rule, _unless_, check, checkFrom, _then_, _gives_}
@@ -20,7 +21,7 @@ use Rattle.model.specs.Elements.{elementRules}
 use Rattle.model.specs.Validation.{nodeRules, nodeCheckAt, nodeCheck, imageCheck, counts, validation}
 use Rattle.model.specs.Given.{NodesTo}
 use Rattle.model.proofs.Rule22.{onceOnly, sameRole, second, rulesWith22, nodeCheckWith22, imageCheckWith22, validationWith22, ruleNumbers, Never, NeverComes}
-use Rattle.model.proofs.Logic.{untrue, and-first, and-second}
+use Rattle.model.proofs.Logic.{untrue, and-first, and-second, or-left, or-right}
 use Rattle.model.proofs.Walks.{every, each, not-of, some-at}
 use Rattle.model.proofs.Passed.{refused, row-kept, then-second, then-same, checkFrom-at, checkFrom-same}
 use Rattle.model.proofs.Accepted.{table-passed, sids-rule}
@@ -126,21 +127,20 @@ alike b =
     checkFrom-same (nodeCheckWith22 (treeOf b)) (nodeCheckAt (treeOf b)) (treeOf b .count) 0 (λ i _ h before.
     same-at b i (record { sound = sound b s; inside = omega (arith, h); before = λ j l. before j (omega arith) l })))
 
--- a table whose rules have other numbers does not give n
-module _ (n : ℕ) where
-  others : List Rule → Bool
-  others [] = true
-  others ((rule unless t) ∷ rest) = not (eqb rule n) && others rest
+-- the rule that a check gives is one of its table
+given-listed : (node : ℕ) (rules : List Rule) (r : Rejection) → check node rules ≡ rejected r → among (r .rule) (ruleNumbers rules) ≡ true
+unfolding check ruleNumbers among
+given-listed node [] r e = refused (sym e)
+given-listed node ((rule unless true) ∷ rest) r e = or-right (eqb (r .rule) rule) _ (given-listed node rest r e)
+given-listed node ((rule unless false) ∷ rest) r e = or-left (eqb (r .rule) rule) _ (eq-eqb (r .rule) rule (let z : rule ≡ r .rule = cc in sym z))
 
+-- so a table without n does not give n
+module _ (n : ℕ) where
   never-answer : {A : Type 0} (x : A) → Never n (answer x)
   never-answer x r e q = refused (sym e)
 
-  never-check : (node : ℕ) (rules : List Rule) → others rules ≡ true → Never n (check node rules)
-  unfolding check others
-  never-check node [] o r e q = never-answer tt r e q
-  never-check node ((rule unless true) ∷ rest) o r e q = never-check node rest (and-second (not (eqb rule n)) _ o) r e q
-  never-check node ((rule unless false) ∷ rest) o r e q =
-      eqb-false rule n (not-true _ (and-first (not (eqb rule n)) _ o)) (let z : rule ≡ r .rule = cc in z ∙ q)
+  never-check : (node : ℕ) (rules : List Rule) → among n (ruleNumbers rules) ≡ false → Never n (check node rules)
+  never-check node rules o r e q = untrue (sym o ∙ subst (λ (k : ℕ). among k (ruleNumbers rules) ≡ true) q (given-listed node rules r e))
 
   never-then : {A : Type 0} (c : Check) (s : Answer A) → Never n c → Never n s → Never n (c then s)
   unfolding _then_
@@ -155,14 +155,14 @@ module _ (n : ℕ) where
 -- no row of the table in force is 22
 module _ (b : List ℕ) where
   table-never : Never 22 (tableCheck b)
-  unfolding tableCheck headerCheck headerRules recordCheck recordCheckAt recordRules trailingCheck others
+  unfolding tableCheck headerCheck headerRules recordCheck recordCheckAt recordRules trailingCheck ruleNumbers among
   table-never =
       never-then 22 (headerCheck b) _ (never-check 22 0 (headerRules b) refl)
       (never-then 22 (recordCheck (treeOf b)) _ (never-from 22 (recordCheckAt (treeOf b)) _ 0 (λ i. never-check 22 i (recordRules (treeOf b) i) refl))
       (never-check 22 _ _ refl))
 
   node-never : (i : ℕ) → Never 22 (nodeCheckAt (treeOf b) i)
-  unfolding nodeCheckAt nodeRules sidsRules elementRules others
+  unfolding nodeCheckAt nodeRules sidsRules elementRules ruleNumbers among
   node-never i = by-test (validated (treeOf b) i) (eqb (role (treeOf b) i) Elements)
     where
       by-test : (v e : Bool) → Never 22 (cond v (check i (sidsRules (treeOf b) i ++ cond e (elementRules (treeOf b) i) [])) passed)

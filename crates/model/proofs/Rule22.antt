@@ -38,6 +38,7 @@ imageCheckWith22 b = tableCheck b then checkFrom (nodeCheckWith22 (treeOf b)) (t
 unfoldable pub validationWith22 : List ℕ → Answer Counts
 validationWith22 b = imageCheckWith22 b gives counts (treeOf b)
 
+-- the numbers of a table
 unfoldable pub ruleNumbers : List Rule → List ℕ
 ruleNumbers [] = []
 ruleNumbers ((rule unless holds) ∷ rest) = rule ∷ ruleNumbers rest
