@@ -2,19 +2,19 @@
 use Prim.Native.Nat.{ℕ, zero, suc}
 use mathlib.Core.Path.{_≡_, refl}
 use mathlib.Core.Bool.{Bool, true, false, cond, _&&_}
-use mathlib.Core.List.{List, [], _∷_, _++_}
+use mathlib.Core.List.{List, [], _∷_}
 use native.Mathlib.Omega.{arith}
 use lib.Dec.{leb, eqb}
 use lib.ListN.{getD}
 use borrow.Author.Tests.{leb-true}
-use Rattle.model.specs.Rules.{Answer, rejected, answer, Check, passed, Rule, _unless_, check, checkFrom, _then_, _gives_, _into_}
+use Rattle.model.specs.Rules.{Answer, rejected, answer, Check, passed, Rule, _unless_, check, _atEntry_, checkFrom, _then_, _gives_, _into_}
 use Rattle.model.specs.Image.{Tree, treeOf}
 use Rattle.model.specs.Header.{headerRules, headerCheck}
 use Rattle.model.specs.Records.{recordRules, recordCheckAt, recordCheck, trailingCheck, tableCheck}
 use Rattle.model.specs.Containment.{role, Elements, validated}
 use Rattle.model.specs.Values.{sidsRules}
-use Rattle.model.specs.Elements.{elementRules}
-use Rattle.model.specs.Validation.{nodeRules, nodeCheckAt, nodeCheck, imageCheck, validation}
+use Rattle.model.specs.Elements.{elementRules, entryRules, entryCheckAt, entryCheck}
+use Rattle.model.specs.Validation.{sectionCheck, nodeCheckAt, nodeCheck, imageCheck, validation}
 use Rattle.model.specs.NameBytes.{nameBytesAnswer}
 use Rattle.model.specs.Path.{pathCheck, pathAnswer}
 use Rattle.model.specs.DataSize.{dataSizeAnswer}
@@ -58,6 +58,11 @@ module _ {A : Type 0} where
   of-into (rejected r) f h l = h
   of-into (answer x) f h l = l x
 
+of-place : (c : Check) (place : ℕ) → Numbered c → Numbered (c atEntry place)
+unfolding _atEntry_
+of-place (rejected r) place h = h
+of-place (answer x) place h = tt
+
 of-walk : (f : ℕ → Check) → ((i : ℕ) → Numbered (f i)) → (k i : ℕ) → Numbered (checkFrom f k i)
 unfolding checkFrom
 of-walk f h zero i = tt
@@ -72,14 +77,17 @@ of-table b =
     (of-walk (recordCheckAt (treeOf b)) (λ i. of-check i (recordRules (treeOf b) i) refl) (treeOf b .count) 0)
     (of-check (treeOf b .count) _ refl))
 
+of-section : (t : Tree) (i : ℕ) → Numbered (sectionCheck t i)
+unfolding sectionCheck elementRules entryCheck entryCheckAt entryRules fromOne
+of-section t i =
+    of-cond _ passed (eqb (role t i) Elements)
+    (of-then (check i (elementRules t i)) (entryCheck t i) (of-check i (elementRules t i) refl)
+    (of-walk (entryCheckAt t i) (λ k. of-place _ (suc k) (of-check i (entryRules t i k) refl)) _ 0)) tt
+
 of-node : (t : Tree) (i : ℕ) → Numbered (nodeCheckAt t i)
-unfolding nodeCheckAt nodeRules sidsRules elementRules fromOne
-of-node t i = by-tests (validated t i) (eqb (role t i) Elements)
-  where
-    by-tests : (v s : Bool) → Numbered (cond v (check i (sidsRules t i ++ cond s (elementRules t i) [])) passed)
-    by-tests true true = of-check i (sidsRules t i ++ elementRules t i) refl
-    by-tests true false = of-check i (sidsRules t i ++ []) refl
-    by-tests false s = tt
+unfolding nodeCheckAt sidsRules fromOne
+of-node t i =
+    of-cond _ passed (validated t i) (of-then (check i (sidsRules t i)) (sectionCheck t i) (of-check i (sidsRules t i) refl) (of-section t i)) tt
 
 of-image : (b : List ℕ) → Numbered (imageCheck b)
 unfolding imageCheck nodeCheck

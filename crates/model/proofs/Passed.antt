@@ -8,7 +8,7 @@ use native.Mathlib.Decide.{ℕ-discrete}
 use native.Mathlib.Numerals.{add-one}
 use lib.Dec.{eqb}
 use Rattle.model.specs.declared.Rejection.{Rejection}
-use Rattle.model.specs.Rules.{Answer, rejected, answer, Check, passed, Rule, _unless_, check, checkFrom, _then_, _gives_, _into_}
+use Rattle.model.specs.Rules.{Answer, rejected, answer, Check, passed, Rule, _unless_, check, _atEntry_, checkFrom, _then_, _gives_, _into_}
 use Rattle.model.proofs.Logic.{choose}
 
 -- a refusal is no value
@@ -84,6 +84,12 @@ unfolding _into_
 into-value (rejected r) f e = refused e
 into-value (answer x) f e = (x, refl, e)
 
+-- a check of an entry passes where the check does
+pub at-entry-pass : (c : Check) (place : ℕ) → (c atEntry place) ≡ passed → c ≡ passed
+unfolding _atEntry_
+at-entry-pass (rejected r) place e = refused e
+at-entry-pass (answer x) place e = refl
+
 pub checkFrom-at : (f : ℕ → Check) (k i j : ℕ) → checkFrom f k i ≡ passed → i ≤ j → j < i + k → f j ≡ passed
 unfolding checkFrom
 checkFrom-at f zero i j e l h = absurd (omega arith)
@@ -115,6 +121,24 @@ checkFrom-same f g (suc k) i h =
       | yes q ↦ subst (λ (n : ℕ). g n ≡ passed) q p
       | no n ↦ before m (omega (arith, n)) w
     ]))))
+
+-- the first that does not pass decides, and where there is none the walk passes
+pub checkFrom-first : (f : ℕ → Check) (k i j : ℕ) {r : Rejection} → i ≤ j → j < i + k → ((m : ℕ) → i ≤ m → m < j → f m ≡ passed) → f j ≡ rejected r
+    → checkFrom f k i ≡ rejected r
+unfolding checkFrom
+checkFrom-first f zero i j l h before e = absurd (omega arith)
+checkFrom-first f (suc k) i j l h before e =
+    elim (ℕ-discrete i j) [
+      | yes q ↦ then-off (checkFrom f k (suc i)) (rw q e)
+      | no n ↦ then-on (checkFrom f k (suc i)) (before i (omega arith) (omega (arith, n)))
+          ∙ checkFrom-first f k (suc i) j (omega (arith, n)) (omega arith) (λ m a b. before m (omega arith) b) e
+    ]
+
+pub checkFrom-none : (f : ℕ → Check) (k i : ℕ) → ((m : ℕ) → i ≤ m → m < i + k → f m ≡ passed) → checkFrom f k i ≡ passed
+unfolding checkFrom
+checkFrom-none f zero i each = refl
+checkFrom-none f (suc k) i each =
+    then-on (checkFrom f k (suc i)) (each i (omega arith) (omega arith)) ∙ checkFrom-none f k (suc i) (λ m a b. each m (omega arith) (omega arith))
 
 -- a loop over the nodes: one that passes, one that does not, the end
 module _ (f : ℕ → Check) (n i : ℕ) where

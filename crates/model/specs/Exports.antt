@@ -25,33 +25,33 @@ use Rattle.model.specs.ReadList.{ruleOf}
 use Rattle.model.specs.ElementCorners.{elementCornersAnswer, elementCornersMemory}
 use Rattle.model.specs.OwnType.{ownTypeAnswer}
 
--- The words of an answer: the node, 0 where no rule names one, then the values, 0 beside a rule.
+-- The words of an answer: the node and the entry, 0 where no rule names one, then the values, 0 beside a rule.
 -- nodes validated, nodes skipped, zones, sections
 unfoldable pub validationWords : Answer Counts → List ℕ
-validationWords (rejected r) = r .node ∷ 0 ∷ 0 ∷ 0 ∷ 0 ∷ []
-validationWords (answer c) = 0 ∷ c .validated ∷ c .skipped ∷ c .zones ∷ c .sections ∷ []
+validationWords (rejected r) = r .node ∷ r .entry ∷ 0 ∷ 0 ∷ 0 ∷ 0 ∷ []
+validationWords (answer c) = 0 ∷ 0 ∷ c .validated ∷ c .skipped ∷ c .zones ∷ c .sections ∷ []
 
 -- a count
 unfoldable pub countWords : Answer ℕ → List ℕ
-countWords (rejected r) = r .node ∷ 0 ∷ []
-countWords (answer n) = 0 ∷ n ∷ []
+countWords (rejected r) = r .node ∷ r .entry ∷ 0 ∷ []
+countWords (answer n) = 0 ∷ 0 ∷ n ∷ []
 
 -- the element of 45, the count of faces
 unfoldable pub usageWords : Answer ℕ → List ℕ
-usageWords (rejected r) = r .node ∷ r .element ∷ 0 ∷ []
-usageWords (answer n) = 0 ∷ 0 ∷ n ∷ []
+usageWords (rejected r) = r .node ∷ r .entry ∷ r .element ∷ 0 ∷ []
+usageWords (answer n) = 0 ∷ 0 ∷ 0 ∷ n ∷ []
 
 -- kind (1 whole, 2 single, 3 double), bits; a whole number's are its two's complement at 64 bits
 unfoldable pub valueWords : Answer Value → List ℕ
-valueWords (rejected r) = r .node ∷ 0 ∷ 0 ∷ []
-valueWords (answer (whole n)) = 0 ∷ 1 ∷ ofZ w64 n ∷ []
-valueWords (answer (single bits)) = 0 ∷ 2 ∷ bits ∷ []
-valueWords (answer (double bits)) = 0 ∷ 3 ∷ bits ∷ []
+valueWords (rejected r) = r .node ∷ r .entry ∷ 0 ∷ 0 ∷ []
+valueWords (answer (whole n)) = 0 ∷ 0 ∷ 1 ∷ ofZ w64 n ∷ []
+valueWords (answer (single bits)) = 0 ∷ 0 ∷ 2 ∷ bits ∷ []
+valueWords (answer (double bits)) = 0 ∷ 0 ∷ 3 ∷ bits ∷ []
 
 -- the number of directions, the size in each
 unfoldable pub sizeWords : Answer Sizes → List ℕ
-sizeWords (rejected r) = r .node ∷ 0 ∷ 0 ∷ 0 ∷ 0 ∷ []
-sizeWords (answer s) = 0 ∷ s .directions ∷ s .i ∷ s .j ∷ s .k ∷ []
+sizeWords (rejected r) = r .node ∷ r .entry ∷ 0 ∷ 0 ∷ 0 ∷ 0 ∷ []
+sizeWords (answer s) = 0 ∷ 0 ∷ s .directions ∷ s .i ∷ s .j ∷ s .k ∷ []
 
 -- 46 unless lent bytes have room for n words
 unfoldable pub wordsFit : ℕ → List ℕ → Check
