@@ -1,35 +1,35 @@
 -- Rules 38 and 34 of a MIXED section against its two rows. Elements fill the connectivity one after the other, and of each the first entry alone is a
--- type number: so asking the nodes of each element is asking every entry that is none.
-use Prim.Native.Nat.{ℕ, zero, suc, _+_, _-_, _≤_, _<_}
-use mathlib.Core.Path.{_≡_, refl, sym, ap, _∙_}
-use mathlib.Core.Bool.{Bool, true, false, _&&_}
+-- type number: so asking the nodes of each element in turn is asking every entry that is none, in their order.
+use Prim.Native.Nat.{ℕ, suc, _+_, _-_, _≤_, _<_}
+use mathlib.Core.Path.{_≡_, sym, _∙_}
+use mathlib.Core.Bool.{true, false}
 use mathlib.Core.List.{List}
 use native.Mathlib.Omega.{arith}
 use native.Mathlib.Numerals.{add-one}
-use native.Mathlib.Nat.{zero-add}
 use lib.Dec.{eqb}
 use borrow.Author.Tests.{eqb-true, eq-eqb}
 use Rattle.model.specs.Lists.{_⊃_, everyFrom}
-use Rattle.model.specs.Rules.{check, passed, rejected, rejection}
+use Rattle.model.specs.Rules.{check, passed, rejected, rejection, rejectionAt}
 use Rattle.model.specs.Image.{treeOf, nodeCount, parent}
 use Rattle.model.specs.Given.{Sound}
 use Rattle.model.specs.Values.{size, vertexSize, offsetsOf, connectivityOf}
 use Rattle.model.specs.Elements.{MIXED, hasOffsets, elementType, elementCount, connectivityLength, lengthsFit, startOffset, elementStart, startOf, ownType}
-use Rattle.model.specs.Elements.{startsAtZero, allRise, endsAtLength, typeFits, layoutOf, allTypesFit, startsAt, isTypeNumber, isNode, allNodes}
+use Rattle.model.specs.Elements.{NFACE, startsAtZero, allRise, endsAtLength, typeFits, layoutOf, allTypesFit, startsAt, isTypeNumber, isNode, referenceCheck}
 use Rattle.model.proofs.Logic.{when, or-left}
 use Rattle.model.proofs.Walks.{some-by}
 use Rattle.model.proofs.Loops.{EveryLeft, every-start, every-more, every-stop, every-done}
-use Rattle.model.proofs.Passed.{Hold, check-pass}
+use Rattle.model.proofs.Passed.{Hold, check-pass, then-on, then-off}
 use Rattle.model.proofs.StartOffsets.{offsets-first, offsets-next, offsets-last}
 use Rattle.model.proofs.Layouts.{no-type-between}
 use Rattle.model.proofs.TwosComplement.{rise-last}
 use Rattle.rows.specs.declared.Row.{Row}
-use Rattle.elements.specs.Arrays.{isWithin}
-use Rattle.elements.specs.Groups.{shapeRules, referenceRules}
+use Rattle.rows.specs.Rows.{Numbers}
+use Rattle.elements.specs.Arrays.{isWithin, FirstFailing, Failing}
+use Rattle.elements.specs.Groups.{shapeRules, typeRules, connectivityCheck}
 use Rattle.elements.specs.Given.{RowOf}
-use Rattle.elements.specs.Mixed.{fitsIn, nodesIn, startAt, fitsAt, nodesAt, mixedRules, Filled}
-use Rattle.elements.proofs.Agree.{every-same, every-split, every-last}
-use Rattle.elements.proofs.RuleLaws.{row-number, long-is, reference-is, node-same}
+use Rattle.elements.specs.Mixed.{fitsIn, startAt, fitsAt, Filled, MixedRows}
+use Rattle.elements.proofs.Agree.{every-same, failing-start, failing-on, failing-behind, failing-none}
+use Rattle.elements.proofs.RuleLaws.{row-numbers, row-number, long-is, reference-is, node-same, nodes-kept, nodes-broken}
 
 -- an element ends in the connectivity
 start-inside : {b : List ℕ} {o c : Row} {n : ℕ} → Filled b o c n → (k : ℕ) → k < n → startAt b o (suc k) ≤ c .n
@@ -83,9 +83,6 @@ module _ (b : List ℕ) (s : ℕ) (e : elementType (treeOf b) s ≡ MIXED) (shap
           last = sym (offset-is _ (omega arith)) ∙ offsets-last (treeOf b) s first-is all-rise last-is ∙ long-is g s connectivity;
         }
 
-    pub filled-row : Filled b o c (o .n - 1)
-    filled-row = let q : o .n - 1 ≡ elementCount (treeOf b) s = omega (arith, count-is) in rw q filled
-
     start-is : (k : ℕ) → k ≤ elementCount (treeOf b) s → elementStart (treeOf b) s k ≡ startAt b o k
     start-is k h = start-offset k ∙ offset-is k h
 
@@ -113,85 +110,96 @@ module _ (b : List ℕ) (s : ℕ) (e : elementType (treeOf b) s ≡ MIXED) (shap
           sym (node-same g s connectivity limit v p (omega (arith, start-inside filled k h))
           (no-type-between (treeOf b) s start-rises k p h (rw (start-is k (omega arith)) from) (rw (start-is (suc k) h) to)))
 
-      one-element : (k : ℕ) → k < elementCount (treeOf b) s
-          → everyFrom (isNode (treeOf b) s) (startAt b o (suc k) - startAt b o k) (startAt b o k) ≡ nodesAt b o c limit k
-      unfolding nodesAt nodesIn everyFrom
-      one-element k h =
-          let x = startAt b o k in
-          let y = startAt b o (suc k) in
-          let d : y - x ≡ suc (y - suc x) = omega (arith, filled .rise k h) in
-          rw (add-one, d, first-type k h)
-          (every-same (isNode (treeOf b) s) (isWithin b (c .at) (c .width) limit) (y - suc x) (suc x) (λ p l m. others-nodes k p h (omega arith) (omega arith)))
+      -- the nodes of element k
+      element-nodes : (k : ℕ) → k < elementCount (treeOf b) s → {place : ℕ}
+          → Failing (isWithin b (c .at) (c .width) limit) (c .n) (startAt b o k + 1) (startAt b o (suc k)) place
+          → Failing (isNode (treeOf b) s) (c .n) (startAt b o k) (startAt b o (suc k)) place
+      element-nodes k h f =
+          failing-behind (filled .rise k h) (start-inside filled k h) (first-type k h) (λ p from to. sym (others-nodes k p h from to)) f
 
-      up-to : (m : ℕ) → m ≤ elementCount (treeOf b) s → everyFrom (isNode (treeOf b) s) (startAt b o m) 0 ≡ everyFrom (nodesAt b o c limit) m 0
-      unfolding everyFrom
-      up-to zero h = rw (filled .first)
-      up-to (suc m) h =
-          let x = startAt b o m in
-          let y = startAt b o (suc m) in
-          let d : y ≡ x + (y - x) = omega (arith, filled .rise m h) in
-          let z : suc m ≡ m + 1 = omega arith in
-          ap (λ (q : ℕ). everyFrom (isNode (treeOf b) s) q 0) d
-          ∙ every-split (isNode (treeOf b) s) x (y - x) 0
-          ∙ rw (zero-add x, up-to m (omega arith), one-element m h)
-          (sym (ap (λ (q : ℕ). everyFrom (nodesAt b o c limit) q 0) z ∙ every-last (nodesAt b o c limit) m))
-
-      all-within : everyFrom (nodesAt b o c limit) (elementCount (treeOf b) s) 0 ≡ allNodes (treeOf b) s
-      unfolding allNodes
-      all-within =
-          sym
-          (ap (λ (q : ℕ). everyFrom (isNode (treeOf b) s) q 0) (long-is g s connectivity ∙ sym (filled .last)) ∙ up-to (elementCount (treeOf b) s) (omega arith))
-
-      pub mixed-same : check s (mixedRules b o c limit (o .n - 1)) ≡ check s (referenceRules (treeOf b) s)
-      unfolding mixedRules referenceRules _⊃_ check
-      mixed-same =
-          let q : o .n - 1 ≡ elementCount (treeOf b) s = omega (arith, count-is) in
-          rw (q, all-fit, all-within, e)
-
--- the pass over the elements: k of them have a type that fits, and `lawful` tells of their nodes
-pub record Walked (b : List ℕ) (o c : Row) (limit n k start : ℕ) (lawful : Bool) : Type 0 where
+-- the pass over the elements: k of them have a type that fits, and `place` tells of their nodes
+pub record Walked (b : List ℕ) (s : ℕ) (o c : Row) (k start place : ℕ) : Type 0 where
   pub start-at : start ≡ startAt b o k
-  pub fits : EveryLeft (fitsAt b o c) n k (everyFrom (fitsAt b o c) n 0)
-  pub nodes : lawful ≡ everyFrom (nodesAt b o c limit) k 0
+  pub fits : EveryLeft (fitsAt b o c) (o .n - 1) k (everyFrom (fitsAt b o c) (o .n - 1) 0)
+  pub nodes : Failing (isNode (treeOf b) s) (c .n) 0 start place
 
-module _ {b : List ℕ} {o c : Row} {limit n : ℕ} where
-  pub walked-start : Filled b o c n → Walked b o c limit n 0 0 true
-  unfolding everyFrom
-  walked-start f = record { start-at = sym (f .first); fits = every-start (fitsAt b o c) n; nodes = refl }
+module _ {b : List ℕ} {s : ℕ} {o c : Row} {limit : ℕ} (m : MixedRows b s o c limit) where
+  count : o .n - 1 ≡ elementCount (treeOf b) s
+  count = omega (arith, count-is b s (m .mixed) (m .shaped) (m .sound) (m .offsets) (m .connectivity))
 
-  module _ {k start end : ℕ} {lawful : Bool} (w : Walked b o c limit n k start lawful) (h : k < n) (e : end ≡ startAt b o (k + 1)) where
+  all-filled : Filled b o c (elementCount (treeOf b) s)
+  all-filled = filled b s (m .mixed) (m .shaped) (m .sound) (m .offsets) (m .connectivity)
+
+  types-are : everyFrom (fitsAt b o c) (o .n - 1) 0 ≡ allTypesFit (treeOf b) s
+  types-are = rw count (all-fit b s (m .mixed) (m .shaped) (m .sound) (m .offsets) (m .connectivity))
+
+  pub some-offset : 0 < o .n
+  some-offset = omega (arith, all-filled .count)
+
+  pub offset-row : Numbers b (o .at) (o .width) (o .n)
+  offset-row = row-numbers (m .sound) (m .offsets)
+
+  pub reference-row : Numbers b (c .at) (c .width) (c .n)
+  reference-row = row-numbers (m .sound) (m .connectivity)
+
+  pub walked-start : Walked b s o c 0 0 0
+  walked-start = record { start-at = sym (all-filled .first); fits = every-start (fitsAt b o c) (o .n - 1); nodes = failing-start (isNode (treeOf b) s) (c .n) }
+
+  module _ {k start end place : ℕ} (w : Walked b s o c k start place) (h : k < o .n - 1) (e : end ≡ startAt b o (k + 1)) where
+    inside : k < elementCount (treeOf b) s
+    inside = omega (arith, count)
+
+    next : end ≡ startAt b o (suc k)
+    next = rw add-one at e
+
+    -- where the element stands
+    pub start-before : start < end
+    start-before = rw (w .start-at, next) (all-filled .rise k inside)
+
+    pub end-inside : end ≤ c .n
+    end-inside = rw next (start-inside all-filled k inside)
+
     fits-is : fitsAt b o c k ≡ fitsIn b c start end
     unfolding fitsAt
-    fits-is = rw (w .start-at, e, add-one)
+    fits-is = rw (w .start-at, next)
 
-    pub walked-on : {later : Bool} → fitsIn b c start end ≡ true → later ≡ (lawful && nodesIn b c limit start end) → Walked b o c limit n (k + 1) end later
-    unfolding nodesAt
+    pub walked-on : {later : ℕ} → fitsIn b c start end ≡ true
+        → (0 < place → later ≡ place) × (place ≡ 0 → Failing (isWithin b (c .at) (c .width) limit) (c .n) (start + 1) end later)
+        → Walked b s o c (k + 1) end later
     walked-on f l =
         record {
           start-at = e;
           fits = every-more (w .fits) h (fits-is ∙ f);
-          nodes = l ∙ rw (every-last (nodesAt b o c limit) k, w .nodes, w .start-at, e, add-one);
+          nodes = failing-on (w .nodes) (omega (arith, start-before)) (l .0)
+              (λ z. rw (w .start-at, next)
+              (element-nodes b s (m .mixed) (m .shaped) (m .sound) (m .offsets) (m .connectivity) limit (m .vertices) k inside
+              (rw (w .start-at, next) at (l .1 z))));
         }
 
-    pub walked-off : (s : ℕ) → fitsIn b c start end ≡ false → rejected (rejection 38 s) ≡ check s (mixedRules b o c limit n)
-    unfolding mixedRules check
-    walked-off s f = rw (← every-stop (w .fits) h (fits-is ∙ f))
+    pub walked-off : fitsIn b c start end ≡ false → rejected (rejection 38 s) ≡ connectivityCheck (treeOf b) s
+    unfolding connectivityCheck typeRules check _⊃_
+    walked-off f = sym (then-off (referenceCheck (treeOf b) s) (rw (m .mixed, ← types-are, ← every-stop (w .fits) h (fits-is ∙ f))))
 
-  module _ {k start : ℕ} {lawful : Bool} (w : Walked b o c limit n k start lawful) (h : n ≤ k) where
-    all-walked : everyFrom (nodesAt b o c limit) n 0 ≡ lawful
-    all-walked = let q : k ≡ n = omega (arith, w .fits .inside) in rw (w .nodes, q)
+  module _ {k start place : ℕ} (w : Walked b s o c k start place) (h : o .n - 1 ≤ k) where
+    all-walked : start ≡ c .n
+    all-walked = let q : k ≡ elementCount (treeOf b) s = omega (arith, w .fits .inside, count) in w .start-at ∙ rw q (all-filled .last)
 
-    pub walked-kept : (s : ℕ) → lawful ≡ true → passed ≡ check s (mixedRules b o c limit n)
-    unfolding mixedRules check
-    walked-kept s l = rw (← every-done (w .fits) h, all-walked, l)
+    references-left : connectivityCheck (treeOf b) s ≡ referenceCheck (treeOf b) s
+    unfolding connectivityCheck typeRules check _⊃_
+    references-left = then-on (referenceCheck (treeOf b) s) (rw (m .mixed, ← types-are, ← every-done (w .fits) h))
 
-    pub walked-broken : (s : ℕ) → lawful ≡ false → rejected (rejection 34 s) ≡ check s (mixedRules b o c limit n)
-    unfolding mixedRules check
-    walked-broken s l = rw (← every-done (w .fits) h, all-walked, l)
+    no-cells : elementType (treeOf b) s ≡ NFACE → ⊥
+    no-cells q = let z : MIXED ≡ NFACE = sym (m .mixed) ∙ q in absurd (omega arith)
 
-  -- where an element stands
-  pub start-before : {k start end : ℕ} {lawful : Bool} → Filled b o c n → Walked b o c limit n k start lawful → k < n → end ≡ startAt b o (k + 1) → start < end
-  start-before {k} f w h e = rw (w .start-at, e, add-one) (f .rise k h)
+    pub walked-kept : place ≡ 0 → passed ≡ connectivityCheck (treeOf b) s
+    walked-kept z =
+        rw references-left
+        (nodes-kept (treeOf b) s (long-is (m .sound) s (m .connectivity)) no-cells (failing-none (rw all-walked at (w .nodes .none z)) (omega arith)) (omega arith))
 
-pub end-inside : {b : List ℕ} {o c : Row} {n k end : ℕ} → Filled b o c n → k < n → end ≡ startAt b o (k + 1) → end ≤ c .n
-end-inside {k = k} f h e = rw (e, add-one) (start-inside f k h)
+    pub walked-broken : (place ≡ 0 → ⊥) → rejected (rejectionAt 34 s place) ≡ connectivityCheck (treeOf b) s
+    walked-broken d =
+        let l : 0 < place = omega (arith, d) in
+        let f = w .nodes .before l in
+        let q : place ≡ place - 1 + 1 = omega arith in
+        let first : FirstFailing (isNode (treeOf b) s) (c .n) (place - 1) = record { before = f .0; fails = λ u. w .nodes .fails l } in
+        rw (references-left, q) (nodes-broken (treeOf b) s (long-is (m .sound) s (m .connectivity)) no-cells first (omega (arith, f .1, all-walked)))

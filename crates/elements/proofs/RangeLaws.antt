@@ -8,19 +8,23 @@ use native.Mathlib.Decide.{decLt}
 use lib.Dec.{eqb, leb, ltb}
 use borrow.Author.Tests.{eq-eqb, ne-eqb, eqb-true, lt-ltb, le-ltb, leb-true, not-true}
 use Rattle.model.specs.Lists.{_⊃_, row, someFrom, countFrom, seekFrom}
-use Rattle.model.specs.Image.{Tree, treeOf, nodeCount, parent, number, I4}
+use Rattle.model.specs.Image.{Tree, treeOf, nodeCount, parent, I4}
 use Rattle.model.specs.Given.{Sound, NodesTo}
 use Rattle.model.specs.Containment.{role, validated, validatedAs, sectionOf, found, Elements, IndexRange}
 use Rattle.model.specs.Values.{typed, shaped, notNegative, typeLawful, valueLawful, rangeOf, connectivityOf, sidsRules}
-use Rattle.model.specs.Validation.{nodeRules, nodeCheckAt}
-use Rattle.model.specs.Elements.{NGON, elementType, firstElement, lastElement, inRange, meets, overlap, overlaps, faceSection, hasFace, faceOf, elementRules}
+use Rattle.model.specs.Rules.{check}
+use Rattle.model.specs.Validation.{sectionCheck, nodeCheckAt}
+use Rattle.model.specs.Elements.{NGON, elementType, firstElement, lastElement, inRange, meets, overlap, overlaps, conformingSection, hasElement, elementOf}
+use Rattle.model.specs.Elements.{faceSection, hasFace, faceOf, elementRules, referenceCheck}
 use Rattle.model.proofs.Logic.{untrue, and-first, and-second}
 use Rattle.model.proofs.Loops.{SeekLeft, seek-start, seek-stop}
 use Rattle.model.proofs.Walks.{some-at, some-same, seek-holds}
-use Rattle.model.proofs.Passed.{check-pass, hold-right, claim}
+use Rattle.model.proofs.Passed.{check-pass, then-first, then-second, claim}
 use Rattle.model.proofs.Conforming.{conforming-inside, conforming-parent, conforming-role}
 use Rattle.model.proofs.Above.{earlier-rule}
+use Rattle.types.specs.Given.{HasNumber}
 use Rattle.types.proofs.Roles.{held-inside}
+use Rattle.types.proofs.StoredNumbers.{whole-four, has-pair, has-less}
 use Rattle.ranges.specs.Tables.{key, meetsAt, meetsSection, inRanges, Gathered}
 use Rattle.ranges.proofs.Gathering.{gathered-room}
 use Rattle.ranges.proofs.Half.{half}
@@ -36,10 +40,46 @@ module _ (t : Tree) (i : ℕ) (e : role t i ≡ Elements) where
   unfolding valueLawful row
   value-section = rw e
 
-  pub ngon-is : (typeLawful t i && valueLawful t i && eqb (elementType t i) NGON)
-      ≡ (typed t i (I4 ∷ []) && shaped t i (2 ∷ []) && notNegative t i 1 && eqb (number t i 0) NGON)
-  unfolding elementType
-  ngon-is = rw (type-section t i e, value-section)
+  pub lawful-is : (typeLawful t i && valueLawful t i) ≡ (typed t i (I4 ∷ []) && shaped t i (2 ∷ []) && notNegative t i 1)
+  lawful-is = rw (type-section t i e, value-section)
+
+-- a section that meets them stores its type
+pub lawful-has : {b : List ℕ} → Sound b → (i : ℕ) → i < nodeCount b → role (treeOf b) i ≡ Elements
+    → (typeLawful (treeOf b) i && valueLawful (treeOf b) i) ≡ true → HasNumber b i 0
+lawful-has {b} s i h e l =
+    let t = treeOf b in
+    let own = sym (type-section t i e) ∙ and-first (typeLawful t i) _ l in
+    has-less b i 1 0 (has-pair b s i h (whole-four t i (and-first (typed t i (I4 ∷ [])) _ own)) (and-second (typed t i (I4 ∷ [])) _ own)) (omega arith)
+
+-- whether its range is there
+module _ (b : List ℕ) (s : ℕ) {r : ℕ} (e : r ≡ rangeOf (treeOf b) s) where
+  pub found-by : r < nodeCount b → found (treeOf b) (rangeOf (treeOf b) s) ≡ true
+  unfolding found treeOf
+  found-by h = rw (← e) (lt-ltb r (nodeCount b) h)
+
+  pub missing-by : nodeCount b ≤ r → found (treeOf b) (rangeOf (treeOf b) s) ≡ false
+  unfolding found treeOf
+  missing-by h = rw (← e) (le-ltb r (nodeCount b) h)
+
+-- a node brings an element to its zone: it is a section there, its own data and range count, and the range holds the element
+module _ (t : Tree) (z e s : ℕ) where
+  pub other-zone : (parent t s ≡ z → ⊥) → false ≡ hasElement t z e s
+  unfolding hasElement conformingSection sectionOf
+  other-zone d = rw (ne-eqb (parent t s) z d)
+
+  pub no-section : parent t s ≡ z → validatedAs t Elements s ≡ false → false ≡ hasElement t z e s
+  unfolding hasElement conformingSection sectionOf
+  no-section p v = rw (p, v, eq-eqb z z refl)
+
+  pub section-decides : parent t s ≡ z → validatedAs t Elements s ≡ true
+      → (typeLawful t s && valueLawful t s && found t (rangeOf t s) && inRange t s e) ≡ hasElement t z e s
+  unfolding hasElement conformingSection sectionOf
+  section-decides p v = rw (p, v, eq-eqb z z refl)
+
+-- the walk over the nodes tells whether there is such a node
+pub element-by : (b : List ℕ) (z e : ℕ) {n : ℕ} {v : Bool} → n ≡ nodeCount b → v ≡ someFrom (hasElement (treeOf b) z e) n 0 → v ≡ elementOf (treeOf b) z e
+unfolding elementOf treeOf
+element-by b z e q h = rw q at h
 
 -- the node of a section's range
 module _ (b : List ℕ) (s : ℕ) where
@@ -209,13 +249,13 @@ module _ {b : List ℕ} {s : ℕ} (g : NodesTo b s) (e : isRanged (treeOf b) fal
 
   -- no earlier node broke rule 28
   rule-held : (r : ℕ) → r < s → validatedAs (treeOf b) Elements r ≡ true → overlaps (treeOf b) r ≡ false
-  unfolding validatedAs nodeCheckAt nodeRules elementRules
+  unfolding validatedAs nodeCheckAt sectionCheck elementRules
   rule-held r h v =
       let t = treeOf b in
       let x = and-first (eqb (role t r) Elements) _ v in
       let y = and-second (eqb (role t r) Elements) _ v in
-      let held = hold-right (sidsRules t r) _ (check-pass r (nodeRules t r) (rw y at (g .before r h))) in
-      not-true (overlaps t r) (claim 28 (elementRules t r) (rw x at held))
+      let section = rw x at (then-second (check r (sidsRules t r)) (sectionCheck t r) (rw y at (g .before r h))) in
+      not-true (overlaps t r) (claim 28 (elementRules t r) (check-pass r (elementRules t r) (then-first _ (referenceCheck t r) section)))
 
   none-before : (r : ℕ) → r < s → overlapAt (treeOf b) r ≡ false
   none-before r h = by-test (isRanged (treeOf b) false r) refl
@@ -235,19 +275,21 @@ module _ {b : List ℕ} {s : ℕ} (g : NodesTo b s) (e : isRanged (treeOf b) fal
       by-test false f = ne-eqb s o (λ q. untrue
           (sym f ∙ rw (← h, ← q) at (seek-holds (overlapAt (treeOf b)) (nodeCount b) 0 (let i = g .inside in rw (← h) (omega arith)))))
 
--- 35: a face section of a zone
+-- a face section of a zone
 face-section-is : (t : Tree) (z s : ℕ) → faceSection t z s ≡ (eqb (parent t s) z && isRanged t true s)
-unfolding faceSection sectionOf isRanged _⊃_
+unfolding faceSection conformingSection sectionOf isRanged _⊃_
 face-section-is t z s = split (eqb (parent t s) z) (validatedAs t Elements s) (typeLawful t s) (valueLawful t s) (eqb (elementType t s) NGON)
     (found t (rangeOf t s))
   where
-    split : (p v a c n f : Bool) → (p && v && a && c && n && f) ≡ (p && (v && (a && c && n) && f))
+    split : (p v a c n f : Bool) → (p && v && a && c && f && n) ≡ (p && (v && (a && c && n) && f))
     split false v a c n f = refl
     split true false a c n f = refl
     split true true false c n f = refl
     split true true true false n f = refl
-    split true true true true false f = refl
-    split true true true true true f = refl
+    split true true true true false false = refl
+    split true true true true false true = refl
+    split true true true true true false = refl
+    split true true true true true true = refl
 
 module _ {b : List ℕ} (g : Sound b) where
   -- it has the faces that its keys hold

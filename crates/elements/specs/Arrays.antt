@@ -1,7 +1,7 @@
--- Rows of numbers in bytes, and what rules 31, 33, 34 and 35 ask of each number of a row.
+-- Rows of numbers in bytes, and what rules 31 and 33 to 37 ask of each number of a row.
 use Prim.Native.Nat.{ℕ, suc, _-_, _≤_, _<_}
 use mathlib.Core.Path.{_≡_}
-use mathlib.Core.Bool.{Bool, true, _&&_, _||_}
+use mathlib.Core.Bool.{Bool, true, false, _&&_, _||_}
 use mathlib.Core.List.{List, [], _∷_}
 use lib.Dec.{eqb, leb}
 use Rattle.model.specs.Lists.{everyFrom}
@@ -50,3 +50,14 @@ pub record Passed (p : ℕ → Bool) (n k j : ℕ) : Type 0 where
   pub from : k ≤ j
   pub to : j ≤ n
   pub each : (i : ℕ) → k ≤ i → i < j → p i ≡ true
+
+-- j is the first of n numbers that does not meet a test; n where each does
+pub record FirstFailing (p : ℕ → Bool) (n j : ℕ) : Type 0 where
+  pub before : Passed p n 0 j
+  pub fails : j < n → p j ≡ false
+
+-- of the numbers from k to m, of n: `place` is 0 where each meets a test, else the place, counted from 1, of the first that does not
+pub record Failing (p : ℕ → Bool) (n k m place : ℕ) : Type 0 where
+  pub none : place ≡ 0 → Passed p n k m
+  pub before : 0 < place → Passed p n k (place - 1) × (place ≤ m)
+  pub fails : 0 < place → p (place - 1) ≡ false

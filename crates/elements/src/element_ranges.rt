@@ -1,4 +1,4 @@
-// The element ranges of sections, of all zones in one pair of tables: rule 28, and the faces of rule 35.
+// The element ranges of sections, of all zones in one pair of tables: rule 28, and the faces of rules 35 to 37; the elements of a zone.
 ghost use mathlib.Core.Path.{_≡_};
 ghost use mathlib.Core.Bool.{false, _&&_};
 ghost use Prim.Native.Nat.{_≤_, _<_, _+_};
@@ -7,10 +7,10 @@ ghost use lib.ListN.{length};
 ghost use Rattle.model.specs.Lists.{_⊃_, seekFrom};
 ghost use Rattle.model.specs.Image.{treeOf, nodeCount, parent};
 ghost use Rattle.model.specs.Given.{Sound};
-ghost use Rattle.model.specs.Containment.{role, Elements};
+ghost use Rattle.model.specs.Containment.{role, found, Elements};
 ghost use Rattle.model.specs.Values.{typeLawful, valueLawful, rangeOf};
-ghost use Rattle.model.specs.Elements.{NGON, elementType};
-ghost use Rattle.index.specs.Index.{Index};
+ghost use Rattle.model.specs.Elements.{NGON, elementType, inRange, hasElement, elementOf};
+ghost use Rattle.index.specs.Index.{Index, kind};
 ghost use Rattle.ranges.specs.Tables.{Gathered};
 ghost use Rattle.elements.specs.Given.{Ranged};
 ghost use Rattle.elements.specs.Ranges.{isRanged, firstKey, lastKey, overlapAt, RangeOf, Faces};
@@ -19,11 +19,10 @@ use labels::roles::ELEMENTS;
 use records::data_types::I4;
 use sids::range_of;
 
-// Does section i meet rules 24 and 25, and have the type NGON_n?
-fn is_ngon(image: &[u8], i: usize) -> bool
+// Does section i meet rules 24 and 25?
+fn is_lawful(image: &[u8], i: usize) -> bool
     requires { ⌜ (Sound (now image) × (i < nodeCount (now image))) × (role (treeOf (now image)) i ≡ Elements) ⌝ }
-    ensures { λ r. ⌜ r ≡ (typeLawful (treeOf (now (image .entry))) i && valueLawful (treeOf (now (image .entry))) i
-        && eqb (elementType (treeOf (now (image .entry))) i) NGON) ⌝ }
+    ensures { λ r. ⌜ r ≡ (typeLawful (treeOf (now (image .entry))) i && valueLawful (treeOf (now (image .entry))) i) ⌝ }
 {
     if !types::typed(image, i, I4) {
         return false;
@@ -31,7 +30,16 @@ fn is_ngon(image: &[u8], i: usize) -> bool
     if !types::shaped(image, i, 1, [2, 0, 0]) {
         return false;
     }
-    if !types::not_negative(image, i, 1) {
+    types::not_negative(image, i, 1)
+}
+
+// Does section i meet rules 24 and 25, and have the type NGON_n?
+fn is_ngon(image: &[u8], i: usize) -> bool
+    requires { ⌜ (Sound (now image) × (i < nodeCount (now image))) × (role (treeOf (now image)) i ≡ Elements) ⌝ }
+    ensures { λ r. ⌜ r ≡ (typeLawful (treeOf (now (image .entry))) i && valueLawful (treeOf (now (image .entry))) i
+        && eqb (elementType (treeOf (now (image .entry))) i) NGON) ⌝ }
+{
+    if !is_lawful(image, i) {
         return false;
     }
     types::whole(image, i, 0) == NGON
@@ -161,4 +169,60 @@ pub fn gather_faces(image: &[u8], index: &[u16], firsts: &mut [u64], reach: &mut
         i += 1;
     }
     n
+}
+
+// Does the range of section i, one of those that count, hold element e?
+fn in_range(image: &[u8], range: usize, i: usize, e: u64) -> bool
+    requires { ⌜ Sound (now image) × ((range ≡ rangeOf (treeOf (now image)) i) × Ranged (now image) i) ⌝ }
+    ensures { λ r. ⌜ r ≡ inRange (treeOf (now (image .entry))) i e ⌝ }
+{
+    let first = types::whole(image, range, 0);
+    let last = types::whole(image, range, 1);
+    first <= e && e <= last
+}
+
+// Does section i, whose own data and range are to count, have element e?
+fn section_has(image: &[u8], index: &[u16], i: usize, e: u64) -> bool
+    requires { ⌜ (Index (now image) (now index) × (i < nodeCount (now image))) × (kind (treeOf (now image)) i ≡ Elements) ⌝ }
+    ensures { λ r. ⌜ r ≡ (typeLawful (treeOf (now (image .entry))) i && valueLawful (treeOf (now (image .entry))) i
+        && found (treeOf (now (image .entry))) (rangeOf (treeOf (now (image .entry))) i) && inRange (treeOf (now (image .entry))) i e) ⌝ }
+{
+    if !is_lawful(image, i) {
+        return false;
+    }
+    let range = range_of(image, index, i);
+    if labels::node_count(image) <= range {
+        return false;
+    }
+    in_range(image, range, i, e)
+}
+
+// Does node i bring element e to zone z?
+fn has_element(image: &[u8], index: &[u16], z: usize, e: u64, i: usize) -> bool
+    requires { ⌜ Index (now image) (now index) × (i < nodeCount (now image)) ⌝ }
+    ensures { λ r. ⌜ r ≡ hasElement (treeOf (now (image .entry))) z e i ⌝ }
+{
+    if records::parent_of(image, i) != z {
+        return false;
+    }
+    if index::kind_of(image, index, i) != ELEMENTS {
+        return false;
+    }
+    section_has(image, index, i, e)
+}
+
+// Is e an element of zone z?
+pub fn is_element(image: &[u8], index: &[u16], z: usize, e: u64) -> bool
+    requires { ⌜ Index (now image) (now index) ⌝ }
+    ensures { λ r. ⌜ r ≡ elementOf (treeOf (now (image .entry))) z e ⌝ }
+{
+    let n = labels::node_count(image);
+    let mut i: usize = 0;
+    while i < n {
+        if has_element(image, index, z, e, i) {
+            return true;
+        }
+        i += 1;
+    }
+    false
 }

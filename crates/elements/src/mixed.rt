@@ -1,7 +1,6 @@
 // Rules 38 and 34 of a MIXED section: each element begins with its own type, and its nodes follow.
 ghost use mathlib.Core.Path.{_≡_};
-ghost use mathlib.Core.Bool.{_&&_};
-ghost use Prim.Native.Nat.{_-_, _≤_, _<_};
+ghost use Prim.Native.Nat.{_+_, _≤_, _<_};
 ghost use Rattle.model.specs.Image.{treeOf};
 ghost use Rattle.model.specs.Values.{connectivityOf};
 ghost use Rattle.model.specs.Elements.{MIXED, elementType};
@@ -9,9 +8,10 @@ ghost use Rattle.model.specs.Rules.{check, passed};
 ghost use Rattle.model.specs.Answers.{stageTells};
 ghost use Rattle.index.specs.Index.{Index};
 ghost use Rattle.rows.specs.Rows.{Numbers};
+ghost use Rattle.elements.specs.Arrays.{isWithin, Failing};
 ghost use Rattle.elements.specs.Given.{RowOf, SectionContext};
-ghost use Rattle.elements.specs.Groups.{shapeRules, referenceRules};
-ghost use Rattle.elements.specs.Mixed.{fitsIn, nodesIn, mixedRules, Filled};
+ghost use Rattle.elements.specs.Groups.{shapeRules, connectivityCheck};
+ghost use Rattle.elements.specs.Mixed.{fitsIn, MixedRows};
 use super::lengths::row_of;
 use super::nodes::is_within;
 use super::nodes::vertex_size;
@@ -31,42 +31,41 @@ fn type_fits(image: &[u8], connectivity: Row, start: usize, end: usize) -> bool
     fits_length(own_type, (end - start) as u64)
 }
 
-// Do all nodes lie in 1 to limit, to the end of the element from `start` on and before `end`? `lawful` tells it of the elements before; where it is false
-// nothing is read.
-fn nodes_within(
+// The place, counted from 1, of the first node outside 1 to limit, to the end of the element from `start` on and before `end`; 0 where there is none.
+// `place` tells it of the elements before; where there is one nothing is read.
+fn place_outside(
     image: &[u8],
     connectivity: Row,
     limit: u64,
-    lawful: bool,
+    place: usize,
     start: usize,
     end: usize,
-) -> bool
+) -> usize
     requires { ⌜ Numbers (now image) (connectivity .at) (connectivity .width) (connectivity .n) ⌝ }
     requires { ⌜ (start < end) × (end ≤ connectivity .n) ⌝ }
-    ensures { λ r. ⌜ r ≡ (lawful && nodesIn (now (image .entry)) connectivity limit start end) ⌝ }
+    ensures { λ r. ⌜ (0 < place → r ≡ place)
+        × (place ≡ 0 → Failing (isWithin (now (image .entry)) (connectivity .at) (connectivity .width) limit) (connectivity .n) (start + 1) end r) ⌝ }
 {
-    if !lawful {
-        return false;
+    if 0 < place {
+        return place;
     }
     let mut k = start + 1;
     while k < end {
         if !is_within(image, connectivity, limit, k) {
-            return false;
+            return k + 1;
         }
         k += 1;
     }
-    true
+    0
 }
 
-// Rules 38 and 34 of a section by its two rows: one pass. A type that does not fit, anywhere, comes before a node outside 1 to limit.
+// Rules 38 and 34 of section s by its two rows: one pass. A type that does not fit, anywhere, comes before a node outside 1 to limit.
 fn rows_stage(image: &[u8], s: usize, offsets: Row, connectivity: Row, limit: u64) -> Stage
-    requires { ⌜ Numbers (now image) (offsets .at) (offsets .width) (offsets .n) ⌝ }
-    requires { ⌜ Numbers (now image) (connectivity .at) (connectivity .width) (connectivity .n) ⌝ }
-    requires { ⌜ Filled (now image) offsets connectivity (offsets .n - 1) ⌝ }
-    ensures { λ r. ⌜ stageTells r ≡ check s (mixedRules (now (image .entry)) offsets connectivity limit (offsets .n - 1)) ⌝ }
+    requires { ⌜ MixedRows (now image) s offsets connectivity limit ⌝ }
+    ensures { λ r. ⌜ stageTells r ≡ connectivityCheck (treeOf (now (image .entry))) s ⌝ }
 {
     let n = offsets.n - 1;
-    let mut lawful = true;
+    let mut place: usize = 0;
     let mut start: usize = 0;
     let mut k: usize = 0;
     while k < n {
@@ -74,14 +73,14 @@ fn rows_stage(image: &[u8], s: usize, offsets: Row, connectivity: Row, limit: u6
         if !type_fits(image, connectivity, start, end) {
             return Stage::Rejected(Rejection::at(38, s as u64));
         }
-        lawful = nodes_within(image, connectivity, limit, lawful, start, end);
+        place = place_outside(image, connectivity, limit, place, start, end);
         start = end;
         k += 1;
     }
-    if lawful {
+    if place == 0 {
         return Stage::Pass;
     }
-    Stage::Rejected(Rejection::at(34, s as u64))
+    Stage::Rejected(Rejection::at_entry(34, s as u64, place as u64))
 }
 
 // Rules 38 and 34 at the MIXED section s, where rules 29 to 33 hold; its connectivity is the row.
@@ -89,7 +88,7 @@ pub fn mixed_stage(image: &[u8], index: &[u16], s: usize, row: Row) -> Stage
     requires { ⌜ Index (now image) (now index) × SectionContext (now image) s ⌝ }
     requires { ⌜ RowOf (now image) (connectivityOf (treeOf (now image)) s) row × (elementType (treeOf (now image)) s ≡ MIXED) ⌝ }
     requires { ⌜ check s (shapeRules (treeOf (now image)) s) ≡ passed ⌝ }
-    ensures { λ r. ⌜ stageTells r ≡ check s (referenceRules (treeOf (now (image .entry))) s) ⌝ }
+    ensures { λ r. ⌜ stageTells r ≡ connectivityCheck (treeOf (now (image .entry))) s ⌝ }
 {
     let offsets = row_of(image, offsets_of(image, index, s));
     let vertices = vertex_size(image, s);

@@ -1,24 +1,24 @@
-// Rule 35: the face references of a section; and rules 38, 34 and 35 together.
+// Rules 35 to 37: the face references of a section; and rules 38 and 34 to 37 together.
 ghost use mathlib.Core.Path.{_≡_};
 ghost use mathlib.Core.Bool.{true};
 ghost use Prim.Native.Nat.{_+_, _≤_, _<_};
 ghost use lib.ListN.{length};
-ghost use Rattle.model.specs.Lists.{everyFrom};
 ghost use Rattle.model.specs.Image.{treeOf, nodeCount};
 ghost use Rattle.model.specs.Given.{Sound};
 ghost use Rattle.model.specs.Values.{connectivityOf};
-ghost use Rattle.model.specs.Elements.{elementType, allFaces};
+ghost use Rattle.model.specs.Elements.{NFACE, elementType, isFace, referenceCheck};
 ghost use Rattle.model.specs.Rules.{check, passed};
 ghost use Rattle.model.specs.Answers.{stageTells};
 ghost use Rattle.index.specs.Index.{Index};
 ghost use Rattle.rows.specs.Rows.{Numbers};
 ghost use Rattle.ranges.specs.SearchTree.{Built};
-ghost use Rattle.elements.specs.Arrays.{isKnown, knownAt, Passed};
+ghost use Rattle.elements.specs.Arrays.{isKnown, knownAt, Passed, FirstFailing};
 ghost use Rattle.elements.specs.Given.{RowOf, SectionContext, refersFace};
 ghost use Rattle.elements.specs.Ranges.{Faces};
-ghost use Rattle.elements.specs.Groups.{shapeRules, referenceRules};
+ghost use Rattle.elements.specs.Groups.{shapeRules, connectivityCheck, faceRule};
+use super::element_ranges::is_element;
 use super::mixed::mixed_stage;
-use super::nodes::nodes_lawful;
+use super::nodes::node_stage;
 use element_types::MIXED;
 use element_types::NFACE;
 use model::Rejection;
@@ -185,9 +185,9 @@ fn guessed_to(
     j
 }
 
-// Rule 35: does every number of a row refer to a face of zone z? The numbers around the last two that were looked up are known; where numbers jump,
-// their entries are guessed.
-fn all_refer(
+// The first number of a row that refers to no face of zone z; how many there are where each does. The numbers around the last two that were looked up are
+// known; where numbers jump, their entries are guessed.
+fn first_no_face(
     image: &[u8],
     z: usize,
     row: Row,
@@ -196,11 +196,11 @@ fn all_refer(
     count: usize,
     levels: &[u32],
     tree: SearchTree,
-) -> bool
+) -> usize
     requires { ⌜ Sound (now image) × (z < nodeCount (now image)) ⌝ }
     requires { ⌜ Numbers (now image) (row .at) (row .width) (row .n) × Faces (treeOf (now image)) (now firsts) (now reach) count ⌝ }
     requires { ⌜ Built tree × (2048 ≤ length (now levels)) ⌝ }
-    ensures { λ r. ⌜ r ≡ everyFrom (refersFace (treeOf (now (image .entry))) z (now (image .entry)) (row .at) (row .width)) (row .n) 0 ⌝ }
+    ensures { λ r. ⌜ FirstFailing (refersFace (treeOf (now (image .entry))) z (now (image .entry)) (row .at) (row .width)) (row .n) r ⌝ }
 {
     let n = row.n;
     let mut last = Interval { low: 0, size: 0 };
@@ -208,22 +208,22 @@ fn all_refer(
     while k < n {
         let f = rows::magnitude_at(image, row, k);
         if types::MAX_NUMBER < f {
-            return false;
+            return k;
         }
         let next = ranges::interval_around(firsts, reach, count, z, f);
         if next.size == 0 {
-            return false;
+            return k;
         }
         let j = first_outside(image, row, k + 1, next, last);
         let end = jumps_to(k, j, n);
         k = guessed_to(image, z, row, j, end, firsts, reach, count, levels, tree);
         last = next;
     }
-    true
+    k
 }
 
-// Rule 35: every reference of section s, those of the row, is a face of its zone. A tree is made where it is worth the work.
-fn faces_lawful(
+// The first reference of section s, one of those of the row, that is no face of its zone; how many there are where each is. A tree is made where it is worth the work.
+fn first_broken(
     image: &[u8],
     s: usize,
     row: Row,
@@ -231,22 +231,61 @@ fn faces_lawful(
     reach: &[u64],
     faces: usize,
     levels: &mut [u32],
-) -> bool
+) -> usize
     requires { ⌜ Sound (now image) × SectionContext (now image) s ⌝ }
     requires { ⌜ RowOf (now image) (connectivityOf (treeOf (now image)) s) row ⌝ }
     requires { ⌜ Faces (treeOf (now image)) (now firsts) (now reach) faces × (2048 ≤ length (now levels)) ⌝ }
-    ensures { λ r. ⌜ r ≡ allFaces (treeOf (now (image .entry))) s ⌝ }
+    ensures { λ r. ⌜ FirstFailing (isFace (treeOf (now (image .entry))) s) (row .n) r ⌝ }
 {
     let z = records::parent_of(image, s);
     if row.n < faces / 4 {
         let tree = SearchTree { from: 0, lowest: 0 };
-        return all_refer(image, z, row, firsts, reach, faces, levels, tree);
+        return first_no_face(image, z, row, firsts, reach, faces, levels, tree);
     }
     let tree = search_tree::build(firsts, faces, z, levels);
-    all_refer(image, z, row, firsts, reach, faces, levels, tree)
+    first_no_face(image, z, row, firsts, reach, faces, levels, tree)
 }
 
-// Rules 38, 34 and 35 at section s, where rules 29 to 33 hold; its connectivity is the row.
+// The rule that a reference to f breaks, which is no face of zone z: 35 for zero, 36 for no element of the zone, 37 for one.
+fn face_rule(image: &[u8], index: &[u16], z: usize, f: u64) -> u64
+    requires { ⌜ Index (now image) (now index) ⌝ }
+    ensures { λ r. ⌜ r ≡ faceRule (treeOf (now (image .entry))) z f ⌝ }
+{
+    if f == 0 {
+        return 35;
+    }
+    if is_element(image, index, z, f) {
+        return 37;
+    }
+    36
+}
+
+// Rules 35 to 37 at section s of cells; its references are the row. The first that is no face decides.
+fn face_stage(
+    image: &[u8],
+    index: &[u16],
+    s: usize,
+    row: Row,
+    firsts: &[u64],
+    reach: &[u64],
+    faces: usize,
+    levels: &mut [u32],
+) -> Stage
+    requires { ⌜ Index (now image) (now index) × SectionContext (now image) s ⌝ }
+    requires { ⌜ RowOf (now image) (connectivityOf (treeOf (now image)) s) row × (elementType (treeOf (now image)) s ≡ NFACE) ⌝ }
+    requires { ⌜ Faces (treeOf (now image)) (now firsts) (now reach) faces × (2048 ≤ length (now levels)) ⌝ }
+    ensures { λ r. ⌜ stageTells r ≡ referenceCheck (treeOf (now (image .entry))) s ⌝ }
+{
+    let k = first_broken(image, s, row, firsts, reach, faces, levels);
+    if row.n <= k {
+        return Stage::Pass;
+    }
+    let f = rows::magnitude_at(image, row, k);
+    let rule = face_rule(image, index, records::parent_of(image, s), f);
+    Stage::Rejected(Rejection::at_entry(rule, s as u64, k as u64 + 1))
+}
+
+// Rules 38 and 34 to 37 at section s, where rules 29 to 33 hold; its connectivity is the row.
 pub fn reference_stage(
     image: &[u8],
     index: &[u16],
@@ -262,19 +301,13 @@ pub fn reference_stage(
     requires { ⌜ RowOf (now image) (connectivityOf (treeOf (now image)) s) row × («element_type» ≡ elementType (treeOf (now image)) s) ⌝ }
     requires { ⌜ Faces (treeOf (now image)) (now firsts) (now reach) faces × (2048 ≤ length (now levels)) ⌝ }
     requires { ⌜ check s (shapeRules (treeOf (now image)) s) ≡ passed ⌝ }
-    ensures { λ r. ⌜ stageTells r ≡ check s (referenceRules (treeOf (now (image .entry))) s) ⌝ }
+    ensures { λ r. ⌜ stageTells r ≡ connectivityCheck (treeOf (now (image .entry))) s ⌝ }
 {
     if element_type == MIXED {
         return mixed_stage(image, index, s, row);
     }
     if element_type == NFACE {
-        if faces_lawful(image, s, row, firsts, reach, faces, levels) {
-            return Stage::Pass;
-        }
-        return Stage::Rejected(Rejection::at(35, s as u64));
+        return face_stage(image, index, s, row, firsts, reach, faces, levels);
     }
-    if nodes_lawful(image, s, row) {
-        return Stage::Pass;
-    }
-    Stage::Rejected(Rejection::at(34, s as u64))
+    node_stage(image, s, row)
 }

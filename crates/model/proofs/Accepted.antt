@@ -11,7 +11,7 @@ use Rattle.model.specs.Header.{headerCheck, headerRules}
 use Rattle.model.specs.Records.{recordCheckAt, recordRules, recordCheck, trailingCheck, tableCheck, nothingTrails}
 use Rattle.model.specs.Containment.{role, Elements, validated}
 use Rattle.model.specs.Values.{sidsRules}
-use Rattle.model.specs.Elements.{connectivityLength, elementRules, entryRules, entryCheckAt, entryCheck}
+use Rattle.model.specs.Elements.{connectivityLength, elementRules, referenceRules, referenceCheckAt, referenceCheck}
 use Rattle.model.specs.Validation.{Counts, validation, imageCheck, nodeCheck, nodeCheckAt, sectionCheck}
 use Rattle.model.proofs.Passed.{Hold, Claim, claim, check-pass, then-first, then-second, at-entry-pass, gives-check, checkFrom-at}
 
@@ -59,20 +59,20 @@ module _ (b : List ℕ) (yes : imageCheck b ≡ passed) where
 
     -- at a section
     module _ (s : eqb (role (treeOf b) i) Elements ≡ true) where
-      section-passed : (check i (elementRules (treeOf b) i) then entryCheck (treeOf b) i) ≡ passed
+      section-passed : (check i (elementRules (treeOf b) i) then referenceCheck (treeOf b) i) ≡ passed
       unfolding sectionCheck
       section-passed = rw s at (then-second (check i (sidsRules (treeOf b) i)) (sectionCheck (treeOf b) i) node-passed)
 
       section-holds : Hold (elementRules (treeOf b) i)
-      section-holds = check-pass i (elementRules (treeOf b) i) (then-first _ (entryCheck (treeOf b) i) section-passed)
+      section-holds = check-pass i (elementRules (treeOf b) i) (then-first _ (referenceCheck (treeOf b) i) section-passed)
 
-      entry-holds : (k : ℕ) → k < connectivityLength (treeOf b) i → Hold (entryRules (treeOf b) i k)
-      unfolding entryCheck entryCheckAt
+      entry-holds : (k : ℕ) → k < connectivityLength (treeOf b) i → Hold (referenceRules (treeOf b) i k)
+      unfolding referenceCheck referenceCheckAt
       entry-holds k l =
-          check-pass i (entryRules (treeOf b) i k)
+          check-pass i (referenceRules (treeOf b) i k)
           (at-entry-pass _ (suc k)
-          (checkFrom-at (entryCheckAt (treeOf b) i) (connectivityLength (treeOf b) i) 0 k
-          (then-second (check i (elementRules (treeOf b) i)) (entryCheck (treeOf b) i) section-passed)
+          (checkFrom-at (referenceCheckAt (treeOf b) i) (connectivityLength (treeOf b) i) 0 k
+          (then-second (check i (elementRules (treeOf b) i)) (referenceCheck (treeOf b) i) section-passed)
           (omega arith) (omega arith)))
 
   -- rules 20 to 26 at a validated node
@@ -85,8 +85,8 @@ module _ (b : List ℕ) (yes : imageCheck b ≡ passed) where
 
   -- rules 34 to 37 at an entry of its connectivity
   pub entry-rule : (n i : ℕ) → i < nodeCount b → validated (treeOf b) i ≡ true → eqb (role (treeOf b) i) Elements ≡ true
-      → (k : ℕ) → k < connectivityLength (treeOf b) i → Claim n (entryRules (treeOf b) i k)
-  entry-rule n i h v s k l = claim n (entryRules (treeOf b) i k) (entry-holds i h v s k l)
+      → (k : ℕ) → k < connectivityLength (treeOf b) i → Claim n (referenceRules (treeOf b) i k)
+  entry-rule n i h v s k l = claim n (referenceRules (treeOf b) i k) (entry-holds i h v s k l)
 
 -- the answer of validation is an acceptance where all its checks pass
 pub accepted : (b : List ℕ) {c : Counts} → validation b ≡ answer c → imageCheck b ≡ passed

@@ -19,11 +19,12 @@ use Rattle.model.specs.Corner.{cornerAnswer}
 use Rattle.model.specs.ElementCorners.{elementCornersMemory}
 use Rattle.model.specs.OwnType.{ownTypeAnswer}
 use Rattle.model.specs.FaceUsage.{usageAnswer, usageMemory}
+use Rattle.model.specs.Exports.{validationWords, usageWords}
 use Rattle.model.specs.Build.{minus, Plan, plan, image}
 use Rattle.model.specs.Computed.{computed}
 use Rattle.model.proofs.Rule22.{onceOnly, sameRole, second}
 
-infix 10 _refuses_at_ _refuses_at_place_ _reports_ _accepts_ _starts_ _sizes_is_ _uses_leaving_ _repeats_ _compares_ _reads_from_is_ _types_is_ _hands_is_ _seconds_is_
+infix 10 _refuses_at_ _refuses_at_place_ _reports_ _tells_also-of-faces_ _accepts_ _starts_ _sizes_is_ _uses_leaving_ _repeats_ _compares_ _reads_from_is_ _types_is_ _hands_is_ _seconds_is_
 -- the root that real files have
 abbrev rootPlan : Plan
 rootPlan = plan "HDF5 MotherNode" "Root Node of HDF5 File" "MT" [] 4294967295 []
@@ -214,7 +215,7 @@ cellFirst references others =
     ∷ integers "ElementConnectivity" "DataArray_t" fourFaces 8
     ∷ others)
 
--- in 4 bytes, or in 8 bytes the last of them
+-- references in 4 bytes; faces 1 to 3 and another one in 8 bytes
 abbrev refer : List ℕ → Plan
 refer faces = integers "ElementConnectivity" "DataArray_t" faces 4
 
@@ -246,6 +247,8 @@ pub data Case : Type 0 where
   _refuses_at_place_ : List ℕ → ℕ → ℕ → ℕ → Case
   -- calls that give validation's refusal, entry and all: sections, face usage, sizes
   _reports_ : List ℕ → Rejection → Case
+  -- the words of the exports of validation and of the face usage of zone 3
+  _tells_also-of-faces_ : List ℕ → List ℕ → List ℕ → Case
   -- the face usage of zone 3, in a buffer of six bytes
   _uses_leaving_ : List ℕ → ℕ → List ℕ → Case
   -- the section and the element of 45, the buffer's first four bytes then 0
@@ -274,6 +277,7 @@ Right ((b accepts c) ∷ cs) = (validation b ≡ answer c) × Right cs
 Right ((b refuses r at n) ∷ cs) = (validation b ≡ rejected (rejection r n)) × Right cs
 Right ((b refuses r at n place k) ∷ cs) = (validation b ≡ rejected (rejectionAt r n k)) × Right cs
 Right ((b reports r) ∷ cs) = ((sectionsAnswer b 3 9 ≡ rejected r) × (usageAnswer b 3 6 ≡ rejected r) × (dataSizeAnswer b 6 ≡ rejected r)) × Right cs
+Right ((b tells ws also-of-faces vs) ∷ cs) = ((validationWords (validation b) ≡ ws) × (usageWords (usageAnswer b 3 6) ≡ vs)) × Right cs
 Right ((b uses f leaving bytes) ∷ cs) = ((usageAnswer b 3 6 ≡ answer f) × (usageMemory b 3 lent ≡ bytes)) × Right cs
 Right ((b repeats a) ∷ cs) = ((usageAnswer b 3 6 ≡ a) × (usageMemory b 3 lent ≡ (0 ∷ 0 ∷ 0 ∷ 0 ∷ 9 ∷ 9 ∷ []))) × Right cs
 Right ((b sizes i is s) ∷ cs) = (dataSizeAnswer b i ≡ answer s) × Right cs
@@ -478,10 +482,15 @@ cases =
     ∷ (withCells (5 ∷ 6 ∷ []) (0 ∷ 4 ∷ 8 ∷ []) (1 ∷ 2 ∷ 3 ∷ 4 ∷ minus 1 ∷ minus 2 ∷ minus 3 ∷ 6 ∷ []) refuses 37 at 13 place 8)
     ∷ (withCells (5 ∷ 6 ∷ []) (0 ∷ 4 ∷ 8 ∷ []) (1 ∷ 2 ∷ 3 ∷ 4 ∷ minus 1 ∷ minus 2 ∷ minus 3 ∷ 7 ∷ []) refuses 36 at 13 place 8)
     -- other calls give the entry too; other refusals have none
-    ∷ (withFaces (1 ∷ 5 ∷ 6 ∷ 0 ∷ []) reports rejectionAt 37 13 2)
-    ∷ (withOffsets (0 ∷ 3 ∷ 6 ∷ 6 ∷ 12 ∷ []) reports rejection 31 9)
-    -- nodes: the first of two; in a MIXED section the place counts the type numbers
+    ∷ (withFaces (1 ∷ 5 ∷ 6 ∷ 0 ∷ []) reports record { rule = 37; node = 13; entry = 2; element = 0 })
+    ∷ (withOffsets (0 ∷ 3 ∷ 6 ∷ 6 ∷ 12 ∷ []) reports record { rule = 31; node = 9; entry = 0; element = 0 })
+    ∷ (withFaces (1 ∷ 2 ∷ 3 ∷ 3 ∷ []) repeats rejected (record { rule = 45; node = 13; entry = 0; element = 5 }))
+    -- the words of the exports: node, entry, then the counts of validation; node, entry, element and count of face usage
+    ∷ (withFaces (1 ∷ 5 ∷ 6 ∷ 0 ∷ []) tells (13 ∷ 2 ∷ 0 ∷ 0 ∷ 0 ∷ 0 ∷ []) also-of-faces (13 ∷ 2 ∷ 0 ∷ 0 ∷ []))
+    ∷ (withFaces (1 ∷ 2 ∷ 3 ∷ 3 ∷ []) tells (0 ∷ 0 ∷ 17 ∷ 0 ∷ 1 ∷ 2 ∷ []) also-of-faces (13 ∷ 0 ∷ 5 ∷ 0 ∷ []))
+    -- nodes: the first of two; in a section of triangles; in a MIXED section the place counts the type numbers
     ∷ (tetrahedron (1 ∷ 4 ∷ []) (0 ∷ 3 ∷ 6 ∷ 9 ∷ 12 ∷ []) (1 ∷ 3 ∷ 2 ∷ 1 ∷ 5 ∷ 4 ∷ 2 ∷ 3 ∷ 0 ∷ 3 ∷ 1 ∷ 4 ∷ []) (1 ∷ 2 ∷ 3 ∷ 4 ∷ []) refuses 34 at 9 place 5)
+    ∷ (twoOf 5 (0 ∷ 3 ∷ 6 ∷ []) (1 ∷ 2 ∷ 3 ∷ 4 ∷ 11 ∷ 6 ∷ []) refuses 34 at 4 place 5)
     ∷ (twoElements (0 ∷ 5 ∷ 9 ∷ []) (10 ∷ 1 ∷ 2 ∷ 3 ∷ 4 ∷ 5 ∷ 11 ∷ 0 ∷ 3 ∷ []) refuses 34 at 4 place 7)
     ∷ (twoElements (0 ∷ 5 ∷ 9 ∷ []) (10 ∷ 11 ∷ 2 ∷ 3 ∷ 4 ∷ 5 ∷ 11 ∷ 2 ∷ 3 ∷ []) refuses 34 at 4 place 2)
     -- faces after their cells
@@ -495,14 +504,17 @@ cases =
     ∷ (toOther (20 ∷ 0 ∷ []) (6 ∷ 6 ∷ []) (5 ∷ 1 ∷ 2 ∷ 3 ∷ []) refuses 37 at 4 place 4)
     ∷ (toOther (23 ∷ 0 ∷ []) (6 ∷ 6 ∷ []) (1 ∷ 2 ∷ 3 ∷ 4 ∷ []) refuses 37 at 4 place 4)
     ∷ (toOther (24 ∷ 0 ∷ []) (6 ∷ 6 ∷ []) (1 ∷ 2 ∷ 3 ∷ []) refuses 37 at 4 place 4)
-    -- faces; faces of a section whose own data break 24, or 25, or whose range does not conform: no element
+    -- faces of a later section; where its own data break 24, or 25, or its range does not conform: no elements
     ∷ (toOther (22 ∷ 0 ∷ []) (6 ∷ 6 ∷ []) (1 ∷ 2 ∷ 3 ∷ []) accepts record { validated = 16; skipped = 0; zones = 1; sections = 3 })
     ∷ (toOther (22 ∷ []) (6 ∷ 6 ∷ []) (1 ∷ 2 ∷ 3 ∷ []) refuses 36 at 4 place 4)
     ∷ (toOther (22 ∷ minus 1 ∷ []) (6 ∷ 6 ∷ []) (1 ∷ 2 ∷ 3 ∷ []) refuses 36 at 4 place 4)
-    ∷ (toOther (5 ∷ 0 ∷ []) (6 ∷ 5 ∷ []) (1 ∷ 2 ∷ 3 ∷ []) refuses 36 at 4 place 4)
+    ∷ (toOther (22 ∷ 0 ∷ []) (0 ∷ 6 ∷ []) (1 ∷ 2 ∷ 3 ∷ []) refuses 36 at 4 place 4)
     -- ranges that meet: an element of a face section is a face, and 28 comes later
     ∷ (toOther (22 ∷ 0 ∷ []) (3 ∷ 6 ∷ []) (1 ∷ 2 ∷ 3 ∷ []) refuses 28 at 12)
     ∷ (cellFirst (refer (1 ∷ 2 ∷ 3 ∷ 4 ∷ [])) (another 12 2 (5 ∷ 0 ∷ []) (4 ∷ 4 ∷ []) (1 ∷ 2 ∷ 3 ∷ [])) refuses 28 at 12)
+    ∷ (cellFirst (refer (1 ∷ 2 ∷ 3 ∷ 5 ∷ [])) (another 12 2 (22 ∷ 0 ∷ []) (5 ∷ 5 ∷ []) (1 ∷ 2 ∷ 3 ∷ [])) refuses 28 at 12)
+    -- an element of an earlier section
+    ∷ (cellFirst (refer (1 ∷ 2 ∷ 3 ∷ 4 ∷ [])) (another 12 2 (23 ∷ 0 ∷ []) (6 ∷ 6 ∷ []) (1 ∷ 2 ∷ 3 ∷ 5 ∷ [])) refuses 37 at 12 place 4)
     -- elements of another zone
     ∷ (cellFirst (refer (1 ∷ 2 ∷ 3 ∷ 6 ∷ []))
     (plan "Zone2" "Zone_t" "I4" (1 ∷ 3 ∷ []) 1 (allBytes 4 (4 ∷ 1 ∷ 0 ∷ []))
@@ -532,6 +544,7 @@ all-right =
     also refl also refl also refl also refl
     also refl also refl also refl also refl also refl also refl also refl also refl also refl also refl
     also refl also refl also refl also refl also refl also refl also refl also refl also refl
-    also refl also refl also refl also refl also refl also refl also refl also (refl, refl, refl) also (refl, refl, refl)
     also refl also refl also refl also refl also refl also refl also refl
-    also refl also refl also refl also refl also refl also refl also refl also refl also refl also refl also refl also tt
+    also (refl, refl, refl) also (refl, refl, refl) also (refl, refl) also (refl, refl) also (refl, refl)
+    also refl also refl also refl also refl also refl also refl also refl also refl
+    also refl also refl also refl also refl also refl also refl also refl also refl also refl also refl also refl also refl also refl also tt

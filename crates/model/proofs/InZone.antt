@@ -16,7 +16,7 @@ use Rattle.model.specs.Containment.{role, Elements, IndexRange, DataArra
 use Rattle.model.specs.Values.{sidsRules, size, typed, elementArray, complete, valueLawful, conforming, rangeOf, offsetsOf, connectivityOf}
 use Rattle.model.specs.Values.{rangeValue, indexRangeValue}
 use Rattle.model.specs.Elements.{nodesPer, hasOffsets, taken, elementType, firstElement, lastElement, elementCount, startOffset, connectivityLength}
-use Rattle.model.specs.Elements.{elementStart, elementSize, elementRules, entryRules, lengthsFit, startsAtZero, allRise, endsAtLength}
+use Rattle.model.specs.Elements.{elementStart, elementSize, elementRules, referenceRules, lengthsFit, startsAtZero, allRise, endsAtLength}
 use Rattle.model.specs.Elements.{MIXED, startOf, cornerPlace, typeFits, layoutOf, allTypesFit, isTypeNumber}
 use Rattle.model.specs.Validation.{imageCheck}
 use Rattle.model.proofs.Logic.{untrue, and-first, and-second, or-left, or-right, or-cases, when, implied}
@@ -64,7 +64,7 @@ module _ {b : List ℕ} {z s : ℕ} (a : InZone b z s) where
   pub section-rule : (n : ℕ) → Claim n (elementRules (treeOf b) s)
   section-rule n = element-rule b (a .accepted) n s (a .listed) (parts .is-validated) (parts .elements)
 
-  pub section-entry : (n k : ℕ) → k < connectivityLength (treeOf b) s → Claim n (entryRules (treeOf b) s k)
+  pub section-entry : (n k : ℕ) → k < connectivityLength (treeOf b) s → Claim n (referenceRules (treeOf b) s k)
   section-entry n k h = entry-rule b (a .accepted) n s (a .listed) (parts .is-validated) (parts .elements) k h
 
   -- 23: ElementRange and ElementConnectivity are there

@@ -13,7 +13,7 @@ use Rattle.model.specs.Header.{headerRules, headerCheck}
 use Rattle.model.specs.Records.{recordRules, recordCheckAt, recordCheck, trailingCheck, tableCheck}
 use Rattle.model.specs.Containment.{role, Elements, validated}
 use Rattle.model.specs.Values.{sidsRules}
-use Rattle.model.specs.Elements.{elementRules, entryRules, entryCheckAt, entryCheck}
+use Rattle.model.specs.Elements.{elementRules, referenceRules, referenceCheckAt, referenceCheck}
 use Rattle.model.specs.Validation.{sectionCheck, nodeCheckAt, nodeCheck, imageCheck, validation}
 use Rattle.model.specs.NameBytes.{nameBytesAnswer}
 use Rattle.model.specs.Path.{pathCheck, pathAnswer}
@@ -78,11 +78,11 @@ of-table b =
     (of-check (treeOf b .count) _ refl))
 
 of-section : (t : Tree) (i : ℕ) → Numbered (sectionCheck t i)
-unfolding sectionCheck elementRules entryCheck entryCheckAt entryRules fromOne
+unfolding sectionCheck elementRules referenceCheck referenceCheckAt referenceRules fromOne
 of-section t i =
     of-cond _ passed (eqb (role t i) Elements)
-    (of-then (check i (elementRules t i)) (entryCheck t i) (of-check i (elementRules t i) refl)
-    (of-walk (entryCheckAt t i) (λ k. of-place _ (suc k) (of-check i (entryRules t i k) refl)) _ 0)) tt
+    (of-then (check i (elementRules t i)) (referenceCheck t i) (of-check i (elementRules t i) refl)
+    (of-walk (referenceCheckAt t i) (λ k. of-place _ (suc k) (of-check i (referenceRules t i k) refl)) _ 0)) tt
 
 of-node : (t : Tree) (i : ℕ) → Numbered (nodeCheckAt t i)
 unfolding nodeCheckAt sidsRules fromOne

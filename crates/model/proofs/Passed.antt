@@ -70,6 +70,12 @@ module _ {A : Type 0} where
   unfolding _then_
   then-off s e = rw e
 
+  -- checks one after the other
+  pub then-then : (c d : Check) (s : Answer A) → ((c then d) then s) ≡ (c then (d then s))
+  unfolding _then_
+  then-then (rejected r) d s = refl
+  then-then (answer x) d s = refl
+
   pub gives-check : (c : Check) (v : A) {a : A} → (c gives v) ≡ answer a → c ≡ passed
   unfolding _gives_
   gives-check c v e = then-first c (answer v) e

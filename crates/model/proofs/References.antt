@@ -15,7 +15,7 @@ use Rattle.model.specs.Containment.{role, found, Zone, Elements, isZone,
 use Rattle.model.specs.Values.{sidsRules, reads, structured, unstructured, zoneTypeOf, indexDimension, vertexSize, cellSize, unstructuredSizes, zoneValue}
 use Rattle.model.specs.Values.{typeLawful, valueLawful, placed, rangeOf, connectivityOf}
 use Rattle.model.specs.Elements.{NGON, NFACE, elementType, firstElement, lastElement, inRange, meets, overlap, overlaps, reference, connectivityLength}
-use Rattle.model.specs.Elements.{isTypeNumber, isNode, conformingSection, faceSection, hasFace, faceOf, faceNumber, isFace, elementRules, entryRules}
+use Rattle.model.specs.Elements.{isTypeNumber, isNode, conformingSection, faceSection, hasFace, faceOf, faceNumber, isFace, elementRules, referenceRules}
 use Rattle.model.specs.Validation.{imageCheck}
 use Rattle.model.proofs.Logic.{same-is, untrue, and-first, and-second, and-both, or-cases, when, neither}
 use Rattle.model.proofs.Walks.{every-at, some-by, some-at}
@@ -23,7 +23,7 @@ use Rattle.model.proofs.Accepted.{sids-rule}
 use Rattle.model.proofs.Sections.{not-root}
 use Rattle.model.proofs.TwosComplement.{half-wide, signed-is, magnitude-is}
 use Rattle.model.proofs.InZone.{InZone, parts, role-is, section-rule, section-entry, connectivity, range}
-use Rattle.model.proofs.EntryChecks.{rules-face}
+use Rattle.model.proofs.ReferenceChecks.{rules-face}
 
 -- an element number in a section's range
 pub record InRange (t : Tree) (s f : ℕ) : Type 0 where
@@ -75,7 +75,7 @@ module _ {b : List ℕ} {z s : ℕ} (a : InZone b z s) where
   -- 34
   pub node-inside : (elementType (treeOf b) s ≡ NFACE → ⊥) → (i : ℕ) → i < connectivityLength (treeOf b) s → isTypeNumber (treeOf b) s i ≡ false
       → (1 ≤ reference (treeOf b) s i) × (reference (treeOf b) s i ≤ vertexSize (treeOf b) z 0)
-  unfolding entryRules isNode
+  unfolding referenceRules isNode
   node-inside n i h y =
       let x = reference (treeOf b) s i in
       let r = when (not (eqb (elementType (treeOf b) s) NFACE)) (isNode (treeOf b) s i) (section-entry a 34 i h) (rw (ne-eqb (elementType (treeOf b) s) NFACE n)) in
@@ -130,7 +130,7 @@ found-face {b} ok z f j l e =
 -- 35, 36, 37
 pub face-inside : {b : List ℕ} {z s : ℕ} → InZone b z s → elementType (treeOf b) s ≡ NFACE → (i : ℕ) → i < connectivityLength (treeOf b) s
     → HasFace b z (faceNumber (treeOf b) s i)
-unfolding entryRules isFace faceOf treeOf
+unfolding referenceRules isFace faceOf treeOf
 face-inside {b} {z} {s} a e i h =
     let t = treeOf b in
     let f = faceNumber t s i in

@@ -18,7 +18,7 @@ use Rattle.model.specs.Image.{Tree, treeOf, nodeCount, parent, width}
 use Rattle.model.specs.Containment.{sectionOf}
 use Rattle.model.specs.Values.{connectivityOf}
 use Rattle.model.specs.Elements.{NFACE, elementType, connectivityLength, firstElement, lastElement, elementCount, inRange, faceSection, hasFace, faceOf}
-use Rattle.model.specs.Elements.{faceNumber, isFace, reference, entryRules}
+use Rattle.model.specs.Elements.{faceNumber, isFace, reference, referenceRules}
 use Rattle.model.specs.FaceUsage.{facesIn, faceCount, facePlace, usePlace, useSign, unused, elementHolding, useEntry, useEntries, usesIn, useNodes, usage}
 use Rattle.model.specs.FaceUsage.{positiveUses, negativeUses, cellEntries}
 use Rattle.model.specs.Validation.{imageCheck}
@@ -26,7 +26,7 @@ use Rattle.model.proofs.Logic.{untrue, and-first, and-second, when}
 use Rattle.model.proofs.Walks.{every-at, Some, some-at, seek-holds, seek-before, sum-part}
 use Rattle.model.proofs.Passed.{Claim, refused, into-value}
 use Rattle.model.proofs.Accepted.{entry-rule}
-use Rattle.model.proofs.EntryChecks.{rules-face}
+use Rattle.model.proofs.ReferenceChecks.{rules-face}
 use Rattle.model.proofs.Conforming.{IsSection, section-is}
 
 -- a face of the zone has a place below F
@@ -164,12 +164,12 @@ zeros (suc n) zero = omega arith
 zeros (suc n) (suc i) = zeros n i
 
 module _ (b : List ℕ) (yes : imageCheck b ≡ passed) (z : ℕ) where
-  rule : (s k : ℕ) → s < nodeCount b → k < connectivityLength (treeOf b) s → IsSection (treeOf b) z s → (n : ℕ) → Claim n (entryRules (treeOf b) s k)
+  rule : (s k : ℕ) → s < nodeCount b → k < connectivityLength (treeOf b) s → IsSection (treeOf b) z s → (n : ℕ) → Claim n (referenceRules (treeOf b) s k)
   rule s k l h i n = entry-rule b yes n s l (i .is-validated) (i .elements) k h
 
   -- an entry of a type 23 section means a face of the zone
   entry-below : (s k : ℕ) → s < nodeCount b → k < usesIn (treeOf b) z s → usePlace (treeOf b) s k < faceCount (treeOf b) z
-  unfolding usesIn usePlace entryRules isFace
+  unfolding usesIn usePlace referenceRules isFace
   entry-below s k l h = by-test (sectionOf t z s && eqb (elementType t s) NFACE) refl h
     where
       t : Tree

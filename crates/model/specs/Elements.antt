@@ -185,7 +185,7 @@ hasFace t z f s = faceSection t z s && inRange t s f
 unfoldable pub faceOf : Tree → ℕ → ℕ → Bool
 faceOf t z f = someFrom (hasFace t z f) (t .count) 0
 
--- the face that entry k of a type 23 section means; a negative reference means the same face seen from its other side
+-- the element number that entry k of a type 23 section refers to; a negative reference means the same face seen from its other side
 unfoldable pub faceNumber : Tree → ℕ → ℕ → ℕ
 faceNumber t s k = magnitude (width t (connectivityOf t s)) (reference t s k)
 
@@ -213,8 +213,8 @@ elementRules t s =
     ∷ []
 
 -- the rules of entry k of its connectivity, counted from 0; of 35, 36 and 37 it breaks one at most
-unfoldable pub entryRules : Tree → ℕ → ℕ → List Rule
-entryRules t s k =
+unfoldable pub referenceRules : Tree → ℕ → ℕ → List Rule
+referenceRules t s k =
     34 unless (not (eqb (elementType t s) NFACE) ⊃ isNode t s k)
     ∷ 35 unless (eqb (elementType t s) NFACE ⊃ notZero t s k)
     ∷ 36 unless (eqb (elementType t s) NFACE ⊃ notZero t s k ⊃ isElement t s k)
@@ -222,8 +222,8 @@ entryRules t s k =
     ∷ []
 
 -- a refusal tells the entry's place, counted from 1; the first entry that breaks a rule decides
-unfoldable pub entryCheckAt : Tree → ℕ → ℕ → Check
-entryCheckAt t s k = check s (entryRules t s k) atEntry suc k
+unfoldable pub referenceCheckAt : Tree → ℕ → ℕ → Check
+referenceCheckAt t s k = check s (referenceRules t s k) atEntry suc k
 
-unfoldable pub entryCheck : Tree → ℕ → Check
-entryCheck t s = checkFrom (entryCheckAt t s) (connectivityLength t s) 0
+unfoldable pub referenceCheck : Tree → ℕ → Check
+referenceCheck t s = checkFrom (referenceCheckAt t s) (connectivityLength t s) 0

@@ -49,12 +49,12 @@ unfoldable pub _into_ : {A B : Type 0} → Answer A → (A → Answer B) → Ans
 pub data Rule : Type 0 where
   _unless_ : ℕ → Bool → Rule
 
--- at a node the first rule of a list whose test fails; lists are ascending, but for 38, which stands between 33 and 34
+-- at a node the first rule of a list whose test fails; lists are ascending
 unfoldable pub check : ℕ → List Rule → Check
 check node [] = passed
 check node ((rule unless holds) ∷ rest) = let later = check node rest in cond holds later (rejected (rejection rule node))
 
--- a check that is made of an entry names its place
+-- the check of an entry of the connectivity: its refusal tells the place of the entry
 unfoldable pub _atEntry_ : Check → ℕ → Check
 (rejected r) atEntry place = rejected (rejectionAt (r .rule) (r .node) place)
 (answer x) atEntry place = answer x

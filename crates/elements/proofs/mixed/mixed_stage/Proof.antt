@@ -1,13 +1,12 @@
--- The two arrays are rows of the bytes, and rules 29 to 32 say how one places the other's elements.
+-- The two arrays are rows of the bytes, and rules 29 to 33 hold.
 use mathlib.Core.Path.{refl, ap, _∙_}
 use Rattle.model.specs.Image.{treeOf}
 use Rattle.model.specs.Values.{size}
 use native.Mathlib.Omega.{arith}
 use borrow.Author.Needs.{needs}
-use Rattle.elements.proofs.RuleLaws.{row-numbers}
 use Rattle.elements.proofs.StageLaws.{row-is}
 use Rattle.elements.proofs.ShapeLaws.{offsets-there, offsets-found}
-use Rattle.elements.proofs.MixedLaws.{offsets-counted, filled-row, mixed-same}
+use Rattle.elements.proofs.MixedLaws.{offsets-counted}
 use Rattle.elements.proofs.mixed.mixed_stage.Statement.{statement}
 use Rattle.elements.proofs.mixed.mixed_stage.Tie as tie
 
@@ -24,16 +23,14 @@ rows-stage-requires : tie.Need-rows-stage-requires
 rows-stage-requires c κs =
     let r = c .before in
     let p = r .before .before .before .before .pre in
-    let o = row-is (r .before .offsets-of .ensures .0) (r .row-of .ensures) in
-    (row-numbers (p .0 .0 .sound) o, (row-numbers (p .0 .0 .sound) (p .1 .0 .0), filled-row _ _ (p .1 .0 .1) (p .1 .1) (p .0 .0 .sound) o (p .1 .0 .0)))
-
-returns : tie.Need-returns
-returns c =
-    let r = c .before .before in
-    let p = r .before .before .before .before .pre in
-    c .rows-stage .ensures
-    ∙ mixed-same _ _ (p .1 .0 .1) (p .1 .1) (p .0 .0 .sound) (row-is (r .before .offsets-of .ensures .0) (r .row-of .ensures)) (p .1 .0 .0) _
-    (c .before .vertex-size .ensures)
+    record {
+      sound = p .0 .0 .sound;
+      mixed = p .1 .0 .1;
+      shaped = p .1 .1;
+      offsets = row-is (r .before .offsets-of .ensures .0) (r .row-of .ensures);
+      connectivity = p .1 .0 .0;
+      vertices = c .vertex-size .ensures;
+    }
 
 pub mixed-stage-spec : {M : Type 1} → statement M
-mixed-stage-spec = tie.close (tie.spec (λ c κs. search needs) row-of-requires (λ c κs. search needs) rows-stage-requires returns)
+mixed-stage-spec = tie.close (tie.spec (λ c κs. search needs) row-of-requires (λ c κs. search needs) rows-stage-requires (λ c. c .rows-stage .ensures))

@@ -14,7 +14,7 @@ use Rattle.model.specs.Image.{Tree, parent, number}
 use Rattle.model.specs.Containment.{role, Elements, IndexRange, sectionOf, found}
 use Rattle.model.specs.Values.{typeLawful, valueLawful, rangeValue, indexRangeValue, rangeOf}
 use Rattle.model.specs.Elements.{NGON, NFACE, elementType, firstElement, inRange, conformingSection, hasElement, elementOf, faceSection, hasFace, faceOf}
-use Rattle.model.specs.Elements.{faceNumber, isNode, notZero, isElement, isFace, entryRules, entryCheckAt}
+use Rattle.model.specs.Elements.{faceNumber, isNode, notZero, isElement, isFace, referenceRules, referenceCheckAt}
 use Rattle.model.proofs.Logic.{untrue, and-first, and-second, and-both, when}
 use Rattle.model.proofs.Walks.{some-at, some-by}
 use Rattle.model.proofs.Conforming.{section-is, conforming-value, conforming-parent, conforming-role}
@@ -63,8 +63,8 @@ broken [] = 0
 broken ((rule unless holds) ∷ rest) = cond holds 0 1 + broken rest
 
 -- at an entry no two of rules 34 to 37 are broken
-pub one-broken : (t : Tree) (s k : ℕ) → broken (entryRules t s k) ≤ 1
-unfolding entryRules notZero isElement _⊃_
+pub one-broken : (t : Tree) (s k : ℕ) → broken (referenceRules t s k) ≤ 1
+unfolding referenceRules notZero isElement _⊃_
 one-broken t s k =
     by-tests (eqb (elementType t s) NFACE) (isNode t s k) (ltb 0 f) (elementOf t (parent t s) f) (isFace t s k)
     (λ e. let z : f ≡ 0 = let h = ltb-false 0 f e in omega arith in rw z (zero-no-element t (parent t s)))
@@ -84,12 +84,12 @@ one-broken t s k =
 
 -- the entry refers to a node
 module _ (t : Tree) (s k : ℕ) (n : eqb (elementType t s) NFACE ≡ false) where
-  pub node-passes : isNode t s k ≡ true → entryCheckAt t s k ≡ passed
-  unfolding entryCheckAt entryRules check _⊃_ _atEntry_
+  pub node-passes : isNode t s k ≡ true → referenceCheckAt t s k ≡ passed
+  unfolding referenceCheckAt referenceRules check _⊃_ _atEntry_
   node-passes e = rw (n, e)
 
-  pub node-fails : isNode t s k ≡ false → entryCheckAt t s k ≡ rejected (rejectionAt 34 s (suc k))
-  unfolding entryCheckAt entryRules check _⊃_ _atEntry_
+  pub node-fails : isNode t s k ≡ false → referenceCheckAt t s k ≡ rejected (rejectionAt 34 s (suc k))
+  unfolding referenceCheckAt referenceRules check _⊃_ _atEntry_
   node-fails e = rw (n, e)
 
 -- the entry refers to a face
@@ -119,19 +119,19 @@ module _ (t : Tree) (s k : ℕ) where
         let e : isElement t s k ≡ true = rw (n, z) at q in
         rw (n, e) at r
 
-    pub face-passes : isFace t s k ≡ true → entryCheckAt t s k ≡ passed
-    unfolding entryCheckAt entryRules check _⊃_ _atEntry_
+    pub face-passes : isFace t s k ≡ true → referenceCheckAt t s k ≡ passed
+    unfolding referenceCheckAt referenceRules check _⊃_ _atEntry_
     face-passes e = rw (n, face-not-zero e, face-known e, e)
 
-    pub zero-fails : notZero t s k ≡ false → entryCheckAt t s k ≡ rejected (rejectionAt 35 s (suc k))
-    unfolding entryCheckAt entryRules check _⊃_ _atEntry_
+    pub zero-fails : notZero t s k ≡ false → referenceCheckAt t s k ≡ rejected (rejectionAt 35 s (suc k))
+    unfolding referenceCheckAt referenceRules check _⊃_ _atEntry_
     zero-fails e = rw (n, e)
 
     module _ (h : notZero t s k ≡ true) where
-      pub element-fails : isElement t s k ≡ false → entryCheckAt t s k ≡ rejected (rejectionAt 36 s (suc k))
-      unfolding entryCheckAt entryRules check _⊃_ _atEntry_
+      pub element-fails : isElement t s k ≡ false → referenceCheckAt t s k ≡ rejected (rejectionAt 36 s (suc k))
+      unfolding referenceCheckAt referenceRules check _⊃_ _atEntry_
       element-fails e = rw (n, h, e)
 
-      pub face-fails : isElement t s k ≡ true → isFace t s k ≡ false → entryCheckAt t s k ≡ rejected (rejectionAt 37 s (suc k))
-      unfolding entryCheckAt entryRules check _⊃_ _atEntry_
+      pub face-fails : isElement t s k ≡ true → isFace t s k ≡ false → referenceCheckAt t s k ≡ rejected (rejectionAt 37 s (suc k))
+      unfolding referenceCheckAt referenceRules check _⊃_ _atEntry_
       face-fails e f = rw (n, h, e, f)

@@ -1,34 +1,32 @@
--- The whole is the rest from number k on; numbers in the two intervals are faces, a number looked up is one where it is found, and so are those guessed.
+-- Every number before k refers to a face: numbers in the two intervals do, a number looked up where it is found, and so do those guessed.
 use Prim.Native.Nat.{_-_}
-use Rattle.model.specs.Lists.{everyFrom}
 use Rattle.model.specs.Image.{treeOf}
-use Rattle.model.proofs.Loops.{EveryLeft, every-start, every-more, every-stop, every-done}
 use Rattle.ranges.specs.Tables.{Covered}
 use Rattle.ranges.proofs.Intervals.{none-covered}
+use Rattle.elements.specs.Arrays.{Passed}
 use Rattle.elements.specs.Given.{refersFace}
 use Rattle.elements.proofs.RangeLaws.{too-great}
-use Rattle.elements.proofs.Agree.{every-on}
+use Rattle.elements.proofs.Agree.{passed-none, passed-more, passed-on, failing-here, failing-none}
 use Rattle.elements.proofs.FaceLaws.{refers-by, found-face, no-face, known-faces}
 use native.Mathlib.Omega.{arith}
 use borrow.Author.Needs.{needs}
-use Rattle.elements.proofs.references.all_refer.Statement.{statement}
-use Rattle.elements.proofs.references.all_refer.Tie as tie
+use Rattle.elements.proofs.references.first_no_face.Statement.{statement}
+use Rattle.elements.proofs.references.first_no_face.Tie as tie
 
 abbrev Inv-loop : tie.InvT-loop
 Inv-loop image z row firsts reach count levels tree n last₀ k₀ last k =
-    Covered firsts reach count z last × EveryLeft (refersFace (treeOf image) z image (row .at) (row .width)) n k
-    (everyFrom (refersFace (treeOf image) z image (row .at) (row .width)) n 0)
+    Covered firsts reach count z last × Passed (refersFace (treeOf image) z image (row .at) (row .width)) n 0 k
 
 abbrev μ-loop : tie.MeasureT-loop
 μ-loop image z row firsts reach count levels tree n last₀ k₀ last k = n - k
 
 loop-holds : tie.Need-loop-holds Inv-loop μ-loop
-loop-holds c = (none-covered _ _ _ _, every-start _ _)
+loop-holds c = (none-covered _ _ _ _, passed-none _ _ _ (omega arith))
 
 returns : tie.Need-returns Inv-loop μ-loop
 returns c =
     let l = c .before .before .before in
-    every-stop (l .loop .inv .1) (omega (arith, c .before .before .loop-test .taken))
+    failing-here (l .loop .inv .1)
     (refers-by _ _ _ _ _ _ (c .before .magnitude-at .ensures) (too-great (l .before .before .before .before .before .pre .0 .0) _ _ (c .if1 .taken)))
 
 interval-around-requires : tie.Need-interval-around-requires Inv-loop μ-loop
@@ -41,7 +39,7 @@ returns-2 c =
     let a = c .before .before in
     let m = a .before .before in
     let l = m .before .before in
-    every-stop (l .loop .inv .1) (omega (arith, m .before .loop-test .taken))
+    failing-here (l .loop .inv .1)
     (refers-by _ _ _ _ _ _ (m .magnitude-at .ensures) (no-face (l .before .before .before .before .before .pre .1 .0 .1) _ (omega (arith, a .before .if1 .left))
     (a .interval-around .ensures .1) (c .if2 .taken)))
 
@@ -75,12 +73,12 @@ loop-again c =
     let g = l .before .before .before .before .before .pre .1 .0 .1 in
     let i = l .loop .inv in (
       a .interval-around .ensures .0,
-      every-on (every-on (every-more (i .1) (omega (arith, m .before .loop-test .taken)) (refers-by _ _ _ _ _ _ (m .magnitude-at .ensures)
+      passed-on (passed-on (passed-more (i .1) (omega (arith, m .before .loop-test .taken)) (refers-by _ _ _ _ _ _ (m .magnitude-at .ensures)
           (found-face g _ (omega (arith, a .before .if1 .left)) (a .interval-around .ensures .1) (c .before .before .before .if2 .left))))
           (known-faces g _ _ _ (c .before .before .first-outside .ensures) (a .interval-around .ensures .0) (i .0))) (c .guessed-to .ensures),
     )
 
-pub all-refer-spec : {M : Type 1} → statement M
-all-refer-spec = tie.close (tie.spec Inv-loop μ-loop loop-holds (λ c κs. search needs) returns interval-around-requires returns-2 add-first-outside
+pub first-no-face-spec : {M : Type 1} → statement M
+first-no-face-spec = tie.close (tie.spec Inv-loop μ-loop loop-holds (λ c κs. search needs) returns interval-around-requires returns-2 add-first-outside
     first-outside-requires (λ c κs. (omega (arith, c .first-outside .ensures .from), c .first-outside .ensures .to)) guessed-to-requires loop-less loop-again
-    (λ c. every-done (c .before .loop .inv .1) (omega arith)))
+    (λ c. failing-none (c .before .loop .inv .1) (omega arith)))
