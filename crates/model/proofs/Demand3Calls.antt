@@ -27,7 +27,7 @@ use Rattle.model.specs.Reads.{sectionAt, readAnswer, ReadState, IsRead, 
 use Rattle.model.specs.ReadList.{ruleOf, cornerFrom}
 use Rattle.model.specs.ElementCorners.{elementCornersAnswer, elementCornersMemory}
 use Rattle.model.specs.OwnType.{ownTypeAnswer}
-use Rattle.model.specs.Exports.{wordsFit, exportRule, exportBytes, exportMemory, countWords, sectionIn, readFits, cornerExported, numberBytes}
+use Rattle.model.specs.Exports.{wordsFit, exportRule, exportBytes, exportMemory, countWords, sectionIn, readFits, cornerExported, numberBytes, tellsEntry}
 use Rattle.model.specs.Exports.{elementExported, countWord, ElementExport, typeExported, TypeExport}
 use Rattle.model.specs.Demand3.{sectionCount, sectionNode, given, InSection, typeIn, sizeIn, Listed, ReadHolds}
 use Rattle.model.specs.Demand3Calls.{StructsGiven, ElementAnswers, CornerCall, Copied, CopiedNumbers, IsCornerCall, readMade, CallRun, no-call, next-call}
@@ -42,7 +42,7 @@ use Rattle.model.proofs.Accepted.{accepted, table-passed}
 use Rattle.model.proofs.Bounds.{table-laid}
 use Rattle.model.proofs.Walks.{count-few}
 use Rattle.model.proofs.Arrays.{indices-few}
-use Rattle.model.proofs.Numbered.{fromOne, of-check, of-then, all-numbered, answered}
+use Rattle.model.proofs.Numbered.{noneOfEntries, of-check, of-then, all-numbered, answered}
 use Rattle.model.proofs.InZone.{range, connectivity, size-inside}
 use Rattle.model.proofs.References.{vertex-size-small}
 use Rattle.model.proofs.NoneNegative.{own-type-small}
@@ -303,7 +303,7 @@ module _ (b : List ℕ) (z : ℕ) (out lent : List ℕ) where
   pub sections-given : (r : ℕ) (out′ lent′ : List ℕ) → r ≡ exportRule 3 lent (sectionsAnswer b z (length out / 9))
       → lent′ ≡ exportBytes lent (countWords (sectionsAnswer b z (length out / 9))) → out′ ≡ exportMemory 3 lent out (sectionNumbersMemory b z out)
       → r ≡ 0 → SectionsGiven b z out out′ lent′
-  unfolding exportRule wordsFit fromOne
+  unfolding exportRule wordsFit noneOfEntries tellsEntry
   sections-given r out′ lent′ rule bytes memory zero =
       let s = sectionsAnswer b z (length out / 9) in
       let fit = wordsFit 3 lent in

@@ -35,14 +35,6 @@ pub claim : (n : ℕ) (rules : List Rule) → Hold rules → Claim n rules
 claim n [] h = tt
 claim n ((rule unless holds) ∷ rest) h = choose (eqb n rule) (h .0) (claim n rest (h .1))
 
-pub hold-left : (xs ys : List Rule) → Hold (xs ++ ys) → Hold xs
-hold-left [] ys h = tt
-hold-left ((rule unless holds) ∷ xs) ys h = (h .0, hold-left xs ys (h .1))
-
-pub hold-right : (xs ys : List Rule) → Hold (xs ++ ys) → Hold ys
-hold-right [] ys h = h
-hold-right ((rule unless holds) ∷ xs) ys h = hold-right xs ys (h .1)
-
 -- a rule that holds wherever those before it hold makes no difference
 pub row-kept : (node rule : ℕ) (t : Bool) (xs ys : List Rule) → (Hold xs → t ≡ true) → check node (xs ++ (rule unless t ∷ ys)) ≡ check node (xs ++ ys)
 unfolding check

@@ -128,14 +128,19 @@ found-face {b} ok z f j l e =
     }
 
 -- 35, 36, 37
+pub reference-face : {b : List ℕ} {z s : ℕ} → InZone b z s → elementType (treeOf b) s ≡ NFACE → (i : ℕ) → i < connectivityLength (treeOf b) s
+    → faceOf (treeOf b) z (faceNumber (treeOf b) s i) ≡ true
+unfolding referenceRules isFace
+reference-face {b} {s = s} a e i h =
+    rw (parts a .parent-is) at (rules-face (treeOf b) s i e (section-entry a 35 i h) (section-entry a 36 i h) (section-entry a 37 i h))
+
 pub face-inside : {b : List ℕ} {z s : ℕ} → InZone b z s → elementType (treeOf b) s ≡ NFACE → (i : ℕ) → i < connectivityLength (treeOf b) s
     → HasFace b z (faceNumber (treeOf b) s i)
-unfolding referenceRules isFace faceOf treeOf
+unfolding faceOf treeOf
 face-inside {b} {z} {s} a e i h =
     let t = treeOf b in
     let f = faceNumber t s i in
-    let o = rw (parts a .parent-is) at (rules-face t s i e (section-entry a 35 i h) (section-entry a 36 i h) (section-entry a 37 i h)) in
-    let u = some-at (hasFace t z f) (nodeCount b) 0 o in
+    let u = some-at (hasFace t z f) (nodeCount b) 0 (reference-face a e i h) in
     found-face (a .accepted) z f (u .at) (omega (arith, u .to)) (u .holds)
 
 -- what a signed reference says: a node number, or a face number's magnitude

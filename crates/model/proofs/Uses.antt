@@ -18,16 +18,15 @@ use Rattle.model.specs.Image.{Tree, treeOf, nodeCount, parent, width}
 use Rattle.model.specs.Containment.{sectionOf}
 use Rattle.model.specs.Values.{connectivityOf}
 use Rattle.model.specs.Elements.{NFACE, elementType, connectivityLength, firstElement, lastElement, elementCount, inRange, faceSection, hasFace, faceOf}
-use Rattle.model.specs.Elements.{faceNumber, isFace, reference, referenceRules}
+use Rattle.model.specs.Elements.{faceNumber, reference}
 use Rattle.model.specs.FaceUsage.{facesIn, faceCount, facePlace, usePlace, useSign, unused, elementHolding, useEntry, useEntries, usesIn, useNodes, usage}
 use Rattle.model.specs.FaceUsage.{positiveUses, negativeUses, cellEntries}
 use Rattle.model.specs.Validation.{imageCheck}
 use Rattle.model.proofs.Logic.{untrue, and-first, and-second, when}
 use Rattle.model.proofs.Walks.{every-at, Some, some-at, seek-holds, seek-before, sum-part}
-use Rattle.model.proofs.Passed.{Claim, refused, into-value}
-use Rattle.model.proofs.Accepted.{entry-rule}
-use Rattle.model.proofs.ReferenceChecks.{rules-face}
-use Rattle.model.proofs.Conforming.{IsSection, section-is}
+use Rattle.model.proofs.Passed.{refused, into-value}
+use Rattle.model.proofs.InZone.{InZone, parts}
+use Rattle.model.proofs.References.{reference-face}
 
 -- a face of the zone has a place below F
 place-below : (t : Tree) (z f : ℕ) → faceOf t z f ≡ true → facePlace t z f < faceCount t z
@@ -164,12 +163,9 @@ zeros (suc n) zero = omega arith
 zeros (suc n) (suc i) = zeros n i
 
 module _ (b : List ℕ) (yes : imageCheck b ≡ passed) (z : ℕ) where
-  rule : (s k : ℕ) → s < nodeCount b → k < connectivityLength (treeOf b) s → IsSection (treeOf b) z s → (n : ℕ) → Claim n (referenceRules (treeOf b) s k)
-  rule s k l h i n = entry-rule b yes n s l (i .is-validated) (i .elements) k h
-
   -- an entry of a type 23 section means a face of the zone
   entry-below : (s k : ℕ) → s < nodeCount b → k < usesIn (treeOf b) z s → usePlace (treeOf b) s k < faceCount (treeOf b) z
-  unfolding usesIn usePlace referenceRules isFace
+  unfolding usesIn usePlace
   entry-below s k l h = by-test (sectionOf t z s && eqb (elementType t s) NFACE) refl h
     where
       t : Tree
@@ -178,9 +174,8 @@ module _ (b : List ℕ) (yes : imageCheck b ≡ passed) (z : ℕ) where
       by-test : (u : Bool) → (sectionOf t z s && eqb (elementType t s) NFACE) ≡ u → k < cond u (connectivityLength t s) 0
           → facePlace t (parent t s) (faceNumber t s k) < faceCount t z
       by-test true e m =
-          let i = section-is t z s (and-first (sectionOf t z s) _ e) in
-          let f = rules-face t s k (eqb-true _ _ (and-second (sectionOf t z s) _ e)) (rule s k l m i 35) (rule s k l m i 36) (rule s k l m i 37) in
-          rw (i .parent-is) (place-below t z (faceNumber t s k) (rw (i .parent-is) at f))
+          let a : InZone b z s = record { accepted = yes; listed = l; is-section = and-first (sectionOf t z s) _ e } in
+          rw (parts a .parent-is) (place-below t z (faceNumber t s k) (reference-face a (eqb-true _ _ (and-second (sectionOf t z s) _ e)) k m))
       by-test false e m = absurd (omega arith)
 
   none-yet : Book (faceCount (treeOf b) z) (replicate (faceCount (treeOf b) z) 0)

@@ -2,9 +2,10 @@
 -- after the other; where these are too short it is refused with 46 and nothing at all is written.
 use Prim.Native.Nat.{ℕ, _*_, _≤_}
 use mathlib.Core.Path.{_≡_}
+use mathlib.Core.Bool.{Bool, _&&_}
 use mathlib.Core.List.{List, [], _∷_}
 use lib.ListN.{length}
-use lib.Dec.{leb}
+use lib.Dec.{leb, ltb}
 use lib.IntN.{ℤ}
 use mir.Syntax.{w64}
 use mir.Val.{ofZ}
@@ -67,9 +68,13 @@ exportBytes out words = leaves (wordsFit (length words) out) out (over out (allB
 unfoldable pub exportMemory : {B : Type 0} → ℕ → List ℕ → List B → List B → List B
 exportMemory n out memory new = leaves (wordsFit n out) memory new
 
--- No refusal has the number 0, so an export's 0 says that the call answered.
+-- the rules that tell an entry
+unfoldable pub tellsEntry : ℕ → Bool
+tellsEntry rule = leb 34 rule && leb rule 37
+
+-- No refusal has the number 0, so an export's 0 says that the call answered; a refusal has an entry exactly where its rule tells one.
 abbrev pub Numbered : {A : Type 0} → Answer A → Type 0
-Numbered (rejected r) = 1 ≤ r .rule
+Numbered (rejected r) = (1 ≤ r .rule) × (ltb 0 (r .entry) ≡ tellsEntry (r .rule))
 Numbered (answer x) = Unit {0}
 
 pub record AllNumbered (b : List ℕ) : Type 0 where
