@@ -75,4 +75,16 @@ impl<'a> Integers<'a> {
             _ => true,
         }
     }
+
+    /// What `found` answers for the first integer for which it answers something, with that integer's index, counted
+    /// from 0.
+    pub fn find<T>(&self, found: impl Fn(i64) -> Option<T>) -> Option<(usize, T)> {
+        let (mut index, mut answer) = (0, None);
+        self.all(|number| {
+            answer = found(number);
+            index += usize::from(answer.is_none());
+            answer.is_none()
+        });
+        answer.map(|answer| (index, answer))
+    }
 }
