@@ -157,11 +157,8 @@ impl<'a> SectionData<'a> {
     /// The first reference that breaks a rule, as `broken` answers it: of all connectivity entries but the types of a
     /// MIXED section, which are counted all the same.
     fn first_bad(&self, broken: impl Fn(i64) -> Option<u32>) -> Option<BadReference> {
-        let found = if self.shape() == Some(Shape::Mixed) {
-            self.find_node(broken)
-        } else {
-            self.connectivity.find(broken)
-        };
+        let found =
+            if self.shape() == Some(Shape::Mixed) { self.find_node(broken) } else { self.connectivity.find(broken) };
         found.map(|(index, rule)| BadReference { rule, entry: index as u64 + 1 })
     }
 

@@ -30,6 +30,7 @@ pub mod queries;
 pub mod random;
 pub mod reader;
 pub mod records;
+pub mod reference_cases;
 pub mod rejection;
 pub mod samples;
 pub mod sids;
