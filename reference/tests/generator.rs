@@ -81,8 +81,7 @@ fn cases_of_mixed_sections_are_answered_as_they_say() {
 #[test]
 fn cases_of_references_are_answered_as_they_say() {
     for class in [SizeClass::Small, SizeClass::Medium] {
-        for number in 0..REFERENCE_CASES.len() {
-            let name = REFERENCE_CASES[number].0;
+        for (number, (name, ..)) in REFERENCE_CASES.iter().enumerate() {
             let mut made = 0;
             for index in 0..if class == SizeClass::Small { 100 } else { 10 } {
                 let mut random = Random::new(number as u64, index);

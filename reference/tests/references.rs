@@ -426,6 +426,59 @@ fn the_cell_before_the_faces() {
     assert_eq!(refusal(&image), (37, 9, 2));
 }
 
+/// The byte offset and the width of the connectivity of a section, and the entries that are types.
+fn connectivity(image: &[u8], node: usize) -> (usize, usize, Vec<u64>) {
+    let tree = Tree::new(Table::read(image).unwrap());
+    let child = |name: &str| tree.children(node).iter().copied().find(|&child| tree.is_named(child, name));
+    let array = child("ElementConnectivity").unwrap();
+    let mut types = Vec::new();
+    if tree.table.integers(node).get(0) == Some(20) {
+        tree.table.integers(child("ElementStartOffset").unwrap()).all(|start| {
+            types.push(start as u64 + 1);
+            true
+        });
+    }
+    (tree.table.nodes[array].data_at, tree.table.integers(array).width(), types)
+}
+
+/// The refusal of an image with another number at an entry.
+fn with_entry(image: &[u8], (at, width): (usize, usize), entry: u64, number: &[u8]) -> Option<Rejection> {
+    let mut image = image.to_vec();
+    let place = at + width * (entry as usize - 1);
+    image[place..place + width].copy_from_slice(number);
+    validate(&image).err()
+}
+
+#[test]
+fn generated_entries_are_the_first_failing_ones() {
+    let (mut earlier, mut repaired, mut later) = (0, 0, 0);
+    for index in 0..6_000 {
+        let image = image(6, index, SizeClass::Small);
+        let Some(told) = validate(&image).err().filter(|rejection| rejection.entry > 0) else {
+            continue;
+        };
+        let node = told.node as usize;
+        let (at, width, types) = connectivity(&image, node);
+        let lawful: Vec<u64> = (1..told.entry).filter(|entry| !types.contains(entry)).collect();
+        let zero = vec![0; width];
+        for &entry in &lawful {
+            let rule = if told.rule == 34 { 34 } else { 35 };
+            let expected = Rejection::at_entry(rule, node, entry);
+            assert_eq!(with_entry(&image, (at, width), entry, &zero), Some(expected), "{index}");
+            earlier += 1;
+        }
+        if let Some(&entry) = lawful.first() {
+            let from = at + width * (entry as usize - 1);
+            let next = with_entry(&image, (at, width), told.entry, &image[from..from + width]);
+            repaired += usize::from(next.is_none());
+            let (node, entry) = next.map_or((u64::MAX, 0), |next| (next.node, next.entry));
+            assert!((node, entry) > (told.node, told.entry), "{index}");
+            later += usize::from(node == told.node);
+        }
+    }
+    assert!(earlier > 2_000 && repaired > 200 && later > 50, "{earlier} {repaired} {later}");
+}
+
 /// Where an entry stands in a list.
 #[derive(Clone, Copy, Debug, PartialEq, Eq, PartialOrd, Ord)]
 enum Place {
