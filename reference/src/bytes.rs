@@ -62,6 +62,12 @@ impl<'a> Integers<'a> {
         (index < self.len()).then(|| signed_at(self.bytes, index * self.width, self.width))
     }
 
+    /// The integers from one index up to another, counted from 0; nothing where these are not there.
+    pub fn part(&self, start: usize, end: usize) -> Option<Integers<'a>> {
+        let bytes = self.bytes.get(start.checked_mul(self.width)?..end.checked_mul(self.width)?)?;
+        Some(Integers { bytes, ..*self })
+    }
+
     /// The last integer.
     pub fn last(&self) -> Option<i64> {
         self.len().checked_sub(1).and_then(|k| self.get(k))

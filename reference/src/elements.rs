@@ -164,10 +164,14 @@ impl<'a> SectionData<'a> {
 
     /// The same in a MIXED section, element by element, with the entry's index, counted from 0.
     fn find_node(&self, broken: impl Fn(i64) -> Option<u32>) -> Option<(usize, u32)> {
+        let find = |start: i64, end: i64| {
+            let first = usize::try_from(start).ok()?.checked_add(1)?;
+            let nodes = self.connectivity.part(first, usize::try_from(end).ok()?)?;
+            nodes.find(&broken).map(|(index, rule)| (first + index, rule))
+        };
         let mut found = None;
         self.all_elements(|start, end| {
-            let rule_at = |index| self.entry(index).and_then(&broken).map(|rule| (index as usize, rule));
-            found = (start..end).skip(1).find_map(rule_at);
+            found = find(start, end);
             found.is_none()
         });
         found
