@@ -56,7 +56,7 @@ extern "C" {
 /* ---- Rules ------------------------------------------------------------------------------------------------------ */
 
 /* Why a call was refused. An image is judged header first (1 to 6), then its records (7 to 17), then what is left over (18),
- * then node by node the meaning (20 to 38), at a node the lowest rule first, but 38 between 33 and 34, and 35 to 37 entry by
+ * then node by node the meaning (20 to 38), at a node the lowest rule first, but 38 between 33 and 34, and 34 to 37 entry by
  * entry; the first broken rule is the answer. They stand here in this order. 19 and 22 are no rules. */
 enum gongaurora_rule {
     GONGAURORA_RULE_NONE = 0,             /* nothing is wrong */

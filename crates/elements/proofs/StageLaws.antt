@@ -8,13 +8,12 @@ use lib.Dec.{eqb}
 use borrow.Author.Tests.{eq-eqb, ne-eqb}
 use Rattle.model.specs.Rules.{check, Check, rejected, rejection, _then_}
 use Rattle.model.specs.Image.{Tree, treeOf, number}
-use Rattle.model.specs.Values.{size, rangeOf, connectivityOf}
+use Rattle.model.specs.Values.{size, connectivityOf}
 use Rattle.model.specs.Elements.{taken, elementType, firstElement, lastElement, elementCount, connectivityLength, overlaps, elementRules, referenceCheck}
 use Rattle.model.proofs.Passed.{then-off, then-then}
 use Rattle.model.proofs.Staging.{broken, kept, check-append}
-use Rattle.rows.specs.declared.Row.{Row}
-use Rattle.elements.specs.Groups.{shapeRules, typeRules, connectivityCheck}
-use Rattle.elements.specs.Given.{RowOf, SectionContext}
+use Rattle.references.specs.Groups.{shapeRules, typeRules, connectivityCheck}
+use Rattle.section_data.specs.Given.{SectionContext}
 
 module _ (t : Tree) (s : ℕ) where
   -- a section's type, and its number of elements and of references, as they were read
@@ -48,26 +47,12 @@ module _ (t : Tree) (s : ℕ) where
       unfolding connectivityCheck
       arrays-left i f = f ∙ rw (rules-left i) (sym (then-then (check s (shapeRules t s)) (check s (typeRules t s)) (referenceCheck t s)))
 
--- the row of a node that was looked up
-pub row-is : {b : List ℕ} {j : ℕ} → {k : ℕ} → j ≡ k → {r : Row} → RowOf b j r → RowOf b k r
-row-is e o = rw e at o
-
 -- the last element's number is no less than the first's
 pub up-read : {b : List ℕ} {s : ℕ} → SectionContext b s → {f l : ℕ} → f ≡ firstElement (treeOf b) s → l ≡ lastElement (treeOf b) s → f ≤ l
 up-read d p q = let u = d .ranged .up in omega arith
 
 pub most-read : {b : List ℕ} {s : ℕ} → SectionContext b s → {l : ℕ} → l ≡ lastElement (treeOf b) s → l ≤ 2147483647
 most-read d q = let u = d .ranged .most in omega arith
-
--- the numbers of a range, read at its node
-module _ (t : Tree) (s j w : ℕ) (e : j ≡ rangeOf t s) where
-  pub first-by : w ≡ number t j 0 → w ≡ firstElement t s
-  unfolding firstElement
-  first-by h = rw (← e) h
-
-  pub last-by : w ≡ number t j 1 → w ≡ lastElement t s
-  unfolding lastElement
-  last-by h = rw (← e) h
 
 -- r was read where x stands
 module _ {r x y : ℕ} (e : r ≡ x) where

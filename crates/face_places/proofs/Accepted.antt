@@ -26,9 +26,9 @@ use Rattle.index.proofs.Marking.{kind-role}
 use Rattle.types.specs.Given.{HasNumber}
 use Rattle.ranges.proofs.Cases.{both}
 use Rattle.ranges.proofs.Half.{half}
-use Rattle.elements.specs.Given.{Ranged}
-use Rattle.elements.proofs.Stored.{range-ready, stores-has}
-use Rattle.elements.proofs.RangeLaws.{lawful-has}
+use Rattle.section_data.specs.Given.{Ranged}
+use Rattle.section_data.proofs.Stored.{range-ready, stores-has}
+use Rattle.section_data.proofs.RangeLaws.{lawful-has}
 use Rattle.face_places.specs.declared.zone_sections.Span.{Span}
 use Rattle.face_places.specs.ZoneSections.{Section, Spans}
 

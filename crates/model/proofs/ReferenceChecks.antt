@@ -1,21 +1,21 @@
 -- Rules 34 to 37 at an entry of a connectivity. They exclude one another: zero is no element number, since ranges start from 1 on. A face is an element, so
 -- a face reference that breaks none of them is a face. What the check tells of an entry, by the tests made of it.
-use Prim.Native.Nat.{ℕ, zero, suc, _+_, _≤_}
+use Prim.Native.Nat.{ℕ, suc, _+_, _≤_}
 use mathlib.Core.Path.{_≡_, refl, sym, _∙_}
 use mathlib.Core.Bool.{Bool, true, false, cond, not, _&&_}
 use mathlib.Core.List.{List, [], _∷_}
 use native.Mathlib.Omega.{arith}
 use lib.Dec.{eqb, leb, ltb}
-use borrow.Author.Tests.{eqb-true, leb-true, ltb-true, ltb-false}
-use Rattle.model.specs.Lists.{_⊃_, row, someFrom}
+use borrow.Author.Tests.{eqb-true, leb-true, ltb-false}
+use Rattle.model.specs.Lists.{_⊃_, row}
 use Rattle.model.specs.Bytes.{text}
 use Rattle.model.specs.Rules.{Rule, _unless_, rejected, rejectionAt, passed, check, _atEntry_}
 use Rattle.model.specs.Image.{Tree, parent, number}
-use Rattle.model.specs.Containment.{role, Elements, IndexRange, sectionOf, found}
+use Rattle.model.specs.Containment.{role, Elements, IndexRange, sectionOf}
 use Rattle.model.specs.Values.{typeLawful, valueLawful, rangeValue, indexRangeValue, rangeOf}
-use Rattle.model.specs.Elements.{NGON, NFACE, elementType, firstElement, inRange, conformingSection, hasElement, elementOf, faceSection, hasFace, faceOf}
+use Rattle.model.specs.Elements.{NFACE, elementType, firstElement, inRange, conformingSection, hasElement, elementOf, faceSection, hasFace, faceOf}
 use Rattle.model.specs.Elements.{faceNumber, isNode, notZero, isElement, isFace, referenceRules, referenceCheckAt}
-use Rattle.model.proofs.Logic.{untrue, and-first, and-second, and-both, when}
+use Rattle.model.proofs.Logic.{untrue, and-first, and-second, and-both}
 use Rattle.model.proofs.Walks.{some-at, some-by}
 use Rattle.model.proofs.Conforming.{section-is, conforming-value, conforming-parent, conforming-role}
 

@@ -22,8 +22,8 @@ use Rattle.model.specs.Elements.{faceNumber, reference}
 use Rattle.model.specs.FaceUsage.{facesIn, faceCount, facePlace, usePlace, useSign, unused, elementHolding, useEntry, useEntries, usesIn, useNodes, usage}
 use Rattle.model.specs.FaceUsage.{positiveUses, negativeUses, cellEntries}
 use Rattle.model.specs.Validation.{imageCheck}
-use Rattle.model.proofs.Logic.{untrue, and-first, and-second, when}
-use Rattle.model.proofs.Walks.{every-at, Some, some-at, seek-holds, seek-before, sum-part}
+use Rattle.model.proofs.Logic.{untrue, and-first, and-second}
+use Rattle.model.proofs.Walks.{Some, some-at, seek-holds, seek-before, sum-part}
 use Rattle.model.proofs.Passed.{refused, into-value}
 use Rattle.model.proofs.InZone.{InZone, parts}
 use Rattle.model.proofs.References.{reference-face}

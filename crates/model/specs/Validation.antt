@@ -1,6 +1,6 @@
 -- The verdict of document 01: header, records, leftovers, meaning; and the four counts of an acceptance.
 use Prim.Native.Nat.{ℕ}
-use mathlib.Core.Bool.{Bool, cond}
+use mathlib.Core.Bool.{cond}
 use mathlib.Core.List.{List}
 use lib.Dec.{eqb}
 use Rattle.model.specs.Lists.{countFrom}

@@ -5,7 +5,7 @@ use mathlib.Core.Bool.{Bool, true, false, cond, _&&_}
 use mathlib.Core.List.{List}
 use native.Mathlib.Omega.{arith}
 use native.Mathlib.Decide.{ℕ-discrete}
-use lib.Dec.{eqb, ltb}
+use lib.Dec.{ltb}
 use borrow.Author.Tests.{ltb-true}
 use lib.ListN.{getD}
 use Rattle.model.proofs.Logic.{and-first, and-second, when}
@@ -13,9 +13,9 @@ use Rattle.model.proofs.Accepted.{sids-rule}
 use Rattle.model.proofs.Reading.{rank-is}
 use Rattle.model.specs.Lists.{countFrom}
 use Rattle.model.specs.declared.Rejection.{Rejection}
-use Rattle.model.specs.Rules.{Check, answer, rejected, rejection, _gives_, passed, check, checkFrom, _then_}
+use Rattle.model.specs.Rules.{answer, rejected, rejection, _gives_, passed, check, checkFrom, _then_}
 use Rattle.model.specs.Image.{Tree, treeOf, nodeCount, node, parent, dimensions}
-use Rattle.model.specs.Containment.{role, Zone, Elements, validated, skipped, validatedAs}
+use Rattle.model.specs.Containment.{Zone, Elements, validated, skipped, validatedAs}
 use Rattle.model.specs.Values.{sidsRules, sizedArray, sizesLawful, dataSizes}
 use Rattle.types.proofs.StoredNumbers.{shaped-is}
 use Rattle.model.specs.DataSize.{isSizedArray, sizesOf, dataSizeAnswer}

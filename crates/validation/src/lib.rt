@@ -12,7 +12,7 @@ ghost use Rattle.model.specs.Validation.{sectionCheck, nodeCheckAt, nodeCheck, 
 ghost use Rattle.model.specs.Given.{NodesTo};
 ghost use Rattle.model.specs.Answers.{stageTells, validationTells};
 ghost use Rattle.index.specs.Index.{Index};
-ghost use Rattle.elements.specs.Ranges.{overlapAt, Faces};
+ghost use Rattle.section_data.specs.Ranges.{overlapAt, Faces};
 
 mod sizes; // sizes.rt: the DataSize of an array
 
@@ -111,8 +111,8 @@ fn nodes_stage(
     requires { ⌜ (2048 ≤ length (now firsts)) × (2048 ≤ length (now reach)) ⌝ }
     ensures { λ r. ⌜ stageTells r ≡ nodeCheck (treeOf (now (image .entry))) ⌝ }
 {
-    let overlap = elements::first_overlap(image, index, firsts, reach);
-    let faces = elements::gather_faces(image, index, firsts, reach);
+    let overlap = section_data::first_overlap(image, index, firsts, reach);
+    let faces = section_data::gather_faces(image, index, firsts, reach);
     every_node(image, index, overlap, firsts, reach, faces, levels)
 }
 
