@@ -51,7 +51,7 @@ fn past_within(image: &[u8], row: Row, limit: u64, k: usize) -> usize
 
 // The first number of a row that lies outside 1 to limit; how many there are where none does. Two at a time: the loop takes as long wherever the linker
 // puts it.
-fn first_outside(image: &[u8], row: Row, limit: u64) -> usize
+fn first_no_node(image: &[u8], row: Row, limit: u64) -> usize
     requires { ⌜ Numbers (now image) (row .at) (row .width) (row .n) ⌝ }
     ensures { λ r. ⌜ FirstFailing (isWithin (now (image .entry)) (row .at) (row .width) limit) (row .n) r ⌝ }
 {
@@ -85,7 +85,7 @@ pub fn node_stage(image: &[u8], s: usize, row: Row) -> Stage
     ensures { λ r. ⌜ stageTells r ≡ referenceCheck (treeOf (now (image .entry))) s ⌝ }
 {
     let vertices = vertex_size(image, s);
-    let k = first_outside(image, row, vertices);
+    let k = first_no_node(image, row, vertices);
     if row.n <= k {
         return Stage::Pass;
     }

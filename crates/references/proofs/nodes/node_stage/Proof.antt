@@ -13,7 +13,7 @@ returns c =
     let f = c .before .before in
     let p = f .before .before .before .pre in
     nodes-kept _ _ (long-is (p .0 .0) _ (p .1 .0)) (p .1 .1 .1)
-    (first-node (p .0 .0) _ (p .1 .0) _ (f .before .vertex-size .ensures) (p .1 .1 .0) (f .first-outside .ensures)) (omega arith)
+    (first-node (p .0 .0) _ (p .1 .0) _ (f .before .vertex-size .ensures) (p .1 .1 .0) (f .first-no-node .ensures)) (omega arith)
 
 returns-2 : tie.Need-returns-2
 returns-2 c =
@@ -21,7 +21,7 @@ returns-2 c =
     let p = f .before .before .before .pre in
     ap rejected (c .at-entry .ensures)
     ∙ nodes-broken _ _ (long-is (p .0 .0) _ (p .1 .0)) (p .1 .1 .1)
-    (first-node (p .0 .0) _ (p .1 .0) _ (f .before .vertex-size .ensures) (p .1 .1 .0) (f .first-outside .ensures)) (omega arith)
+    (first-node (p .0 .0) _ (p .1 .0) _ (f .before .vertex-size .ensures) (p .1 .1 .0) (f .first-no-node .ensures)) (omega arith)
 
 pub node-stage-spec : {M : Type 1} → statement M
 node-stage-spec = tie.close (tie.spec (λ c κs. search needs) (λ c κs. let p = c .before .before .pre in row-numbers (p .0 .0) (p .1 .0)) returns (search needs)

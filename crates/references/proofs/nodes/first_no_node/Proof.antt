@@ -6,8 +6,8 @@ use borrow.Author.Needs.{needs}
 use borrow.Author.Tests.{not-true, not-false}
 use Rattle.references.specs.Arrays.{isWithin, Passed}
 use Rattle.references.proofs.Failing.{passed-none, passed-two, failing-two, failing-last, failing-none}
-use Rattle.references.proofs.nodes.first_outside.Statement.{statement}
-use Rattle.references.proofs.nodes.first_outside.Tie as tie
+use Rattle.references.proofs.nodes.first_no_node.Statement.{statement}
+use Rattle.references.proofs.nodes.first_no_node.Tie as tie
 
 abbrev Inv-loop : tie.InvT-loop
 Inv-loop image row limit n k₀ k = Passed (isWithin image (row .at) (row .width) limit) n 0 k
@@ -32,6 +32,6 @@ returns-2 c = failing-last (c .before .before .before .loop .inv) (c .before .if
 returns-3 : tie.Need-returns-3 Inv-loop μ-loop
 returns-3 c = failing-none (c .before .before .loop .inv) (omega arith)
 
-pub first-outside-spec : {M : Type 1} → statement M
-first-outside-spec = tie.close (tie.spec Inv-loop μ-loop loop-holds (search needs) (λ c κs. search needs) (λ c κs. search needs) returns (search needs) (search needs) loop-again
+pub first-no-node-spec : {M : Type 1} → statement M
+first-no-node-spec = tie.close (tie.spec Inv-loop μ-loop loop-holds (search needs) (λ c κs. search needs) (λ c κs. search needs) returns (search needs) (search needs) loop-again
     (λ c κs. search needs) returns-2 returns-3)
