@@ -70,7 +70,7 @@ module _ (b : List ℕ) (yes : imageCheck b ≡ passed) where
       unfolding referenceCheck referenceCheckAt
       entry-holds k l =
           check-pass i (referenceRules (treeOf b) i k)
-          (at-entry-pass _ (suc k)
+          (at-entry-pass _ _
           (checkFrom-at (referenceCheckAt (treeOf b) i) (connectivityLength (treeOf b) i) 0 k
           (then-second (check i (elementRules (treeOf b) i)) (referenceCheck (treeOf b) i) section-passed)
           (omega arith) (omega arith)))

@@ -11,9 +11,9 @@ use Rattle.model.specs.Lists.{row, everyFrom}
 use Rattle.model.specs.Bytes.{text, same, signed}
 use Rattle.model.specs.Rules.{passed}
 use Rattle.model.specs.Image.{Tree, treeOf, nodeCount, parent, stored, width}
-use Rattle.model.specs.Containment.{role, found, Zone, Elements, isZone, validatedAs, validated, sectionOf, mayHold}
+use Rattle.model.specs.Containment.{role, Zone, Elements, isZone, validatedAs, validated, sectionOf, mayHold}
 use Rattle.model.specs.Values.{sidsRules, reads, structured, unstructured, zoneTypeOf, indexDimension, vertexSize, cellSize, unstructuredSizes, zoneValue}
-use Rattle.model.specs.Values.{typeLawful, valueLawful, placed, rangeOf, connectivityOf}
+use Rattle.model.specs.Values.{valueLawful, placed, connectivityOf}
 use Rattle.model.specs.Elements.{NGON, NFACE, elementType, firstElement, lastElement, inRange, meets, overlap, overlaps, reference, connectivityLength}
 use Rattle.model.specs.Elements.{isTypeNumber, isNode, conformingSection, faceSection, hasFace, faceOf, faceNumber, isFace, elementRules, referenceRules}
 use Rattle.model.specs.Validation.{imageCheck}
@@ -23,7 +23,7 @@ use Rattle.model.proofs.Accepted.{sids-rule}
 use Rattle.model.proofs.Sections.{not-root}
 use Rattle.model.proofs.TwosComplement.{half-wide, signed-is, magnitude-is}
 use Rattle.model.proofs.InZone.{InZone, parts, role-is, section-rule, section-entry, connectivity, range}
-use Rattle.model.proofs.ReferenceChecks.{rules-face}
+use Rattle.model.proofs.ReferenceChecks.{conforms-section, rules-face}
 
 -- an element number in a section's range
 pub record InRange (t : Tree) (s f : ℕ) : Type 0 where
@@ -104,11 +104,9 @@ pub record HasFace (b : List ℕ) (z f : ℕ) : Type 0 where
   pub has : InRange (treeOf b) section f
 
 found-face : {b : List ℕ} → imageCheck b ≡ passed → (z f j : ℕ) → j < nodeCount b → hasFace (treeOf b) z f j ≡ true → HasFace b z f
-unfolding hasFace faceSection conformingSection inRange
+unfolding hasFace faceSection inRange
 found-face {b} ok z f j l e =
     let t = treeOf b in
-    let lawful = sectionOf t z j && typeLawful t j && valueLawful t j in
-    let conforms = lawful && found t (rangeOf t j) in
     let g = and-first (faceSection t z j) _ e in
     let r = and-second (faceSection t z j) (inRange t j f) e in
     record {
@@ -117,9 +115,9 @@ found-face {b} ok z f j l e =
           record {
             accepted = ok;
             listed = l;
-            is-section = and-first (sectionOf t z j) _ (and-first (sectionOf t z j && typeLawful t j) _ (and-first lawful _ (and-first conforms _ g)));
+            is-section = conforms-section t z j (and-first (conformingSection t z j) _ g);
           };
-      face-section = eqb-true (elementType t j) NGON (and-second conforms _ g);
+      face-section = eqb-true (elementType t j) NGON (and-second (conformingSection t z j) _ g);
       has =
           record {
             from = leb-true (firstElement t j) f (and-first (leb (firstElement t j) f) _ r);
