@@ -1,4 +1,4 @@
--- Validation has come to section s, and rules 20 to 26 hold there: what rules 27 to 35 and 38 may rely on.
+-- Validation has come to section s, and rules 20 to 26 hold there: what rules 27 to 38 may rely on.
 use Prim.Native.Nat.{ℕ, zero, suc, _<_}
 use mathlib.Core.Path.{_≡_, refl, sym, subst, _∙_}
 use mathlib.Core.Bool.{true, false, not, _&&_}
