@@ -224,6 +224,7 @@ static void print_problem(image_t image, gongaurora_validation verdict)
 {
     printf("rule %" PRIu64 " at ", verdict.rule);
     print_path(image, verdict.node);
+    if (verdict.entry != 0) printf(", entry %" PRIu64, verdict.entry);
     printf(": %s\n", gongaurora_rule_text(verdict.rule));
 }
 

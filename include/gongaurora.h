@@ -12,7 +12,11 @@
  *
  *   Answers    `rule` is 0 where the call succeeded, else the rule that refused it (GONGAURORA_RULE_..). `node` is the node
  *              that the rule was broken at, 0 where the rule names none. The other fields of a refusal are 0, but for
- *              `element` of rule 45.
+ *              `entry` of rules 34 to 37 and `element` of rule 45.
+ *   Entries    Rules 34 to 37 judge the numbers of a section's ElementConnectivity one by one, and the first that breaks one of
+ *              them decides. `entry` is its place in the array, counted from 1; in a MIXED section the type numbers count as
+ *              places too. gongaurora_array_value with the array's node and this place tells the number itself. In every
+ *              other answer `entry` is 0.
  *   Memory     Lent memory is written by a call that succeeded, and there only as far as its answer says; a refused call
  *              leaves it as it was. The one exception is rule 45 of gongaurora_face_usage. No call writes the image or a
  *              section it is given, keeps a pointer, or allocates.
@@ -41,9 +45,9 @@
 
 /* The version of this header and of the archive beside it. */
 #define GONGAURORA_VERSION_MAJOR 0
-#define GONGAURORA_VERSION_MINOR 7
+#define GONGAURORA_VERSION_MINOR 8
 #define GONGAURORA_VERSION_PATCH 0
-#define GONGAURORA_VERSION "0.7.0"
+#define GONGAURORA_VERSION "0.8.0"
 
 #ifdef __cplusplus
 extern "C" {
@@ -52,8 +56,8 @@ extern "C" {
 /* ---- Rules ------------------------------------------------------------------------------------------------------ */
 
 /* Why a call was refused. An image is judged header first (1 to 6), then its records (7 to 17), then what is left over (18),
- * then node by node the meaning (20 to 38), at a node the lowest rule first, but 38 between 33 and 34; the first broken rule
- * is the answer. They stand here in this order. */
+ * then node by node the meaning (20 to 38), at a node the lowest rule first, but 38 between 33 and 34, and 34 to 37 entry by
+ * entry; the first broken rule is the answer. They stand here in this order. 19 and 22 are no rules. */
 enum gongaurora_rule {
     GONGAURORA_RULE_NONE = 0,             /* nothing is wrong */
 
@@ -96,8 +100,11 @@ enum gongaurora_rule {
     GONGAURORA_RULE_LAST_OFFSET = 32,     /* the last start offset is not the connectivity length */
     GONGAURORA_RULE_ELEMENT_SIZE = 33,    /* CellDimension 3, and a face of under 3 nodes or a cell of under 4 faces */
     GONGAURORA_RULE_MIXED_TYPE = 38,      /* MIXED: a stored type not in the list, or one that does not fit its start offsets */
+    /* the entries of its connectivity: nodes, in a section of type 23 faces; `entry` tells which */
     GONGAURORA_RULE_NODE_REFERENCE = 34,  /* a node number outside 1 to VertexSize */
-    GONGAURORA_RULE_FACE_REFERENCE = 35,  /* a face number that is no face of the zone */
+    GONGAURORA_RULE_ZERO_FACE = 35,       /* a face number that is 0 */
+    GONGAURORA_RULE_NO_ELEMENT = 36,      /* a face number that, without its sign, is no element of the zone */
+    GONGAURORA_RULE_NO_FACE = 37,         /* a face number that, without its sign, is an element of the zone but no face */
 
     /* the calls */
     GONGAURORA_RULE_NO_SUCH_NODE = 40,    /* no such node, or none of the kind asked for */
@@ -110,7 +117,7 @@ enum gongaurora_rule {
     GONGAURORA_RULE_VALUE_TYPE = 47       /* a data type whose values are not handed out */
 };
 
-/* The rule as one sentence for an error message. Static text; never NULL. */
+/* The rule in a sentence or two for an error message. Static text; never NULL. */
 static inline const char *gongaurora_rule_text(uint64_t rule)
 {
     switch (rule) {
@@ -149,7 +156,12 @@ static inline const char *gongaurora_rule_text(uint64_t rule)
     case 38: return "An element of the MIXED section begins with a type that is not 2 to 19 or 21, or its length in the start "
                     "offsets is not 1 + that type's nodes.";
     case 34: return "The section refers to a node outside 1 to VertexSize.";
-    case 35: return "The section refers to a face that the zone does not have.";
+    case 35: return "The section refers to face 0; elements are numbered from 1.";
+    case 36: return "The section refers to a face number that, without its sign, is in the ElementRange of no section of the "
+                    "zone. Look for numbers that count from 0 or are another zone's, and for a face section that is left out "
+                    "or whose own data or range do not conform.";
+    case 37: return "The section refers to an element of the zone that is no face: its section is not of type 22. Look for "
+                    "cells or boundary elements numbered into the faces, and for faces written as a fixed type.";
     case 40: return "There is no such node, or it is not of the kind asked for.";
     case 41: return "The element number is outside the section's range.";
     case 42: return "The corner or value number is out of range.";
@@ -168,9 +180,9 @@ static inline const char *gongaurora_rule_text(uint64_t rule)
  * each and little-endian, in a refusal too; where it has fewer bytes than that, the rule is 46 and nothing at all is written.
  * `section` is a gongaurora_section, as its 72 bytes or as its nine numbers; fewer are 46. */
 
-/* answer, 40 bytes: node, validated, skipped, zones, sections */
+/* answer, 48 bytes: node, entry, validated, skipped, zones, sections */
 uint64_t gongaurora_export_validate(const uint8_t *image, size_t length, uint8_t *answer, size_t room);
-/* out: nine numbers a section; answer, 16 bytes: node, count */
+/* out: nine numbers a section; answer, 24 bytes: node, entry, count */
 uint64_t gongaurora_export_sections(const uint8_t *image, size_t length, uint64_t zone, uint64_t *out, size_t numbers,
                                     uint8_t *answer, size_t room);
 /* number: 8 bytes, two's complement, written where the rule is 0; fewer are 46 */
@@ -182,17 +194,17 @@ uint64_t gongaurora_export_read_element(const uint8_t *image, size_t length, con
 /* answer, 8 bytes: type */
 uint64_t gongaurora_export_element_type(const uint8_t *image, size_t length, const uint64_t *section, size_t nine,
                                         uint64_t element, uint8_t *answer, size_t room);
-/* out: a byte a face; answer, 24 bytes: node, element, count */
+/* out: a byte a face; answer, 32 bytes: node, entry, element, count */
 uint64_t gongaurora_export_face_usage(const uint8_t *image, size_t length, uint64_t zone, uint8_t *out, size_t bytes,
                                       uint8_t *answer, size_t room);
-/* out: the path; answer, 16 bytes: node, count */
+/* out: the path; answer, 24 bytes: node, entry, count */
 uint64_t gongaurora_export_path(const uint8_t *image, size_t length, uint64_t node, uint8_t *out, size_t bytes,
                                 uint8_t *answer, size_t room);
-/* answer, 16 bytes: node, count */
+/* answer, 24 bytes: node, entry, count */
 uint64_t gongaurora_export_name_bytes(const uint8_t *image, size_t length, uint8_t *answer, size_t room);
-/* answer, 40 bytes: node, directions, i, j, k */
+/* answer, 48 bytes: node, entry, directions, i, j, k */
 uint64_t gongaurora_export_data_size(const uint8_t *image, size_t length, uint64_t node, uint8_t *answer, size_t room);
-/* answer, 24 bytes: node, kind, bits */
+/* answer, 32 bytes: node, entry, kind, bits */
 uint64_t gongaurora_export_array_value(const uint8_t *image, size_t length, uint64_t node, uint64_t k, uint8_t *answer,
                                        size_t room);
 
@@ -204,6 +216,7 @@ uint64_t gongaurora_export_array_value(const uint8_t *image, size_t length, uint
 typedef struct gongaurora_validation {
     uint64_t rule;      /* 0: accepted */
     uint64_t node;
+    uint64_t entry;     /* for 34 to 37 the place in the section's connectivity, else 0 */
     uint64_t validated; /* nodes that the rules speak of */
     uint64_t skipped;   /* all others: below user-defined data, or with unknown labels */
     uint64_t zones;     /* validated zones */
@@ -241,6 +254,7 @@ typedef struct gongaurora_section {
 typedef struct gongaurora_count {
     uint64_t rule;
     uint64_t node;
+    uint64_t entry;
     uint64_t count;
 } gongaurora_count;
 
@@ -303,6 +317,7 @@ static inline gongaurora_count gongaurora_read_element(const uint8_t *image, siz
 {
     gongaurora_count result;
     result.node = 0;
+    result.entry = 0;
     result.rule = gongaurora_export_read_element(image, length, (const uint64_t *)(const void *)section, 9, element, out, room,
                                                  (uint8_t *)&result.count, sizeof result.count);
     return result;
@@ -344,6 +359,7 @@ enum gongaurora_use {
 typedef struct gongaurora_usage {
     uint64_t rule;
     uint64_t node;    /* for 45 the section of cells */
+    uint64_t entry;
     uint64_t element; /* for 45 the cell that uses a face again, else 0 */
     uint64_t count;   /* the zone's number of faces, F */
 } gongaurora_usage;
@@ -401,6 +417,7 @@ static inline gongaurora_count gongaurora_name_bytes(const uint8_t *image, size_
 typedef struct gongaurora_sizes {
     uint64_t rule;
     uint64_t node;
+    uint64_t entry;
     uint64_t directions; /* 1 to 3 */
     uint64_t size[3];    /* 0 in a direction that the array lacks */
 } gongaurora_sizes;
@@ -426,8 +443,9 @@ enum gongaurora_kind {
 typedef struct gongaurora_value {
     uint64_t rule;
     uint64_t node;
-    uint64_t kind; /* GONGAURORA_KIND_.. */
-    uint64_t bits; /* as stored, of a NaN too */
+    uint64_t entry; /* always 0 */
+    uint64_t kind;  /* GONGAURORA_KIND_.. */
+    uint64_t bits;  /* as stored, of a NaN too */
 } gongaurora_value;
 
 /* The k-th stored value of any node. Works on a refused image too, as long as its rule is over 18.
@@ -442,10 +460,10 @@ static inline gongaurora_value gongaurora_array_value(const uint8_t *image, size
 }
 
 /* The structs are words with nothing between them, as the exports write and read them. */
-typedef char gongaurora_structs_are_words[sizeof(gongaurora_validation) == 48 && sizeof(gongaurora_section) == 72 &&
-                                          sizeof(gongaurora_count) == 24 && sizeof(gongaurora_corner) == 24 &&
-                                          sizeof(gongaurora_type) == 24 && sizeof(gongaurora_usage) == 32 &&
-                                          sizeof(gongaurora_sizes) == 48 && sizeof(gongaurora_value) == 32 ? 1 : -1];
+typedef char gongaurora_structs_are_words[sizeof(gongaurora_validation) == 56 && sizeof(gongaurora_section) == 72 &&
+                                          sizeof(gongaurora_count) == 32 && sizeof(gongaurora_corner) == 24 &&
+                                          sizeof(gongaurora_type) == 24 && sizeof(gongaurora_usage) == 40 &&
+                                          sizeof(gongaurora_sizes) == 56 && sizeof(gongaurora_value) == 40 ? 1 : -1];
 
 #ifdef __cplusplus
 }

@@ -55,16 +55,145 @@ static void check_validation(const char *folder)
     CHECK(verdict.rule == GONGAURORA_RULE_IMAGE_LENGTH && verdict.node == 0);
     verdict = gongaurora_validate(NULL, 0);
     CHECK(verdict.rule == GONGAURORA_RULE_IMAGE_LENGTH && verdict.node == 0);
-    load(folder, "near_33.img");
-    verdict = gongaurora_validate(image, length);
-    CHECK(verdict.rule == GONGAURORA_RULE_ELEMENT_SIZE && verdict.node == 9);
-    load(folder, "near_38.img");
-    verdict = gongaurora_validate(image, length);
-    CHECK(verdict.rule == GONGAURORA_RULE_MIXED_TYPE && verdict.node == 9);
-    load(folder, "near_35.img");
-    verdict = gongaurora_validate(image, length);
-    CHECK(verdict.rule == GONGAURORA_RULE_FACE_REFERENCE && verdict.node == 13);
-    CHECK(verdict.validated == 0 && verdict.skipped == 0 && verdict.zones == 0 && verdict.sections == 0);
+}
+
+/* The samples in the calls that validate: each gives validation's refusal with node and entry. */
+static void check_refusals(const char *folder)
+{
+    static const struct {
+        const char *name;
+        uint64_t rule, node, entry;
+    } known[] = {{"tetrahedron.img", 0, 0, 0},
+                 {"polyhedra.img", 0, 0, 0},
+                 {"hexahedra.img", 0, 0, 0},
+                 {"mixed.img", 0, 0, 0},
+                 {"structured_rind.img", 0, 0, 0},
+                 {"wall.img", 0, 0, 0},
+                 {"near_29.img", GONGAURORA_RULE_ELEMENT_LENGTHS, 9, 0},
+                 {"near_30.img", GONGAURORA_RULE_FIRST_OFFSET, 9, 0},
+                 {"near_31.img", GONGAURORA_RULE_OFFSET_ORDER, 9, 0},
+                 {"near_32.img", GONGAURORA_RULE_LAST_OFFSET, 9, 0},
+                 {"near_33.img", GONGAURORA_RULE_ELEMENT_SIZE, 9, 0},
+                 {"near_34.img", GONGAURORA_RULE_NODE_REFERENCE, 9, 12},
+                 {"near_35.img", GONGAURORA_RULE_ZERO_FACE, 13, 4},
+                 {"near_36.img", GONGAURORA_RULE_NO_ELEMENT, 13, 4},
+                 {"near_37.img", GONGAURORA_RULE_NO_FACE, 13, 4},
+                 {"near_38.img", GONGAURORA_RULE_MIXED_TYPE, 9, 0}};
+    size_t k;
+    for (k = 0; k < sizeof known / sizeof *known; k++) {
+        uint64_t rule = known[k].rule, node = known[k].node, entry = known[k].entry;
+        gongaurora_section sections[3];
+        uint8_t use[36];
+        gongaurora_validation verdict;
+        gongaurora_count found;
+        gongaurora_usage usage;
+        gongaurora_sizes sizes;
+        load(folder, known[k].name);
+        verdict = gongaurora_validate(image, length);
+        CHECK(verdict.rule == rule && verdict.node == node && verdict.entry == entry);
+        found = gongaurora_sections(image, length, 3, sections, 3);
+        CHECK(found.rule == rule && found.node == node && found.entry == entry);
+        usage = gongaurora_face_usage(image, length, 3, use, sizeof use);
+        CHECK(usage.rule == rule && usage.node == node && usage.entry == entry && usage.element == 0);
+        sizes = gongaurora_data_size(image, length, 0);
+        CHECK(rule == 0 ? sizes.rule == GONGAURORA_RULE_NO_SUCH_NODE : sizes.rule == rule);
+        CHECK(sizes.node == node && sizes.entry == entry);
+        if (rule == 0) continue;
+        CHECK(verdict.validated == 0 && verdict.skipped == 0 && verdict.zones == 0 && verdict.sections == 0);
+        CHECK(found.count == 0 && usage.count == 0);
+        CHECK(sizes.directions == 0 && sizes.size[0] == 0 && sizes.size[1] == 0 && sizes.size[2] == 0);
+    }
+}
+
+static void check_refusal(uint64_t rule, uint64_t node, uint64_t entry)
+{
+    gongaurora_validation verdict = gongaurora_validate(image, length);
+    CHECK(verdict.rule == rule && verdict.node == node && verdict.entry == entry);
+}
+
+/* The tetrahedron with other faces of its cell, element 5: the first that is wrong decides. */
+static void check_face_entries(const char *folder)
+{
+    static const struct {
+        uint32_t faces[4];
+        uint64_t rule, entry;
+    } known[] = {{{1, 2, 3, 4}, 0, 0},
+                 {{4, 0xffffffff, 0xfffffffd, 2}, 0, 0},
+                 {{0, 5, 6, 4}, GONGAURORA_RULE_ZERO_FACE, 1},
+                 {{5, 0, 6, 4}, GONGAURORA_RULE_NO_FACE, 1},
+                 {{6, 5, 0, 4}, GONGAURORA_RULE_NO_ELEMENT, 1},
+                 {{1, 0xfffffffb, 0, 6}, GONGAURORA_RULE_NO_FACE, 2},
+                 {{1, 2, 0xfffffffa, 0}, GONGAURORA_RULE_NO_ELEMENT, 3},
+                 {{1, 2, 3, 0x80000000}, GONGAURORA_RULE_NO_ELEMENT, 4}};
+    enum { FACES = 1828 };
+    size_t k, place;
+    load(folder, "tetrahedron.img");
+    for (k = 0; k < sizeof known / sizeof *known; k++) {
+        for (place = 0; place < 4; place++) set_word(FACES + 4 * place, known[k].faces[place]);
+        check_refusal(known[k].rule, known[k].rule == 0 ? 0 : 13, known[k].entry);
+    }
+}
+
+/* The sample of a MIXED section, whose element 19 begins at place 127 with its type: the type numbers are counted. */
+static void check_mixed_entries(const char *folder)
+{
+    enum { CONNECTIVITY = 2992, TYPE = 127, NODE = 128, LAST = 333, VERTICES = 64 };
+    load(folder, "mixed.img");
+    CHECK(word_at(CONNECTIVITY + 4 * (TYPE - 1)) == 17);
+    set_word(CONNECTIVITY + 4 * (LAST - 1), VERTICES + 1);
+    check_refusal(GONGAURORA_RULE_NODE_REFERENCE, 9, LAST);
+    set_word(CONNECTIVITY + 4 * (NODE - 1), 0);
+    check_refusal(GONGAURORA_RULE_NODE_REFERENCE, 9, NODE);
+    set_word(CONNECTIVITY + 4 * (TYPE - 1), 18);
+    check_refusal(GONGAURORA_RULE_MIXED_TYPE, 9, 0);
+}
+
+/* The number that a refusal's entry names, and the calls that need rules 1 to 18 alone: they have no entry. */
+static void check_entry_values(const char *folder)
+{
+    static const struct {
+        const char *name;
+        uint64_t array, entry, number;
+    } known[] = {{"near_34.img", 12, 12, 5}, {"near_35.img", 16, 4, 0}, {"near_36.img", 16, 4, 6}, {"near_37.img", 16, 4, 5}};
+    size_t k;
+    for (k = 0; k < sizeof known / sizeof *known; k++) {
+        uint8_t path[GONGAURORA_PATH_ROOM];
+        gongaurora_value value;
+        gongaurora_count answer;
+        load(folder, known[k].name);
+        value = gongaurora_array_value(image, length, known[k].array, known[k].entry);
+        CHECK(value.rule == 0 && value.node == 0 && value.entry == 0);
+        CHECK(value.kind == GONGAURORA_KIND_WHOLE && value.bits == known[k].number);
+        value = gongaurora_array_value(image, length, known[k].array, 13);
+        CHECK(value.rule == GONGAURORA_RULE_INDEX && value.node == 0 && value.entry == 0);
+        answer = gongaurora_path(image, length, known[k].array, path, sizeof path);
+        CHECK(answer.rule == 0 && answer.node == 0 && answer.entry == 0 && answer.count > 0);
+        answer = gongaurora_name_bytes(image, length);
+        CHECK(answer.rule == 0 && answer.node == 0 && answer.entry == 0 && answer.count == 88);
+    }
+}
+
+/* The words of a refusal as the export writes them, and the places of the fields in the structs. */
+static void check_words(const char *folder)
+{
+    uint8_t words[49], known[49];
+    load(folder, "near_34.img");
+    memset(words, 9, sizeof words);
+    memset(known, 9, sizeof known);
+    CHECK(gongaurora_export_validate(image, length, words, 47) == GONGAURORA_RULE_ROOM);
+    CHECK(gongaurora_export_validate(image, length, NULL, 0) == GONGAURORA_RULE_ROOM);
+    CHECK(memcmp(words, known, sizeof words) == 0);
+    memset(known, 0, 48);
+    known[0] = 9;
+    known[8] = 12;
+    CHECK(gongaurora_export_validate(image, length, words, 49) == GONGAURORA_RULE_NODE_REFERENCE);
+    CHECK(memcmp(words, known, sizeof words) == 0);
+    CHECK(sizeof(gongaurora_validation) == 8 + 48 && offsetof(gongaurora_validation, entry) == 16);
+    CHECK(sizeof(gongaurora_count) == 8 + 24 && offsetof(gongaurora_count, entry) == 16);
+    CHECK(sizeof(gongaurora_usage) == 8 + 32 && offsetof(gongaurora_usage, entry) == 16);
+    CHECK(sizeof(gongaurora_sizes) == 8 + 48 && offsetof(gongaurora_sizes, entry) == 16);
+    CHECK(sizeof(gongaurora_value) == 8 + 32 && offsetof(gongaurora_value, entry) == 16);
+    CHECK(sizeof(gongaurora_corner) == 24 && sizeof(gongaurora_type) == 24 && sizeof(gongaurora_section) == 72);
 }
 
 static void check_sections(const char *folder)
@@ -80,7 +209,8 @@ static void check_sections(const char *folder)
     load(folder, "tetrahedron.img");
     for (k = 0; k < 27; k++) ((uint64_t *)(void *)sections)[k] = 7;
     found = gongaurora_sections(image, length, 3, sections, 1);
-    CHECK(found.rule == GONGAURORA_RULE_ROOM && found.node == 0 && found.count == 0 && faces->node == 7);
+    CHECK(found.rule == GONGAURORA_RULE_ROOM && found.node == 0 && found.entry == 0 && found.count == 0);
+    CHECK(faces->node == 7);
     found = gongaurora_sections(image, length, 3, NULL, 0);
     CHECK(found.rule == GONGAURORA_RULE_ROOM && found.count == 0);
     found = gongaurora_sections(image, length, 2, sections, 3);
@@ -102,13 +232,14 @@ static void check_sections(const char *folder)
     read = gongaurora_read_corner(image, 1700, faces, 4, 3);
     CHECK(read.rule == GONGAURORA_RULE_UNREADABLE && read.number == 0);
     found = gongaurora_read_element(image, length, faces, 5, corners, 4);
-    CHECK(found.rule == GONGAURORA_RULE_ELEMENT_NUMBER && found.node == 0 && found.count == 0 && corners[0] == 9);
+    CHECK(found.rule == GONGAURORA_RULE_ELEMENT_NUMBER && found.node == 0 && found.entry == 0 && found.count == 0);
+    CHECK(corners[0] == 9);
     found = gongaurora_read_element(image, 1700, faces, 4, corners, 4);
     CHECK(found.rule == GONGAURORA_RULE_UNREADABLE && found.count == 0 && corners[0] == 9);
     found = gongaurora_read_element(image, length, faces, 4, corners, 2);
     CHECK(found.rule == GONGAURORA_RULE_ROOM && found.count == 0 && corners[0] == 9);
     found = gongaurora_read_element(image, length, faces, 4, corners, 4);
-    CHECK(found.rule == 0 && found.node == 0 && found.count == 3);
+    CHECK(found.rule == 0 && found.node == 0 && found.entry == 0 && found.count == 3);
     CHECK(corners[2] == 4 && corners[3] == 9);
     load(folder, "polyhedra.img");
     found = gongaurora_sections(image, length, 3, sections, 3);
@@ -259,7 +390,8 @@ static void check_face_usage(const char *folder)
     CHECK(use[0] == GONGAURORA_USE_FORWARD && use[1] == 1 && use[2] == 1 && use[3] == 1 && use[4] == 9);
     image[1828 + 12] = 3; /* the cell's faces are 1 2 3 3 now */
     answer = gongaurora_face_usage(image, length, 3, use, 5);
-    CHECK(answer.rule == GONGAURORA_RULE_FACE_REPEATED && answer.node == 13 && answer.element == 5 && answer.count == 0);
+    CHECK(answer.rule == GONGAURORA_RULE_FACE_REPEATED && answer.node == 13 && answer.entry == 0 && answer.element == 5);
+    CHECK(answer.count == 0);
     CHECK(use[0] == GONGAURORA_USE_NONE && use[3] == 0 && use[4] == 9);
 }
 
@@ -319,7 +451,7 @@ static void check_name_bytes(const char *folder)
     } known[] = {{"tetrahedron.img", 88}, {"polyhedra.img", 116}, {"hexahedra.img", 45}, {"structured_rind.img", 41},
                  {"wall.img", 43},        {"near_29.img", 88},    {"near_30.img", 88},   {"near_31.img", 88},
                  {"near_32.img", 88},     {"near_33.img", 88},    {"near_34.img", 88},   {"near_35.img", 88},
-                 {"near_38.img", 61},     {"mixed.img", 61}};
+                 {"near_36.img", 88},     {"near_37.img", 88},    {"near_38.img", 61},   {"mixed.img", 61}};
     gongaurora_count answer;
     size_t k;
     for (k = 0; k < sizeof known / sizeof *known; k++) {
@@ -354,18 +486,18 @@ static void check_changed_names(const char *folder)
 
 static void check_name_bytes_refused(const char *folder)
 {
-    uint8_t words[17], known[17];
+    uint8_t words[25], known[25];
     gongaurora_count answer;
     load(folder, "tetrahedron.img");
     memset(words, 9, sizeof words);
     memset(known, 9, sizeof known);
-    CHECK(gongaurora_export_name_bytes(image, length, words, 15) == GONGAURORA_RULE_ROOM);
+    CHECK(gongaurora_export_name_bytes(image, length, words, 23) == GONGAURORA_RULE_ROOM);
     CHECK(gongaurora_export_name_bytes(image, length, NULL, 0) == GONGAURORA_RULE_ROOM);
-    CHECK(gongaurora_export_name_bytes(image, 31, words, 15) == GONGAURORA_RULE_ROOM);
+    CHECK(gongaurora_export_name_bytes(image, 31, words, 23) == GONGAURORA_RULE_ROOM);
     CHECK(memcmp(words, known, sizeof words) == 0);
-    memset(known, 0, 16);
-    known[8] = 88;
-    CHECK(gongaurora_export_name_bytes(image, length, words, 17) == 0);
+    memset(known, 0, 24);
+    known[16] = 88;
+    CHECK(gongaurora_export_name_bytes(image, length, words, 25) == 0);
     CHECK(memcmp(words, known, sizeof words) == 0);
     answer = gongaurora_name_bytes(image, 31);
     CHECK(answer.rule == GONGAURORA_RULE_IMAGE_LENGTH && answer.node == 0 && answer.count == 0);
@@ -409,11 +541,17 @@ static void check_arrays(const char *folder)
 static void check_rule_texts(void)
 {
     const char *none = gongaurora_rule_text(48);
-    uint64_t rule;
+    uint64_t rule, other;
     for (rule = 0; rule <= 47; rule++) {
-        int known = rule != 19 && rule != 22 && rule != 36 && rule != 37 && rule != 39;
+        int known = rule != 19 && rule != 22 && rule != 39;
         CHECK((strcmp(gongaurora_rule_text(rule), none) != 0) == known);
+        for (other = 0; known && other < rule; other++)
+            CHECK(strcmp(gongaurora_rule_text(rule), gongaurora_rule_text(other)) != 0);
     }
+    CHECK(strstr(gongaurora_rule_text(GONGAURORA_RULE_ZERO_FACE), "face 0") != NULL);
+    CHECK(strstr(gongaurora_rule_text(GONGAURORA_RULE_NO_ELEMENT), "ElementRange of no section of the zone") != NULL);
+    CHECK(strstr(gongaurora_rule_text(GONGAURORA_RULE_NO_ELEMENT), "count from 0") != NULL);
+    CHECK(strstr(gongaurora_rule_text(GONGAURORA_RULE_NO_FACE), "not of type 22") != NULL);
     CHECK(strcmp(gongaurora_rule_text((uint64_t)1 << 32), none) == 0);
     CHECK(GONGAURORA_RULE_NONE == 0 && GONGAURORA_RULE_TRAILING == 18 && GONGAURORA_RULE_CONTAINMENT == 20);
 }
@@ -429,6 +567,11 @@ int main(int argc, char **argv)
 {
     if (argc != 2) return 2;
     check_validation(argv[1]);
+    check_refusals(argv[1]);
+    check_face_entries(argv[1]);
+    check_mixed_entries(argv[1]);
+    check_entry_values(argv[1]);
+    check_words(argv[1]);
     check_sections(argv[1]);
     check_mixed(argv[1]);
     check_changed_types(argv[1]);

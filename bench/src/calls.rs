@@ -2,27 +2,30 @@
 
 use reference::Section;
 
-/// The answer of validation: rule, node, validated, skipped, zones, sections.
+/// The answer of validation: rule, node, entry, validated, skipped, zones, sections.
 #[repr(C)]
 pub struct Validation {
     pub rule: u64,
     pub node: u64,
+    pub entry: u64,
     pub counts: [u64; 4],
 }
 
-/// The answer of the calls that count: rule, node, count.
+/// The answer of the calls that count: rule, node, entry, count.
 #[repr(C)]
 pub struct Count {
     pub rule: u64,
     pub node: u64,
+    pub entry: u64,
     pub count: u64,
 }
 
-/// The answer of face usage: rule, node, element, count.
+/// The answer of face usage: rule, node, entry, element, count.
 #[repr(C)]
 pub struct Usage {
     pub rule: u64,
     pub node: u64,
+    pub entry: u64,
     pub element: u64,
     pub count: u64,
 }

@@ -23,7 +23,7 @@ use names::{name_bytes_table, rules_table};
 use odd::Odd;
 use reference::elements::{MIXED, NGON_N};
 use reference::mesh::mesh;
-use reference::Counts;
+use reference::{Counts, Rejection};
 
 /// The number of the zone's node in a mesh of one zone.
 const ZONE: u64 = 3;
@@ -106,7 +106,7 @@ fn megabytes(image: &[u8]) -> f64 {
     image.len() as f64 / 1e6
 }
 
-/// Library and reference accept the image with the same counts, or reject it by this rule at the same node.
+/// Library and reference accept the image with the same counts, or reject it by this rule at the same node and entry.
 fn assert_verdict(name: &str, image: &[u8], rule: u64) {
     let verdict = validate(image);
     assert_eq!(verdict.rule, rule, "{name}");
@@ -114,7 +114,9 @@ fn assert_verdict(name: &str, image: &[u8], rule: u64) {
         Ok(Counts { validated, skipped, zones, sections }) => {
             assert_eq!((rule, verdict.counts), (0, [validated, skipped, zones, sections]), "{name}")
         }
-        Err(rejection) => assert_eq!((rule, verdict.node), (rejection.rule.into(), rejection.node), "{name}"),
+        Err(Rejection { rule: broken, node, entry, .. }) => {
+            assert_eq!((rule, verdict.node, verdict.entry), (broken.into(), node, entry), "{name}")
+        }
     }
 }
 

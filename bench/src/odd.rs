@@ -123,6 +123,22 @@ fn of_faces() -> Vec<Odd> {
                 flat_last_face(52),
             )
         },
+        Odd {
+            rule: 37,
+            ..odd(
+                "polyhedra I4, 52 x 52 x 52, a cell for the last face of the last cell: rule 37",
+                "cell_for_face",
+                cell_for_face(52),
+            )
+        },
+        Odd {
+            rule: 36,
+            ..odd(
+                "1,000 face sections apart, references at random among all, the last to no element: rule 36",
+                "last_no_element",
+                one_cell(&apart, &last_no_element(random, &apart)),
+            )
+        },
     ]
 }
 
@@ -248,6 +264,25 @@ fn flat_last_face(n: i64) -> Image {
     offsets.set_list(&starts);
     connectivity.set_list(&nodes);
     image
+}
+
+/// A mesh of polyhedra whose last cell refers to the first cell, last of all, in place of a face.
+fn cell_for_face(n: i64) -> Image {
+    let mut image = polyhedra(n, 4);
+    let [.., range, _, connectivity, _, _, _, _] = &mut image.nodes[..] else { panic!("the cells' children") };
+    let mut faces = connectivity.numbers();
+    faces.pop();
+    faces.push(range.numbers()[0]);
+    connectivity.set_list(&faces);
+    image
+}
+
+/// References at random among all faces, and last a number between two of them.
+fn last_no_element(random: &mut Random, faces: &[i64]) -> Vec<i64> {
+    let mut references = at_random(random, REFERENCES, faces);
+    references.pop();
+    references.push(faces[faces.len() - 1] - 1);
+    references
 }
 
 /// A section of one triangle for each number.

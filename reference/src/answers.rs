@@ -7,7 +7,7 @@ use crate::reader::{array_value, corner, corner_reads_into, data_size, element_c
 use crate::reader::{section_entries, section_entries_into, Section, Value, ENTRY_LENGTH};
 use crate::rejection::Rejection;
 use crate::table::check_table;
-use crate::validation::validate;
+use crate::validation::{validate, Counts};
 
 /// The byte that memory lent by the `into` queries is filled with.
 pub const FILLING: u8 = 170;
@@ -31,8 +31,18 @@ pub fn numbers<T: ToString>(items: impl IntoIterator<Item = T>) -> String {
 }
 
 /// `accept J P Z S`.
+fn accepted(counts: Counts) -> String {
+    format!("accept {} {} {} {}", counts.validated, counts.skipped, counts.zones, counts.sections)
+}
+
+/// `accept J P Z S`.
 pub fn validate_line(image: &[u8]) -> String {
-    line(validate(image), |c| format!("accept {} {} {} {}", c.validated, c.skipped, c.zones, c.sections))
+    line(validate(image), accepted)
+}
+
+/// The line that the program writes (document 01): `accept J P Z S`, or `refuse RULE NODE` without an entry.
+pub fn program_line(image: &[u8]) -> String {
+    validate(image).map_or_else(|rejection| format!("refuse {} {}", rejection.rule, rejection.node), accepted)
 }
 
 /// `accept N`.

@@ -62,6 +62,12 @@ impl<'a> Integers<'a> {
         (index < self.len()).then(|| signed_at(self.bytes, index * self.width, self.width))
     }
 
+    /// The integers from one index up to another, counted from 0; nothing where these are not there.
+    pub fn part(&self, start: usize, end: usize) -> Option<Integers<'a>> {
+        let bytes = self.bytes.get(start.checked_mul(self.width)?..end.checked_mul(self.width)?)?;
+        Some(Integers { bytes, ..*self })
+    }
+
     /// The last integer.
     pub fn last(&self) -> Option<i64> {
         self.len().checked_sub(1).and_then(|k| self.get(k))
@@ -74,5 +80,17 @@ impl<'a> Integers<'a> {
             8 => self.bytes.chunks_exact(8).all(|c| test(i64::from_le_bytes(c.try_into().unwrap()))),
             _ => true,
         }
+    }
+
+    /// What `found` answers for the first integer for which it answers something, with that integer's index, counted
+    /// from 0.
+    pub fn find<T>(&self, found: impl Fn(i64) -> Option<T>) -> Option<(usize, T)> {
+        let (mut index, mut answer) = (0, None);
+        self.all(|number| {
+            answer = found(number);
+            index += usize::from(answer.is_none());
+            answer.is_none()
+        });
+        answer.map(|answer| (index, answer))
     }
 }

@@ -7,6 +7,7 @@ use crate::mixed_cases::mixed_cases;
 use crate::name_cases::name_cases;
 use crate::once_cases::once_cases;
 use crate::point_cases::point_cases;
+use crate::reference_cases::reference_cases;
 
 /// The nodes of a tetrahedron's four faces (001).
 const FACE_NODES: [i64; 12] = [1, 3, 2, 1, 2, 4, 2, 3, 4, 3, 1, 4];
@@ -69,10 +70,10 @@ fn no_node() -> Vec<u8> {
     [1u32, 32, 0, 32, 32, 0, 32, 0].iter().flat_map(|word| word.to_le_bytes()).collect()
 }
 
-/// Case (i): case (a) with node 5 among the twelve.
+/// Case (i): case (a) with node 5 as the last of the twelve.
 fn node_five() -> Vec<u8> {
     let mut nodes = FACE_NODES;
-    nodes[7] = 5;
+    nodes[11] = 5;
     tetrahedron_with(12, &nodes)
 }
 
@@ -96,7 +97,8 @@ pub fn rind_planes() -> Vec<u8> {
 pub const RIND_ARRAY: u64 = 7;
 
 /// All cases, each with its name; (j) has three, those of points begin with `p1_`, those of flat faces and cells with
-/// `f2_`, those of name bytes with `n3_`, those of MIXED sections with `m4_`, those of labels allowed once with `o5_`.
+/// `f2_`, those of name bytes with `n3_`, those of MIXED sections with `m4_`, those of labels allowed once with `o5_`,
+/// those of references with `r6_`.
 pub fn cases() -> Vec<(&'static str, Vec<u8>)> {
     let a = tetrahedron().to_bytes();
     let b = a[..31].to_vec();
@@ -123,6 +125,7 @@ pub fn cases() -> Vec<(&'static str, Vec<u8>)> {
     cases.extend(name_cases());
     cases.extend(mixed_cases());
     cases.extend(once_cases());
+    cases.extend(reference_cases());
     cases
 }
 

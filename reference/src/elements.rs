@@ -1,8 +1,9 @@
-//! Element sections (document 01, "Sections"; document 02, §2 and §4): their element types, ranges, start offsets and
-//! connectivity, and rules 27 to 35 and 38, each as one test that says whether it holds at a validated node.
+//! Element sections (document 01, "Sections"; document 02, §2, §4 and §6): their element types, ranges, start offsets and
+//! connectivity; rules 27 to 33 and 38, each as one test that says whether it holds at a validated node; and rules 34 to
+//! 37, which are answered together, by the first reference that breaks one of them.
 
 use crate::bytes::Integers;
-use crate::face_ranges::Faces;
+use crate::face_ranges::{is_element, Faces};
 use crate::labels::Label;
 use crate::sids::range_of;
 use crate::sizes::{cell_dimension, zone_sizes};
@@ -134,8 +135,9 @@ impl<'a> SectionData<'a> {
         }
     }
 
-    /// Whether `test` holds for the start and the end of each element: a start offset and the one behind it.
-    fn all_elements(&self, test: impl Fn(i64, i64) -> bool) -> bool {
+    /// Whether `test` holds for the start and the end of each element, a start offset and the one behind it, asked in
+    /// order up to the first that fails.
+    fn all_elements(&self, mut test: impl FnMut(i64, i64) -> bool) -> bool {
         let mut start = None;
         self.offsets.all(|end| start.replace(end).is_none_or(|start| test(start, end)))
     }
@@ -152,13 +154,27 @@ impl<'a> SectionData<'a> {
         nodes.is_some_and(|nodes| i128::from(end) - i128::from(start) == i128::from(nodes) + 1)
     }
 
-    /// Whether `test` holds for each connectivity entry that is a reference: all but the types of a MIXED section.
-    fn all_references(&self, test: impl Fn(i64) -> bool) -> bool {
-        if self.shape() == Some(Shape::Mixed) {
-            self.all_elements(|start, end| (start..end).skip(1).all(|index| self.entry(index).is_none_or(&test)))
-        } else {
-            self.connectivity.all(test)
-        }
+    /// The first reference that breaks a rule, as `broken` answers it: of all connectivity entries but the types of a
+    /// MIXED section, which are counted all the same.
+    fn first_bad(&self, broken: impl Fn(i64) -> Option<u32>) -> Option<BadReference> {
+        let found =
+            if self.shape() == Some(Shape::Mixed) { self.find_node(broken) } else { self.connectivity.find(broken) };
+        found.map(|(index, rule)| BadReference { rule, entry: index as u64 + 1 })
+    }
+
+    /// The same in a MIXED section, element by element, with the entry's index, counted from 0.
+    fn find_node(&self, broken: impl Fn(i64) -> Option<u32>) -> Option<(usize, u32)> {
+        let find = |start: i64, end: i64| {
+            let first = usize::try_from(start).ok()?.checked_add(1)?;
+            let nodes = self.connectivity.part(first, usize::try_from(end).ok()?)?;
+            nodes.find(&broken).map(|(index, rule)| (first + index, rule))
+        };
+        let mut found = None;
+        self.all_elements(|start, end| {
+            found = find(start, end);
+            found.is_none()
+        });
+        found
     }
 }
 
@@ -239,28 +255,38 @@ pub fn stored_types_fit(tree: &Tree, node: usize) -> bool {
     })
 }
 
-/// Rule 34: every reference of a section that is not of type 23 is a node from 1 to VertexSize. Asked of a section that
-/// meets rules 29 to 32.
-pub fn nodes_in_zone(tree: &Tree, node: usize) -> bool {
-    let Some(zone) = tree.parent_labelled(node, Label::Zone) else {
-        return true;
-    };
-    of_section(tree, node, |s| {
-        let vertex_size = zone_sizes(tree, zone).vertex_size[0];
-        s.element_type == NFACE_N || s.all_references(|n| 1 <= n && n <= vertex_size)
-    })
+/// A reference that breaks one of rules 34 to 37, and its place in the connectivity, counted from 1.
+#[derive(Clone, Copy, Debug, PartialEq, Eq)]
+pub struct BadReference {
+    pub rule: u32,
+    pub entry: u64,
 }
 
-/// Rule 35: every reference of a section of type 23 is, by magnitude, a face of the zone.
-pub fn faces_in_zone(tree: &Tree, node: usize) -> bool {
-    let Some(zone) = tree.parent_labelled(node, Label::Zone) else {
-        return true;
-    };
-    of_section(tree, node, |s| {
-        if s.element_type != NFACE_N {
-            return true;
-        }
+/// Rules 34 to 37: the first bad reference of a section. Asked of a section that meets rules 29 to 32 and 38.
+///
+/// 34: a reference of a section that is not of type 23 is no node from 1 to VertexSize. Of a section of type 23: 35, a
+/// reference is zero; 36, its magnitude is no element of the zone; 37, it is an element of the zone and no face.
+pub fn bad_reference(tree: &Tree, node: usize) -> Option<BadReference> {
+    let zone = tree.parent_labelled(node, Label::Zone)?;
+    let section = SectionData::read(tree, node)?;
+    if section.element_type == NFACE_N {
         let faces = Faces::of_zone(tree, zone);
-        s.connectivity.all(|n| faces.index(n).is_some())
-    })
+        section.first_bad(|face| broken_by_face(tree, zone, &faces, face))
+    } else {
+        let vertex_size = zone_sizes(tree, zone).vertex_size[0];
+        section.first_bad(|node| (node < 1 || vertex_size < node).then_some(34))
+    }
+}
+
+/// The one of rules 35, 36 and 37 that a reference of a cell breaks; nothing for a face of the zone.
+fn broken_by_face(tree: &Tree, zone: usize, faces: &Faces, reference: i64) -> Option<u32> {
+    if faces.index(reference).is_some() {
+        None
+    } else if reference == 0 {
+        Some(35)
+    } else if is_element(tree, zone, reference.unsigned_abs()) {
+        Some(37)
+    } else {
+        Some(36)
+    }
 }

@@ -1,8 +1,24 @@
-//! The faces of a zone as rule 35 has them: ranges of element numbers, and the index of a face among them.
+//! The elements of a zone as rules 36 and 37 have them, and those of them that are faces: ranges of element numbers, and
+//! the index of a face among them.
 
 use crate::elements::{element_range, element_type_of, NGON_N};
 use crate::labels::Label;
 use crate::tree::Tree;
+
+/// The sections of a zone whose own node meets rules 24 and 25 and whose ElementRange conforms, in node order: the type
+/// and the range of each. Nothing else is asked of them, not even whether the type is taken.
+fn sections<'a>(tree: &'a Tree, zone: usize) -> impl Iterator<Item = (i64, (u64, u64))> + 'a {
+    tree.children_labelled(zone, Label::Elements).filter_map(|section| {
+        let element_type = element_type_of(tree, section)?;
+        let (first, last) = element_range(tree, section)?;
+        Some((element_type, (first as u64, last as u64)))
+    })
+}
+
+/// Whether a number is that of an element of a zone, of whatever type: it lies in the range of one of these sections.
+pub fn is_element(tree: &Tree, zone: usize, number: u64) -> bool {
+    sections(tree, zone).any(|(_, (first, last))| first <= number && number <= last)
+}
 
 /// The elements of one face section.
 #[derive(Clone, Copy, Debug, PartialEq, Eq)]
@@ -29,15 +45,9 @@ impl Faces {
     pub fn of_zone(tree: &Tree, zone: usize) -> Faces {
         let mut ranges = Vec::new();
         let mut count = 0;
-        for section in tree.children_labelled(zone, Label::Elements) {
-            if element_type_of(tree, section) != Some(NGON_N) {
-                continue;
-            }
-            if let Some((first, last)) = element_range(tree, section) {
-                let (first, last) = (first as u64, last as u64);
-                ranges.push(FaceRange { first, last, before: count });
-                count += last - first + 1;
-            }
+        for (_, (first, last)) in sections(tree, zone).filter(|(element_type, _)| *element_type == NGON_N) {
+            ranges.push(FaceRange { first, last, before: count });
+            count += last - first + 1;
         }
         ranges.sort_by_key(|range| range.first);
         let mut furthest = 0;

@@ -32,7 +32,7 @@ pub fn face_usage(image: &[u8], zone: u64, out: &mut [u8]) -> Result<usize, Reje
     Ok(count)
 }
 
-/// How many faces a zone has, as rule 35 has them; or the verdict's refusal, or 40.
+/// How many faces a zone has, as rule 37 has them; or the verdict's refusal, or 40.
 pub fn face_count(image: &[u8], zone: u64) -> Result<u64, Rejection> {
     let tree = validated_tree(image)?;
     let zone = zone_asked_for(&tree, zone)?;

@@ -4,7 +4,8 @@
 use std::collections::BTreeMap;
 
 use crate::build::Image;
-use crate::damage::{damages_of, flat_case, flips, mixed_case, name_case, point_case, Answer, Damage, DAMAGES};
+use crate::damage::{damages_of, flips, Answer, Damage, DAMAGES};
+use crate::damage::{flat_case, mixed_case, name_case, point_case, reference_case};
 use crate::lawful::{chain, lawful, SizeClass};
 use crate::random::Random;
 use crate::validation::validate;
@@ -28,32 +29,34 @@ enum Target {
     Names(usize),
     /// A case of MIXED sections (document 02, §4) of this number.
     Mixed(usize),
+    /// A case of references (document 02, §6) of this number.
+    References(usize),
 }
 
-/// How many indices make a round: each rule once, a lawful image before every second one, four others; eleven cases of
-/// points and eleven of MIXED sections, a third of their lists, eleven of flat faces and cells and eleven of name bytes,
-/// half of theirs.
-const ROUND: u64 = 34 + 17 + 4 + 4 * CASES;
-const CASES: u64 = 11;
+/// How many indices make a round: each rule once, a lawful image before every second one, six others; twelve cases of each
+/// of the five kinds, which go round their lists.
+const ROUND: u64 = 36 + 18 + 6 + 5 * CASES;
+const CASES: u64 = 12;
 
-/// The target of an index: of every nine the last four are cases, each case in its turn.
+/// The target of an index: of every ten the last five are cases, each case in its turn.
 fn target(index: u64) -> Target {
     let (round, place) = (index / ROUND, index % ROUND);
-    let (nine, within) = (place / 9, place % 9);
-    let case = (round * CASES + nine) as usize;
+    let (ten, within) = (place / 10, place % 10);
+    let case = (round * CASES + ten) as usize;
     match within {
         5 => return Target::Points(case),
         6 => return Target::Flat(case),
         7 => return Target::Names(case),
         8 => return Target::Mixed(case),
+        9 => return Target::References(case),
         _ => (),
     }
-    let place = (5 * nine + within) as usize;
+    let place = (5 * ten + within) as usize;
     match place {
-        0..51 if place.is_multiple_of(3) => Target::Lawful,
-        0..51 => Target::Rule(DAMAGES[place - place / 3 - 1].0),
-        51..53 => Target::Flips,
-        53 => Target::Several,
+        0..54 if place.is_multiple_of(3) => Target::Lawful,
+        0..54 => Target::Rule(DAMAGES[place - place / 3 - 1].0),
+        54..57 => Target::Flips,
+        57..59 => Target::Several,
         _ if round.is_multiple_of(4) => Target::Deep,
         _ => Target::Several,
     }
@@ -87,6 +90,9 @@ pub fn image(seed: u64, index: u64, class: SizeClass) -> Vec<u8> {
         Target::Mixed(number) => {
             with_case(&mut random, class, SizeClass::holds, |image, random| mixed_case(image, random, number))
         }
+        Target::References(number) => with_case(&mut random, class, SizeClass::holds, |image, random| {
+            reference_case(image, random, class, number)
+        }),
     }
 }
 

@@ -1,5 +1,5 @@
 //! The independent reference program: a validator and reader of CGNS node-table images, written from document 01 and
-//! §1 to §5 of document 02 alone.
+//! §1 to §6 of document 02 alone.
 //! Every public call answers on every input; a refusal is a [`Rejection`].
 //!
 //! Data flow one way: bytes → header → records → table → tree → rules → calls.
@@ -30,6 +30,7 @@ pub mod queries;
 pub mod random;
 pub mod reader;
 pub mod records;
+pub mod reference_cases;
 pub mod rejection;
 pub mod samples;
 pub mod sids;

@@ -75,7 +75,7 @@ fn run(arguments: &[String]) -> Result<String, String> {
 fn answer(call: &str, file: &str, numbers: &[u64]) -> Result<String, String> {
     let image = || read(file);
     Ok(match (call, numbers) {
-        ("validate", []) => validate_line(&image()?),
+        ("validate", []) => program_line(&image()?),
         ("table", []) => table_line(&image()?),
         ("name-bytes", []) => name_bytes_line(&image()?),
         ("path", [node]) => path_line(&image()?, *node),
@@ -161,7 +161,7 @@ fn write_mesh(kind: &str, n: u64, width: u64, file: &str) -> Result<String, Stri
     Ok(format!("{} bytes, {}\n", image.len(), validate_line(&image)))
 }
 
-/// A line `NAME verdict` for every image of a folder, sorted by name.
+/// A line `NAME verdict` for every image of a folder, sorted by name; verdicts as the program writes them.
 fn answers(folder: &str) -> Result<String, String> {
     let entries = fs::read_dir(folder).map_err(|problem| format!("{folder}: {problem}"))?;
     let mut files: Vec<PathBuf> = entries
@@ -172,7 +172,7 @@ fn answers(folder: &str) -> Result<String, String> {
     let mut text = String::new();
     for file in files {
         let name = file.file_name().unwrap_or_default().to_string_lossy();
-        text += &format!("{name} {}\n", validate_line(&read(&file)?));
+        text += &format!("{name} {}\n", program_line(&read(&file)?));
     }
     Ok(text)
 }

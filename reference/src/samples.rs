@@ -1,4 +1,4 @@
-//! The sample images: small lawful meshes, flow data at points, and one near miss for each of rules 29 to 35 and 38.
+//! The sample images: small lawful meshes, flow data at points, and one near miss for each of rules 29 to 38.
 
 use crate::build::{Image, Node};
 use crate::cases::{beginning, case};
@@ -19,7 +19,9 @@ pub fn samples() -> Vec<(&'static str, Vec<u8>)> {
         ("near_32", case("g")),
         ("near_33", case("f2_face")),
         ("near_34", case("i")),
-        ("near_35", case("j5")),
+        ("near_35", case("j0")),
+        ("near_36", case("r6_none")),
+        ("near_37", case("j5")),
         ("near_38", prism_as_hexahedron().to_bytes()),
     ]
 }

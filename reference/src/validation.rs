@@ -1,8 +1,8 @@
 //! The whole verdict (document 01, "Rule numbers"): header, records, trailing words or bytes, then the nodes in order, at
-//! a node the lowest rule first, but for 38, which comes before 34 (document 02, §4). There is no rule 22 (document 02,
-//! §5).
+//! a node the lowest rule first, but for 38, which comes before 34 (document 02, §4), and for 34 to 37, of which the first
+//! failing entry decides (document 02, §6). There is no rule 22 (document 02, §5).
 
-use crate::elements::{faces_in_zone, nodes_in_zone, none_flat, stored_types_fit};
+use crate::elements::{bad_reference, none_flat, stored_types_fit};
 use crate::elements::{first_offset_zero, last_offset_is_length, offsets_rise};
 use crate::elements::{lengths_fit, range_free, type_taken};
 use crate::labels::Label;
@@ -24,8 +24,9 @@ pub struct Counts {
 /// A rule of validated nodes: its number, and whether it holds at a node.
 pub type NodeRule = (u32, fn(&Tree, usize) -> bool);
 
-/// The rules of a validated node in the order in which they are asked. This list alone knows it.
-pub const NODE_RULES: [NodeRule; 16] = [
+/// The rules of a validated node in the order in which they are asked, but for 34 to 37, which come behind all of them.
+/// This list alone knows it.
+pub const NODE_RULES: [NodeRule; 14] = [
     (20, contained),
     (21, fixed_name_used),
     (23, required_children),
@@ -40,11 +41,9 @@ pub const NODE_RULES: [NodeRule; 16] = [
     (32, last_offset_is_length),
     (33, none_flat),
     (38, stored_types_fit),
-    (34, nodes_in_zone),
-    (35, faces_in_zone),
 ];
 
-/// The four counts of an accepted image, or the first broken rule and its node.
+/// The four counts of an accepted image, or the first broken rule, its node and, for rules 34 to 37, its entry.
 pub fn validate(image: &[u8]) -> Result<Counts, Rejection> {
     validated_tree(image).map(|tree| counts(&tree))
 }
@@ -56,13 +55,17 @@ pub fn validated_tree(image: &[u8]) -> Result<Tree<'_>, Rejection> {
     Ok(tree)
 }
 
-/// The first broken of these rules: at the lowest validated node, there the first of the list.
+/// The first broken of these rules and of 34 to 37: at the lowest validated node, there the first of the list, and behind
+/// the list the rule of the first bad reference.
 pub fn check_nodes(tree: &Tree, rules: &[NodeRule]) -> Result<(), Rejection> {
     for node in (0..tree.count()).filter(|&node| tree.is_validated(node)) {
         for &(rule, holds) in rules {
             if !holds(tree, node) {
                 return Err(Rejection::at_node(rule, node));
             }
+        }
+        if let Some(bad) = bad_reference(tree, node) {
+            return Err(Rejection::at_entry(bad.rule, node, bad.entry));
         }
     }
     Ok(())

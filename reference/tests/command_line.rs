@@ -20,7 +20,7 @@ fn folder(name: &str) -> PathBuf {
 #[test]
 fn calls() {
     let place = folder("cases");
-    assert_eq!(run(&["cases", place.to_str().unwrap()]), "cases 120\n");
+    assert_eq!(run(&["cases", place.to_str().unwrap()]), "cases 169\n");
     let file = |name: &str| place.join(format!("{name}.img")).to_str().unwrap().to_string();
     let (a, l) = (file("a"), file("l"));
     assert_eq!(run(&["validate", &a]), "accept 17 0 1 2\n");
@@ -54,6 +54,41 @@ fn calls() {
     let first = "validate = accept 17 0 1 2\ntable = accept 17\nname-bytes = bytes 88\npath 0 = /\n";
     assert!(run(&["queries", "1", &a]).starts_with(first));
     assert_eq!(run(&["corner", &a]), "");
+}
+
+#[test]
+fn the_entry_of_a_refusal() {
+    let place = folder("entries");
+    run(&["cases", place.to_str().unwrap()]);
+    let file = |name: &str| place.join(format!("{name}.img")).to_str().unwrap().to_string();
+    for (name, line, entry) in [
+        ("i", "refuse 34 9", " entry 12"),
+        ("j0", "refuse 35 13", " entry 4"),
+        ("jmin", "refuse 36 13", " entry 4"),
+        ("j5", "refuse 37 13", " entry 4"),
+        ("m4_node_zero", "refuse 34 5", " entry 11"),
+        ("f2_cell", "refuse 33 13", ""),
+        ("m4_faces", "refuse 38 5", ""),
+        ("b", "refuse 1 0", ""),
+    ] {
+        let image = file(name);
+        assert_eq!(run(&["validate", &image]), format!("{line}\n"));
+        let answers = run(&["answers", place.to_str().unwrap()]);
+        assert!(answers.lines().any(|answer| answer == format!("{name}.img {line}")), "{name}");
+        let whole = format!("{line}{entry}");
+        for call in ["sizes", "entries", "usage"] {
+            assert_eq!(run(&[call, &image, "3"]), format!("{whole}\n"), "{name} {call}");
+        }
+        assert_eq!(run(&["usage-into", &image, "3", "1"]), format!("{whole} room 170\n"));
+        assert_eq!(run(&["list-into", &image, "3", "0"]), format!("{whole} room\n"));
+        let queries = run(&["queries", "1", &image]);
+        assert!(queries.starts_with(&format!("validate = {whole}\n")), "{name}");
+        assert!(queries.lines().any(|query| query == format!("usage 0 = {whole}")), "{name}");
+    }
+    assert_eq!(run(&["table", &file("j0")]), "accept 17\n");
+    assert_eq!(run(&["path", &file("j0"), "99"]), "refuse 40 0\n");
+    assert_eq!(run(&["value", &file("j0"), "16", "4"]), "whole 0\n");
+    assert_eq!(run(&["usage", &file("l"), "3"]), "refuse 45 13 5\n");
 }
 
 #[test]

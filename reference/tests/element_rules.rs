@@ -1,5 +1,5 @@
-//! Rules 27 to 35 on changes of case (a): 9 faces (10 range, 11 offsets, 12 nodes), 13 cells (14, 15, 16). For rule 33 see
-//! `flat.rs`, for sections of type 20 `mixed/`.
+//! Rules 27 to 37 on changes of case (a): 9 faces (10 range, 11 offsets, 12 nodes), 13 cells (14, 15, 16). For rule 33 see
+//! `flat.rs`, for sections of type 20 `mixed/`, for entries `references.rs`.
 
 use reference::build::{Image, Node};
 use reference::cases::tetrahedron;
@@ -49,7 +49,7 @@ fn element_types() {
 #[test]
 fn fixed_sections() {
     let triangles = |i: &mut Image| i.nodes[9].set_numbers(&[5, 0]);
-    assert_eq!(changed(triangles), (35, 13));
+    assert_eq!(changed(triangles), (37, 13));
     let alone = |i: &mut Image| {
         triangles(i);
         i.remove(13);
@@ -105,11 +105,11 @@ fn node_references() {
 
 #[test]
 fn face_references() {
-    for number in [0, 5, -5, i64::from(i32::MIN), 2_147_483_647] {
-        assert_eq!(changed(|i| i.nodes[16].set_numbers(&[1, 2, 3, number])), (35, 13));
+    for (number, rule) in [(0, 35), (5, 37), (-5, 37), (i64::from(i32::MIN), 36), (2_147_483_647, 36)] {
+        assert_eq!(changed(|i| i.nodes[16].set_numbers(&[1, 2, 3, number])), (rule, 13));
     }
     for number in [i64::MIN, i64::MAX, -(1 << 32) - 1, 1 << 32] {
-        assert_eq!(changed(|i| widen(&mut i.nodes[16], &[1, 2, 3, number])), (35, 13));
+        assert_eq!(changed(|i| widen(&mut i.nodes[16], &[1, 2, 3, number])), (36, 13));
     }
     assert_eq!(changed(|i| widen(&mut i.nodes[16], &[-1, 2, -3, 4])), (0, 0));
 }
@@ -120,11 +120,11 @@ fn faces_of_later_sections() {
     assert_eq!(cells_first(|i| i.nodes[15].set_numbers(&[0, 3, 6, 9, 11])), (32, 13));
     assert_eq!(cells_first(|i| i.remove(16)), (23, 13));
     assert_eq!(cells_first(|i| i.remove(15)), (29, 13));
-    assert_eq!(cells_first(|i| i.nodes[14].set_numbers(&[0, 4])), (35, 9));
-    assert_eq!(cells_first(|i| i.nodes[14].set_numbers(&[1, 3])), (35, 9));
-    assert_eq!(cells_first(|i| i.nodes[13].set_numbers(&[22, -1])), (35, 9));
-    assert_eq!(cells_first(|i| i.nodes[13].data_type = *b"U4"), (35, 9));
-    assert_eq!(cells_first(|i| i.nodes[13].set_numbers(&[5, 0])), (35, 9));
+    assert_eq!(cells_first(|i| i.nodes[14].set_numbers(&[0, 4])), (36, 9));
+    assert_eq!(cells_first(|i| i.nodes[14].set_numbers(&[1, 3])), (36, 9));
+    assert_eq!(cells_first(|i| i.nodes[13].set_numbers(&[22, -1])), (36, 9));
+    assert_eq!(cells_first(|i| i.nodes[13].data_type = *b"U4"), (36, 9));
+    assert_eq!(cells_first(|i| i.nodes[13].set_numbers(&[5, 0])), (37, 9));
     assert_eq!(cells_first(|i| i.nodes[14].set_numbers(&[1, 5])), (28, 13));
 }
 
@@ -148,5 +148,7 @@ fn faces_of_another_zone_are_none() {
     image.add(cells, Node::integers("ElementRange", "IndexRange_t", 4, &[2], &[1, 1]));
     image.add(cells, Node::list("ElementStartOffset", 8, &[0, 4]));
     image.add(cells, Node::list("ElementConnectivity", 8, &[1, 2, 3, 4]));
-    assert_eq!(refusal(&image), (35, 19));
+    assert_eq!(refusal(&image), (37, 19));
+    image.nodes[cells + 1].set_numbers(&[9, 9]);
+    assert_eq!(refusal(&image), (36, 19));
 }

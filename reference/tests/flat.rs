@@ -90,13 +90,13 @@ fn the_sizes_come_before_the_references() {
             assert_eq!(refusal(&image), (node, 4));
         }
     }
-    for (cells, face) in [([3, 4, 4], 33), ([4, 4, 3], 33), ([4, 4, 4], 35)] {
-        for (place, number) in [(0, 0), (0, 2), (5, 11), (10, i64::from(i32::MIN))] {
+    for (cells, flat) in [([3, 4, 4], true), ([4, 4, 3], true), ([4, 4, 4], false)] {
+        for (place, number, face) in [(0, 0, 35), (0, 2, 36), (5, 101, 37), (10, i64::from(i32::MIN), 36)] {
             let mut image = mesh([3, 3], &[3], &cells, 4);
             let mut references = image.nodes[11].numbers();
             references[place] = number;
             image.nodes[11].set_numbers(&references);
-            assert_eq!(refusal(&image), (face, 8));
+            assert_eq!(refusal(&image), (if flat { 33 } else { face }, 8));
         }
     }
 }
@@ -127,9 +127,9 @@ fn the_lower_section_comes_first() {
     let faces = add_section(&mut image, zone, 22, 1, &[2], 4);
     assert_eq!(refusal(&image), (33, faces as u64));
     image.nodes[cells + 3].set_numbers(&[1, 1, 1, 2]);
-    assert_eq!(refusal(&image), (35, cells as u64));
+    assert_eq!(refusal(&image), (36, cells as u64));
     image.nodes[cells + 1].set_numbers(&[1, 1]);
-    assert_eq!(refusal(&image), (35, cells as u64));
+    assert_eq!(refusal(&image), (36, cells as u64));
     image.nodes[cells + 3].set_numbers(&[1, 1, 1, 1]);
     assert_eq!(refusal(&image), (28, faces as u64));
 }

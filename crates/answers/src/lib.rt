@@ -18,10 +18,10 @@ use model::FaceUsage;
 use model::Rejection;
 use model::Validation;
 
-// A rule, 0 for none, and up to five words: the node, and the values.
+// A rule, 0 for none, and up to six words: the node, the entry, and the values.
 pub struct ExportAnswer {
     pub rule: u64,
-    pub words: [u64; 5],
+    pub words: [u64; 6],
 }
 
 // Writes words in front of lent bytes; the rest stays.
@@ -46,20 +46,20 @@ pub fn put_answer(out: &mut [u8], answer: ExportAnswer, n: usize) -> u64
     answer.rule
 }
 
-// An answer with four values: no rule, no node.
+// An answer with four values: no rule, no node, no entry.
 fn answered(first: u64, second: u64, third: u64, fourth: u64) -> ExportAnswer
-    ensures { λ r. ⌜ (r .rule ≡ 0) × (r .words ≡ 0 ∷ first ∷ second ∷ third ∷ fourth ∷ []) ⌝ }
+    ensures { λ r. ⌜ (r .rule ≡ 0) × (r .words ≡ 0 ∷ 0 ∷ first ∷ second ∷ third ∷ fourth ∷ []) ⌝ }
 {
-    let words = [0, first, second, third, fourth];
+    let words = [0, 0, first, second, third, fourth];
     ExportAnswer { rule: 0, words }
 }
 
-// A rejection: its rule, its node, an element, and no more.
+// A rejection: its rule, its node, its entry, an element, and no more.
 fn rejected(r: Rejection, element: u64) -> ExportAnswer
-    ensures { λ a. ⌜ (a .rule ≡ r .rule) × (a .words ≡ r .node ∷ element ∷ 0 ∷ 0 ∷ 0 ∷ []) ⌝ }
+    ensures { λ a. ⌜ (a .rule ≡ r .rule) × (a .words ≡ r .node ∷ r .entry ∷ element ∷ 0 ∷ 0 ∷ 0 ∷ []) ⌝ }
 {
     let rule = r.rule;
-    let words = [r.node, element, 0, 0, 0];
+    let words = [r.node, r.entry, element, 0, 0, 0];
     ExportAnswer { rule, words }
 }
 
@@ -73,9 +73,9 @@ fn whole_bits(x: i64) -> u64
     x as u64
 }
 
-// Validation: node and the four counts.
+// Validation: node, entry and the four counts.
 pub fn validation_answer(v: Validation) -> ExportAnswer
-    ensures { λ r. ⌜ (r .rule ≡ ruleOf (validationTells v)) × (take 5 (r .words) ≡ validationWords (validationTells v)) ⌝ }
+    ensures { λ r. ⌜ (r .rule ≡ ruleOf (validationTells v)) × (take 6 (r .words) ≡ validationWords (validationTells v)) ⌝ }
 {
     match v {
         Validation::Accepted {
@@ -88,9 +88,9 @@ pub fn validation_answer(v: Validation) -> ExportAnswer
     }
 }
 
-// A count: node and count.
+// A count: node, entry, count.
 pub fn count_answer(c: Count) -> ExportAnswer
-    ensures { λ r. ⌜ (r .rule ≡ ruleOf (countTells c)) × (take 2 (r .words) ≡ countWords (countTells c)) ⌝ }
+    ensures { λ r. ⌜ (r .rule ≡ ruleOf (countTells c)) × (take 3 (r .words) ≡ countWords (countTells c)) ⌝ }
 {
     match c {
         Count::Of(n) => answered(n, 0, 0, 0),
@@ -98,9 +98,9 @@ pub fn count_answer(c: Count) -> ExportAnswer
     }
 }
 
-// Face usage: node, element, count.
+// Face usage: node, entry, element, count.
 pub fn usage_answer(u: FaceUsage) -> ExportAnswer
-    ensures { λ r. ⌜ (r .rule ≡ ruleOf (usageTells u)) × (take 3 (r .words) ≡ usageWords (usageTells u)) ⌝ }
+    ensures { λ r. ⌜ (r .rule ≡ ruleOf (usageTells u)) × (take 4 (r .words) ≡ usageWords (usageTells u)) ⌝ }
 {
     match u {
         FaceUsage::Faces(n) => answered(0, n, 0, 0),
@@ -110,15 +110,15 @@ pub fn usage_answer(u: FaceUsage) -> ExportAnswer
 
 // The bits of a single.
 fn single_answer(bits: u32) -> ExportAnswer
-    ensures { λ r. ⌜ (r .rule ≡ 0) × (take 3 (r .words) ≡ 0 ∷ 2 ∷ bits ∷ []) ⌝ }
+    ensures { λ r. ⌜ (r .rule ≡ 0) × (take 4 (r .words) ≡ 0 ∷ 0 ∷ 2 ∷ bits ∷ []) ⌝ }
 {
     answered(2, bits as u64, 0, 0)
 }
 
-// An array value: node, kind, bits.
+// An array value: node, entry, kind, bits.
 pub fn value_answer(v: ArrayValue) -> ExportAnswer
     requires { ⌜ NanCases v ⌝ }
-    ensures { λ r. ⌜ (r .rule ≡ ruleOf (valueTells v)) × (take 3 (r .words) ≡ valueWords (valueTells v)) ⌝ }
+    ensures { λ r. ⌜ (r .rule ≡ ruleOf (valueTells v)) × (take 4 (r .words) ≡ valueWords (valueTells v)) ⌝ }
 {
     match v {
         ArrayValue::Whole(x) => answered(1, whole_bits(x), 0, 0),
@@ -130,9 +130,9 @@ pub fn value_answer(v: ArrayValue) -> ExportAnswer
     }
 }
 
-// A DataSize: node, directions and the size in each.
+// A DataSize: node, entry, directions and the size in each.
 pub fn size_answer(d: DataSize) -> ExportAnswer
-    ensures { λ r. ⌜ (r .rule ≡ ruleOf (dataSizeTells d)) × (take 5 (r .words) ≡ sizeWords (dataSizeTells d)) ⌝ }
+    ensures { λ r. ⌜ (r .rule ≡ ruleOf (dataSizeTells d)) × (take 6 (r .words) ≡ sizeWords (dataSizeTells d)) ⌝ }
 {
     match d {
         DataSize::Sizes {

@@ -10,7 +10,7 @@ use model::Section;
 use model::Table;
 use model::Validation;
 
-// `refuse`, the rule and the node, and of 45 the element.
+// `refuse`, the rule and the node, and of 45 the element; `entry` and its place where there is one.
 fn refusal(r: Rejection) {
     io::write_all(1, b"refuse ");
     io::print_decimal(1, r.rule);
@@ -19,6 +19,10 @@ fn refusal(r: Rejection) {
     if r.rule == 45 {
         io::write_all(1, b" ");
         io::print_decimal(1, r.element);
+    }
+    if 0 < r.entry {
+        io::write_all(1, b" entry ");
+        io::print_decimal(1, r.entry);
     }
 }
 

@@ -1,10 +1,3 @@
-pub mod Agree
 pub mod Offsets
-pub mod Stored
-pub mod SectionContext
-pub mod RangeLaws
-pub mod FaceLaws
-pub mod RuleLaws
 pub mod ShapeLaws
 pub mod StageLaws
-pub mod MixedLaws

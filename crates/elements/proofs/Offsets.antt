@@ -14,7 +14,7 @@ use Rattle.model.specs.Corner.{numberAt}
 use Rattle.model.proofs.Logic.{and-first, and-second, and-true}
 use Rattle.model.proofs.Loops.{EveryLeft, every-start, every-more, every-stop}
 use Rattle.elements.specs.Arrays.{risesAt, largeAt, risesBy}
-use Rattle.elements.proofs.Agree.{every-same, every-both}
+use Rattle.model.proofs.Walks.{every-same, every-both}
 
 -- of two numbers of which x is not negative: y is above x where it is not negative and greater
 pub below-low : (w x y : ℕ) → x < half w → below w x y ≡ (not (leb (half w) y) && ltb x y)

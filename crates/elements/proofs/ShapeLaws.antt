@@ -1,63 +1,26 @@
 -- Rules 29 to 33 of a section against rows of the image's bytes.
-use Prim.Native.Nat.{ℕ, zero, suc, _+_, _*_, _-_, _≤_, _<_}
-use mathlib.Core.Path.{_≡_, refl, sym, ap, _∙_}
+use Prim.Native.Nat.{ℕ, suc, _+_, _*_, _-_, _≤_, _<_}
+use mathlib.Core.Path.{_≡_, refl, sym, _∙_}
 use mathlib.Core.Bool.{Bool, true, false, cond, _||_}
-use mathlib.Core.List.{List, []}
+use mathlib.Core.List.{List}
 use native.Mathlib.Omega.{arith}
-use lib.Dec.{eqb, ltb}
-use lib.ListN.{length, getD, drop}
-use borrow.Author.Tests.{eqb-true, ne-eqb, eq-eqb, le-leb, lt-ltb, ltb-true, ltb-false}
+use lib.Dec.{eqb}
+use borrow.Author.Tests.{eqb-true, ne-eqb, eq-eqb, le-leb}
 use Rattle.model.specs.Lists.{_⊃_, row, everyFrom}
-use Rattle.model.specs.Bytes.{le, numbers}
 use Rattle.model.specs.Rules.{check, passed, rejected, rejection}
-use Rattle.model.specs.Image.{Tree, nodeOf, nodesOf, treeOf, nodeCount, wordCount, node, parent, number, dimensions}
+use Rattle.model.specs.Image.{Tree, treeOf, parent, number}
 use Rattle.model.specs.Given.{Sound}
-use Rattle.model.specs.Containment.{found}
 use Rattle.model.specs.Values.{size, cellDimension, offsetsOf}
 use Rattle.model.specs.Elements.{nodesPer, hasOffsets, elementType, elementCount, connectivityLength, lengthsFit, startOffset, startsAtZero, rises, allRise}
 use Rattle.model.specs.Elements.{MIXED, NGON, NFACE, sizeOf, startOf, layoutOf, endsAtLength, elementSize, leastSize, largeEnough, allLargeEnough}
 use Rattle.model.proofs.Logic.{untrue}
 use Rattle.model.specs.Corner.{numberAt}
-use Rattle.model.proofs.Bounds.{node-placed}
-use Rattle.types.proofs.StoredNumbers.{flat-is}
 use Rattle.rows.specs.declared.Row.{Row}
 use Rattle.elements.specs.Arrays.{risesAt, largeAt, offsetRules}
-use Rattle.elements.specs.Groups.{shapeRules}
-use Rattle.elements.specs.Given.{Indexed, RowOf, SectionContext}
-use Rattle.elements.proofs.RuleLaws.{row-number}
-use Rattle.elements.proofs.Agree.{every-same, every-holds}
-use Rattle.model.proofs.Reading.{rank-is}
-
--- past the last node there are no dimensions
-nodes-past : (n : ℕ) (s : List ℕ) (i : ℕ) → n ≤ i → getD (nodesOf n s) i (nodeOf []) ≡ nodeOf []
-unfolding nodesOf
-nodes-past zero s i h = refl
-nodes-past (suc n) s zero h = absurd (omega arith)
-nodes-past (suc n) s (suc i) h = nodes-past n (drop 84 s) i (omega arith)
-
-pub no-size : (b : List ℕ) (j : ℕ) → nodeCount b ≤ j → size (treeOf b) j ≡ 0
-unfolding size dimensions node treeOf nodeOf le numbers
-no-size b j h = rw (nodes-past (nodeCount b) (drop 32 b) j h)
-
--- a node with one dimension has its word
-module _ {b : List ℕ} (s : Sound b) {j : ℕ} (a : Indexed b j) where
-  pub one-word : node (treeOf b) j .rank ≡ 1
-  one-word = sym (rank-is (treeOf b) j) ∙ ap length (flat-is (treeOf b) j (a .one-dimension))
-
-  pub words-inside : node (treeOf b) j .firstWord + node (treeOf b) j .rank ≤ wordCount b
-  words-inside = node-placed b (s .table) j (a .numbers .inside) .words-in
-
--- conforming start offsets; there are some where their count is not 0
-pub offsets-there : {b : List ℕ} {s : ℕ} → SectionContext b s → {j : ℕ} → j ≡ offsetsOf (treeOf b) s → j < nodeCount b → Indexed b j
-unfolding found treeOf
-offsets-there {b} d e h = rw e (d .offsets (lt-ltb _ _ (rw e at h)))
-
-pub offsets-found : (b : List ℕ) (j r n : ℕ) → r ≡ size (treeOf b) j → r ≡ n + 1 → j < nodeCount b
-offsets-found b j r n e q = by-test (ltb j (nodeCount b)) refl
-  where
-    by-test : (t : Bool) → ltb j (nodeCount b) ≡ t → j < nodeCount b
-    by-test true h = ltb-true j (nodeCount b) h
-    by-test false h = absurd (omega (arith, no-size b j (ltb-false j (nodeCount b) h)))
+use Rattle.references.specs.Groups.{shapeRules}
+use Rattle.section_data.specs.Given.{RowOf, SectionContext}
+use Rattle.section_data.proofs.ArrayLaws.{row-number}
+use Rattle.model.proofs.Walks.{every-same, every-holds}
 
 -- n is small
 pub count-small : {b : List ℕ} {s : ℕ} → SectionContext b s → {n : ℕ} → n ≡ elementCount (treeOf b) s → n ≤ 2147483647

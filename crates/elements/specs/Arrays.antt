@@ -1,16 +1,12 @@
--- Rows of numbers in bytes, and what rules 31, 33, 34 and 35 ask of each number of a row.
-use Prim.Native.Nat.{ℕ, suc, _-_, _≤_, _<_}
-use mathlib.Core.Path.{_≡_}
-use mathlib.Core.Bool.{Bool, true, _&&_, _||_}
+-- Rows of start offsets in bytes, and what rules 30 to 33 ask of them.
+use Prim.Native.Nat.{ℕ, suc, _-_}
+use mathlib.Core.Bool.{Bool, _&&_}
 use mathlib.Core.List.{List, [], _∷_}
 use lib.Dec.{eqb, leb}
 use Rattle.model.specs.Lists.{everyFrom}
 use Rattle.model.specs.Rules.{Rule, _unless_}
-use Rattle.model.specs.Bytes.{below, magnitude}
+use Rattle.model.specs.Bytes.{below}
 use Rattle.model.specs.Corner.{numberAt}
-use Rattle.rows.specs.declared.Row.{Row}
-use Rattle.ranges.specs.declared.Interval.{Interval}
-use Rattle.ranges.specs.Tables as Tables
 
 -- 31: number k is below the next
 unfoldable pub risesAt : List ℕ → ℕ → ℕ → ℕ → Bool
@@ -32,21 +28,3 @@ offsetRules b at w n size least =
     ∷ 32 unless eqb (numberAt b at w n) size
     ∷ 33 unless everyFrom (largeAt b at w least) n 0
     ∷ []
-
--- 34: number k lies in 1 to limit
-unfoldable pub isWithin : List ℕ → ℕ → ℕ → ℕ → ℕ → Bool
-isWithin b at w limit k = leb 1 (numberAt b at w k) && leb (numberAt b at w k) limit
-
--- one of two intervals holds f
-abbrev pub isKnown : Interval → Interval → ℕ → Bool
-isKnown last before f = Tables.isWithin last f || Tables.isWithin before f
-
--- one of them holds the magnitude of number i of a row
-abbrev pub knownAt : List ℕ → Row → Interval → Interval → ℕ → Bool
-knownAt b row last before i = isKnown last before (magnitude (row .width) (numberAt b (row .at) (row .width) i))
-
--- the numbers from k to j, of n, meet a test
-pub record Passed (p : ℕ → Bool) (n k j : ℕ) : Type 0 where
-  pub from : k ≤ j
-  pub to : j ≤ n
-  pub each : (i : ℕ) → k ≤ i → i < j → p i ≡ true

@@ -7,17 +7,16 @@ ghost use Rattle.words.specs.Width.{isWidth};
 ghost use Rattle.model.specs.Lists.{everyFrom};
 ghost use Rattle.model.specs.Bytes.{half, below};
 ghost use Rattle.model.specs.Corner.{numberAt};
-ghost use Rattle.model.specs.Image.{treeOf, nodeCount};
+ghost use Rattle.model.specs.Image.{treeOf};
 ghost use Rattle.model.specs.Given.{Sound};
-ghost use Rattle.model.specs.Values.{size};
 ghost use Rattle.model.specs.Elements.{hasOffsets, elementType, elementCount, connectivityLength, leastSize};
 ghost use Rattle.model.specs.Rules.{check};
 ghost use Rattle.model.specs.Answers.{stageTells};
 ghost use Rattle.index.specs.Index.{Index};
 ghost use Rattle.rows.specs.Rows.{Numbers};
 ghost use Rattle.elements.specs.Arrays.{risesBy, offsetRules};
-ghost use Rattle.elements.specs.Given.{Indexed, RowOf, SectionContext};
-ghost use Rattle.elements.specs.Groups.{shapeRules};
+ghost use Rattle.section_data.specs.Given.{SectionContext};
+ghost use Rattle.references.specs.Groups.{shapeRules};
 use element_types::NFACE;
 use element_types::NGON;
 use element_types::has_offsets;
@@ -25,30 +24,9 @@ use element_types::nodes_per;
 use model::Rejection;
 use model::Stage;
 use rows::Row;
+use section_data::row_of;
+use section_data::size_of;
 use sids::offsets_of;
-
-// How many numbers node j stores in its one dimension; 0 where there is no such node.
-fn size_of(image: &[u8], j: usize) -> u64
-    requires { ⌜ Sound (now image) × (j ≤ nodeCount (now image)) ⌝ }
-    requires { ⌜ (j < nodeCount (now image) → Indexed (now image) j) ⌝ }
-    ensures { λ r. ⌜ r ≡ size (treeOf (now (image .entry))) j ⌝ }
-{
-    if labels::node_count(image) <= j {
-        return 0;
-    }
-    records::dimension(image, j, 0)
-}
-
-// The numbers that node j stores in its one dimension.
-pub fn row_of(image: &[u8], j: usize) -> Row
-    requires { ⌜ Sound (now image) × Indexed (now image) j ⌝ }
-    ensures { λ r. ⌜ RowOf (now (image .entry)) j r ⌝ }
-{
-    let at = records::data_start(image, j);
-    let width = records::width_at(image, j);
-    let n = size_of(image, j) as usize;
-    Row { at, width, n }
-}
 
 // Is y above x, and by at least `least`, of two numbers of a width of which x is not negative?
 fn rises(x: u64, y: u64, width: usize, least: u64) -> bool

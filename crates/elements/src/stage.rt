@@ -1,30 +1,30 @@
-// Rules 27 to 35 and 38 at a section, in the order of the model: 38 between 33 and 34.
+// Rules 27 to 38 at a section, in the order of the model: 38 between 33 and 34.
 ghost use mathlib.Core.Path.{_≡_};
 ghost use mathlib.Core.Bool.{true};
 ghost use Rattle.model.specs.Image.{treeOf, nodeCount};
 ghost use Rattle.model.specs.Given.{NodesTo};
 ghost use Rattle.model.specs.Containment.{role, validated, Elements};
 ghost use Rattle.model.specs.Values.{sidsRules};
-ghost use Rattle.model.specs.Elements.{elementType, elementCount, elementRules};
+ghost use Rattle.model.specs.Elements.{elementType, elementCount, elementRules, referenceCheck};
 ghost use Rattle.model.specs.Rules.{check, passed, _then_};
 ghost use Rattle.model.specs.Answers.{stageTells};
 ghost use Prim.Native.Nat.{_≤_};
 ghost use lib.ListN.{length};
 ghost use Rattle.model.specs.Lists.{seekFrom};
 ghost use Rattle.index.specs.Index.{Index};
-ghost use Rattle.elements.specs.Ranges.{overlapAt, Faces};
-ghost use Rattle.elements.specs.Given.{SectionContext};
-ghost use Rattle.elements.specs.Groups.{shapeRules, referenceRules};
-use super::lengths::row_of;
+ghost use Rattle.section_data.specs.Ranges.{overlapAt, Faces};
+ghost use Rattle.section_data.specs.Given.{SectionContext};
+ghost use Rattle.references.specs.Groups.{shapeRules, connectivityCheck};
 use super::lengths::shape_stage;
-use super::references::reference_stage;
 use element_types::is_supported;
 use model::Rejection;
 use model::Stage;
+use references::reference_stage;
+use section_data::row_of;
 use sids::connectivity_of;
 use sids::range_of;
 
-// Rules 29 to 35 and 38 at section s, with n elements.
+// Rules 29 to 38 at section s, with n elements.
 fn array_stage(
     image: &[u8],
     index: &[u16],
@@ -39,7 +39,7 @@ fn array_stage(
     requires { ⌜ Index (now image) (now index) × SectionContext (now image) s ⌝ }
     requires { ⌜ («element_type» ≡ elementType (treeOf (now image)) s) × (n ≡ elementCount (treeOf (now image)) s) ⌝ }
     requires { ⌜ Faces (treeOf (now image)) (now firsts) (now reach) faces × (2048 ≤ length (now levels)) ⌝ }
-    ensures { λ r. ⌜ stageTells r ≡ (check s (shapeRules (treeOf (now (image .entry))) s) then check s (referenceRules (treeOf (now (image .entry))) s)) ⌝ }
+    ensures { λ r. ⌜ stageTells r ≡ (check s (shapeRules (treeOf (now (image .entry))) s) then connectivityCheck (treeOf (now (image .entry))) s) ⌝ }
 {
     let row = row_of(image, connectivity_of(image, index, s));
     let shape = shape_stage(image, index, s, element_type, n, row.n as u64);
@@ -59,7 +59,7 @@ fn array_stage(
     )
 }
 
-// Rules 27 to 35 and 38 at section s, to which validation has come, and where rules 20 to 26 hold. `overlap` is the first node that breaks rule 28; the tables
+// Rules 27 to 38 at section s, to which validation has come, and where rules 20 to 26 hold. `overlap` is the first node that breaks rule 28; the tables
 // hold the faces of all zones.
 pub fn element_stage(
     image: &[u8],
@@ -76,7 +76,7 @@ pub fn element_stage(
     requires { ⌜ check s (sidsRules (treeOf (now image)) s) ≡ passed ⌝ }
     requires { ⌜ overlap ≡ seekFrom (overlapAt (treeOf (now image))) (nodeCount (now image)) 0 ⌝ }
     requires { ⌜ Faces (treeOf (now image)) (now firsts) (now reach) faces × (2048 ≤ length (now levels)) ⌝ }
-    ensures { λ r. ⌜ stageTells r ≡ check s (elementRules (treeOf (now (image .entry))) s) ⌝ }
+    ensures { λ r. ⌜ stageTells r ≡ (check s (elementRules (treeOf (now (image .entry))) s) then referenceCheck (treeOf (now (image .entry))) s) ⌝ }
 {
     let element_type = types::whole(image, s, 0);
     if !is_supported(element_type) {

@@ -2,33 +2,33 @@
 use Prim.Native.Nat.{ℕ, zero, suc, _+_, _*_, _-_, _≤_, _<_, max}
 use mathlib.Core.Path.{_≡_, refl, sym, ap, subst, _∙_}
 use mathlib.Core.Bool.{Bool, true, false, cond, _&&_}
-use mathlib.Core.List.{List, [], _∷_}
+use mathlib.Core.List.{List}
 use native.Mathlib.Omega.{arith}
 use lib.Dec.{eqb, leb}
-use borrow.Author.Tests.{leb-true}
+use borrow.Author.Tests.{eqb-true, leb-true}
 use Rattle.model.specs.Lists.{seekFrom, sumBefore, countFrom}
 use Rattle.model.specs.Bytes.{text}
-use Rattle.model.specs.Image.{treeOf, nodeCount, parent, number, I4}
+use Rattle.model.specs.Image.{treeOf, nodeCount, parent, number}
 use Rattle.model.specs.Given.{Accepted}
 use Rattle.model.specs.Containment.{sectionOf, found, Elements, IndexRange}
-use Rattle.model.specs.Values.{sidsRules, typed, typeLawful, valueLawful, rangeOf}
-use Rattle.model.specs.Elements.{NGON, NFACE, elementType, firstElement, lastElement, elementCount, inRange, connectivityLength, elementRules}
-use Rattle.model.specs.Elements.{faceSection, hasFace, faceOf, faceNumber, isFace, allFaces}
+use Rattle.model.specs.Values.{sidsRules, typeLawful, valueLawful, rangeOf}
+use Rattle.model.specs.Elements.{NGON, NFACE, elementType, firstElement, lastElement, elementCount, inRange, connectivityLength}
+use Rattle.model.specs.Elements.{conformingSection, faceSection, hasFace, faceOf, faceNumber}
 use Rattle.model.specs.FaceUsage.{facesIn, faceCount, facePlace}
-use Rattle.model.proofs.Logic.{untrue, and-first, and-second, when, and-true}
-use Rattle.model.proofs.Walks.{every-at, some-at, seek-holds, seek-before, sum-part}
+use Rattle.model.proofs.Logic.{untrue, and-first, and-second, and-both}
+use Rattle.model.proofs.Walks.{some-at, seek-holds, seek-before, sum-part}
 use Rattle.model.proofs.Accepted.{sids-rule}
 use Rattle.model.proofs.Conforming.{section-is, conforming-inside, conforming-parent, conforming-role}
-use Rattle.model.proofs.InZone.{InZone, parts, role-is, section-rule, range-found}
-use Rattle.model.proofs.References.{InRange, one-section}
+use Rattle.model.proofs.InZone.{InZone, parts, role-is, range-found}
+use Rattle.model.proofs.References.{InRange, one-section, reference-face}
 use Rattle.index.specs.Index.{Index, kind}
 use Rattle.index.proofs.Marking.{kind-role}
 use Rattle.types.specs.Given.{HasNumber}
-use Rattle.types.proofs.StoredNumbers.{whole-four, has-pair, has-less}
 use Rattle.ranges.proofs.Cases.{both}
 use Rattle.ranges.proofs.Half.{half}
-use Rattle.elements.specs.Given.{Ranged}
-use Rattle.elements.proofs.Stored.{type-section, range-ready, stores-has}
+use Rattle.section_data.specs.Given.{Ranged}
+use Rattle.section_data.proofs.Stored.{range-ready, stores-has}
+use Rattle.section_data.proofs.RangeLaws.{lawful-has}
 use Rattle.face_places.specs.declared.zone_sections.Span.{Span}
 use Rattle.face_places.specs.ZoneSections.{Section, Spans}
 
@@ -79,21 +79,17 @@ module _ {b : List ℕ} (a : Accepted b) (z : ℕ) where
 
     -- its type can be read
     pub section-has : HasNumber b s 0
-    section-has =
-        let l = sym (type-section (treeOf b) s (role-is in-zone)) ∙ type-lawful in
-        has-less b s 1 0
-        (has-pair b (a .sound) s h (whole-four (treeOf b) s (and-first (typed (treeOf b) s (I4 ∷ [])) _ l)) (and-second (typed (treeOf b) s (I4 ∷ [])) _ l))
-        (omega arith)
+    section-has = lawful-has (a .sound) s h (role-is in-zone) (and-both _ _ type-lawful value-lawful)
 
   -- a face section: a section of type 22
   pub face-section-is : (s : ℕ) → s < nodeCount b → faceSection (treeOf b) z s ≡ (sectionOf (treeOf b) z s && eqb (elementType (treeOf b) s) NGON)
-  unfolding faceSection
+  unfolding faceSection conformingSection
   face-section-is s h = by-test (sectionOf (treeOf b) z s) refl
     where
       by-test : (u : Bool) → sectionOf (treeOf b) z s ≡ u
-          → (u && typeLawful (treeOf b) s && valueLawful (treeOf b) s && eqb (elementType (treeOf b) s) NGON && found (treeOf b) (rangeOf (treeOf b) s))
+          → (u && typeLawful (treeOf b) s && valueLawful (treeOf b) s && found (treeOf b) (rangeOf (treeOf b) s) && eqb (elementType (treeOf b) s) NGON)
           ≡ (u && eqb (elementType (treeOf b) s) NGON)
-      by-test true e = rw (type-lawful s h e, value-lawful s h e, range-found (in-zone s h e)) (and-true _)
+      by-test true e = rw (type-lawful s h e, value-lawful s h e, range-found (in-zone s h e))
       by-test false e = refl
 
   module _ (s : ℕ) (h : s < nodeCount b) (e : faceSection (treeOf b) z s ≡ true) where
@@ -172,14 +168,11 @@ module _ {b : List ℕ} (a : Accepted b) (z : ℕ) where
   unfolding faceOf treeOf
   place-below f e = let u = some-at (hasFace (treeOf b) z f) (nodeCount b) 0 e in place-is (u .at) f (omega (arith, u .to)) (u .holds) .1
 
-  -- 35: each reference of a cell section is to a face of the zone
+  -- 35 to 37: each reference of a cell section is to a face of the zone
   pub cells-faces : (s : ℕ) → s < nodeCount b → (sectionOf (treeOf b) z s && eqb (elementType (treeOf b) s) NFACE) ≡ true
       → (k : ℕ) → k < connectivityLength (treeOf b) s → faceOf (treeOf b) z (faceNumber (treeOf b) s k) ≡ true
-  unfolding elementRules allFaces isFace
   cells-faces s h e k l =
-      let i = in-zone s h (and-first (sectionOf (treeOf b) z s) _ e) in
-      let faces = when (eqb (elementType (treeOf b) s) NFACE) (allFaces (treeOf b) s) (section-rule i 35) (and-second (sectionOf (treeOf b) z s) _ e) in
-      rw (parts i .parent-is) at (every-at (isFace (treeOf b) s) (connectivityLength (treeOf b) s) 0 k faces (omega arith) (omega arith))
+      reference-face (in-zone s h (and-first (sectionOf (treeOf b) z s) _ e)) (eqb-true _ _ (and-second (sectionOf (treeOf b) z s) _ e)) k l
 
   -- how many faces a node brings, and the nodes before i together
   few-faces : (s : ℕ) → s < nodeCount b → facesIn (treeOf b) z s ≤ 2147483647

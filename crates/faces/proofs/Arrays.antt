@@ -22,8 +22,8 @@ use Rattle.model.proofs.InZone.{role-is, connectivity, offsets, offsets-size}
 use Rattle.rows.specs.declared.Row.{Row}
 use Rattle.rows.specs.Rows.{endsAfterAt}
 use Rattle.index.specs.Index.{Index}
-use Rattle.elements.specs.Given.{Stores, Indexed}
-use Rattle.elements.proofs.Stored.{dataFrom, stores-row, stores-number, connectivity-stores, offsets-stores}
+use Rattle.section_data.specs.Given.{Stores, Indexed}
+use Rattle.section_data.proofs.Stored.{dataFrom, stores-row, stores-number, connectivity-stores, offsets-stores}
 use Rattle.face_places.specs.declared.zone_sections.Span.{Span}
 use Rattle.face_places.specs.ZoneSections.{Cells, Spans}
 use Rattle.faces.specs.Uses.{RowOf, References}

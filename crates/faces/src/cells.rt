@@ -4,7 +4,7 @@ ghost use Prim.Native.Nat.{_<_};
 ghost use Rattle.model.specs.Image.{treeOf, nodeCount};
 ghost use Rattle.model.specs.Given.{Sound, Accepted};
 ghost use Rattle.model.specs.FaceUsage.{elementHolding};
-ghost use Rattle.elements.specs.Given.{Stores};
+ghost use Rattle.section_data.specs.Given.{Stores};
 ghost use Rattle.index.specs.Index.{Index};
 ghost use Rattle.face_places.specs.ZoneSections.{Cells};
 ghost use Rattle.faces.specs.Uses.{RowOf, References};

@@ -19,6 +19,7 @@ use model::FaceUsage;
 use model::Rejection;
 use model::Stage;
 use ranges::search_tree;
+use ranges::search_tree::SearchTree;
 use usage_bytes::clear;
 
 // Writes the usage of the zone's faces, whose ranges are at hand, into the first F bytes: 45, and F zeros, where one is used twice with one sign.
@@ -50,7 +51,8 @@ fn fill(
     FaceUsage::Faces(n)
 }
 
-// The usage of the faces of zone z: 44 where out is too short, 45 where a face is used twice with one sign. Bytes after the first F stay.
+// The usage of the faces of zone z: 44 where out is too short, 45 where a face is used twice with one sign. Bytes after the first F stay. A tree is
+// made where there are two face sections or more.
 pub fn zone_usage(
     image: &[u8],
     index: &[u16],
@@ -69,6 +71,15 @@ pub fn zone_usage(
     let count = gather(image, index, z, firsts, reach, &mut places);
     if (out.len() as u64) < places[count] {
         return FaceUsage::Rejected(Rejection::at(44, 0));
+    }
+    if count < 2 {
+        let tree = SearchTree { from: 0, lowest: 0 };
+        let faces = Faces {
+            zone: z,
+            count,
+            tree,
+        };
+        return fill(image, index, faces, firsts, reach, &places, levels, out);
     }
     let tree = search_tree::build(firsts, count, 0, levels);
     let faces = Faces {

@@ -14,32 +14,32 @@ use Rattle.model.specs.ReadList.{ruleOf}
 use Rattle.model.specs.Exports.{validationWords, countWords, usageWords, valueWords, sizeWords, wordsFit, exportRule, exportBytes, exportMemory}
 
 -- how many words an answer has
-pub validation-five : (a : Answer Counts) → length (validationWords a) ≡ 5
+pub validation-six : (a : Answer Counts) → length (validationWords a) ≡ 6
 unfolding validationWords
-validation-five (rejected r) = refl
-validation-five (answer c) = refl
+validation-six (rejected r) = refl
+validation-six (answer c) = refl
 
-pub count-two : (a : Answer ℕ) → length (countWords a) ≡ 2
+pub count-three : (a : Answer ℕ) → length (countWords a) ≡ 3
 unfolding countWords
-count-two (rejected r) = refl
-count-two (answer n) = refl
+count-three (rejected r) = refl
+count-three (answer n) = refl
 
-pub usage-three : (a : Answer ℕ) → length (usageWords a) ≡ 3
+pub usage-four : (a : Answer ℕ) → length (usageWords a) ≡ 4
 unfolding usageWords
-usage-three (rejected r) = refl
-usage-three (answer n) = refl
+usage-four (rejected r) = refl
+usage-four (answer n) = refl
 
-pub value-three : (a : Answer Value) → length (valueWords a) ≡ 3
+pub value-four : (a : Answer Value) → length (valueWords a) ≡ 4
 unfolding valueWords
-value-three (rejected r) = refl
-value-three (answer (whole n)) = refl
-value-three (answer (single bits)) = refl
-value-three (answer (double bits)) = refl
+value-four (rejected r) = refl
+value-four (answer (whole n)) = refl
+value-four (answer (single bits)) = refl
+value-four (answer (double bits)) = refl
 
-pub size-five : (a : Answer Sizes) → length (sizeWords a) ≡ 5
+pub size-six : (a : Answer Sizes) → length (sizeWords a) ≡ 6
 unfolding sizeWords
-size-five (rejected r) = refl
-size-five (answer s) = refl
+size-six (rejected r) = refl
+size-six (answer s) = refl
 
 -- an answer of n words
 module _ {A : Type 0} (words : Answer A → List ℕ) (n : ℕ) (long : (a : Answer A) → length (words a) ≡ n) (out : List ℕ) (a : Answer A) where

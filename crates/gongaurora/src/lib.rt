@@ -22,24 +22,24 @@ use answers::validation_answer;
 use answers::value_answer;
 
 // How many words each answer has, of 8 bytes each.
-const VALIDATION_WORDS: usize = 5;
+const VALIDATION_WORDS: usize = 6;
 
-const SECTIONS_WORDS: usize = 2;
+const SECTIONS_WORDS: usize = 3;
 
-const USAGE_WORDS: usize = 3;
+const USAGE_WORDS: usize = 4;
 
-const PATH_WORDS: usize = 2;
+const PATH_WORDS: usize = 3;
 
-const NAMES_WORDS: usize = 2;
+const NAMES_WORDS: usize = 3;
 
-const VALUE_WORDS: usize = 3;
+const VALUE_WORDS: usize = 4;
 
-const SIZE_WORDS: usize = 5;
+const SIZE_WORDS: usize = 6;
 
-// Whether the image meets every rule. The answer, five words: node, nodes validated, nodes skipped, zones, sections.
+// Whether the image meets every rule. The answer, six words: node, entry, nodes validated, nodes skipped, zones, sections.
 #[no_mangle]
 pub extern "C" fn gongaurora_export_validate(image: &[u8], answer: &mut [u8]) -> u64
-    ensures { λ r. ⌜ r ≡ exportRule 5 (now (answer .entry)) (validation (now (image .entry))) ⌝ }
+    ensures { λ r. ⌜ r ≡ exportRule 6 (now (answer .entry)) (validation (now (image .entry))) ⌝ }
     ensures { λ _. ⌜ now (answer .exit) ≡ exportBytes (now (answer .entry)) (validationWords (validation (now (image .entry)))) ⌝ }
 {
     if answer.len() < 8 * VALIDATION_WORDS {
@@ -126,7 +126,7 @@ pub extern "C" fn gongaurora_export_element_type(
     )
 }
 
-// The section entries of a zone as flat numbers in front of `out`. The answer, two words: node, count of entries.
+// The section entries of a zone as flat numbers in front of `out`. The answer, three words: node, entry, count of sections.
 #[no_mangle]
 pub extern "C" fn gongaurora_export_sections(
     image: &[u8],
@@ -134,11 +134,11 @@ pub extern "C" fn gongaurora_export_sections(
     out: &mut [u64],
     answer: &mut [u8],
 ) -> u64
-    ensures { λ r. ⌜ r ≡ exportRule 2 (now (answer .entry)) (sectionsAnswer (now (image .entry)) zone (length (now (out .entry)) / 9)) ⌝ }
+    ensures { λ r. ⌜ r ≡ exportRule 3 (now (answer .entry)) (sectionsAnswer (now (image .entry)) zone (length (now (out .entry)) / 9)) ⌝ }
     ensures { λ _. ⌜ now (answer .exit)
         ≡ exportBytes (now (answer .entry)) (countWords (sectionsAnswer (now (image .entry)) zone (length (now (out .entry)) / 9))) ⌝ }
     ensures { λ _. ⌜ now (out .exit)
-        ≡ exportMemory 2 (now (answer .entry)) (now (out .entry)) (sectionNumbersMemory (now (image .entry)) zone (now (out .entry))) ⌝ }
+        ≡ exportMemory 3 (now (answer .entry)) (now (out .entry)) (sectionNumbersMemory (now (image .entry)) zone (now (out .entry))) ⌝ }
 {
     if answer.len() < 8 * SECTIONS_WORDS {
         return 46;
@@ -150,7 +150,7 @@ pub extern "C" fn gongaurora_export_sections(
     )
 }
 
-// The usage of a zone's faces, a byte each, in front of `out`. The answer, three words: node, element (of rule 45), count of faces.
+// The usage of a zone's faces, a byte each, in front of `out`. The answer, four words: node, entry, element (of rule 45), count of faces.
 #[no_mangle]
 pub extern "C" fn gongaurora_export_face_usage(
     image: &[u8],
@@ -158,9 +158,9 @@ pub extern "C" fn gongaurora_export_face_usage(
     out: &mut [u8],
     answer: &mut [u8],
 ) -> u64
-    ensures { λ r. ⌜ r ≡ exportRule 3 (now (answer .entry)) (usageAnswer (now (image .entry)) zone (length (now (out .entry)))) ⌝ }
+    ensures { λ r. ⌜ r ≡ exportRule 4 (now (answer .entry)) (usageAnswer (now (image .entry)) zone (length (now (out .entry)))) ⌝ }
     ensures { λ _. ⌜ now (answer .exit) ≡ exportBytes (now (answer .entry)) (usageWords (usageAnswer (now (image .entry)) zone (length (now (out .entry))))) ⌝ }
-    ensures { λ _. ⌜ now (out .exit) ≡ exportMemory 3 (now (answer .entry)) (now (out .entry)) (usageMemory (now (image .entry)) zone (now (out .entry))) ⌝ }
+    ensures { λ _. ⌜ now (out .exit) ≡ exportMemory 4 (now (answer .entry)) (now (out .entry)) (usageMemory (now (image .entry)) zone (now (out .entry))) ⌝ }
 {
     if answer.len() < 8 * USAGE_WORDS {
         return 46;
@@ -172,7 +172,7 @@ pub extern "C" fn gongaurora_export_face_usage(
     )
 }
 
-// The path of a node in front of `out`. The answer, two words: node, length.
+// The path of a node in front of `out`. The answer, three words: node, entry, length.
 #[no_mangle]
 pub extern "C" fn gongaurora_export_path(
     image: &[u8],
@@ -180,9 +180,9 @@ pub extern "C" fn gongaurora_export_path(
     out: &mut [u8],
     answer: &mut [u8],
 ) -> u64
-    ensures { λ r. ⌜ r ≡ exportRule 2 (now (answer .entry)) (pathAnswer (now (image .entry)) node (length (now (out .entry)))) ⌝ }
+    ensures { λ r. ⌜ r ≡ exportRule 3 (now (answer .entry)) (pathAnswer (now (image .entry)) node (length (now (out .entry)))) ⌝ }
     ensures { λ _. ⌜ now (answer .exit) ≡ exportBytes (now (answer .entry)) (countWords (pathAnswer (now (image .entry)) node (length (now (out .entry))))) ⌝ }
-    ensures { λ _. ⌜ now (out .exit) ≡ exportMemory 2 (now (answer .entry)) (now (out .entry)) (pathMemory (now (image .entry)) node (now (out .entry))) ⌝ }
+    ensures { λ _. ⌜ now (out .exit) ≡ exportMemory 3 (now (answer .entry)) (now (out .entry)) (pathMemory (now (image .entry)) node (now (out .entry))) ⌝ }
 {
     if answer.len() < 8 * PATH_WORDS {
         return 46;
@@ -194,10 +194,10 @@ pub extern "C" fn gongaurora_export_path(
     )
 }
 
-// The name bytes compared where each two siblings are, up to the first byte that differs. The answer, two words: node, count of bytes.
+// The name bytes compared where each two siblings are, up to the first byte that differs. The answer, three words: node, entry, count of bytes.
 #[no_mangle]
 pub extern "C" fn gongaurora_export_name_bytes(image: &[u8], answer: &mut [u8]) -> u64
-    ensures { λ r. ⌜ r ≡ exportRule 2 (now (answer .entry)) (nameBytesAnswer (now (image .entry))) ⌝ }
+    ensures { λ r. ⌜ r ≡ exportRule 3 (now (answer .entry)) (nameBytesAnswer (now (image .entry))) ⌝ }
     ensures { λ _. ⌜ now (answer .exit) ≡ exportBytes (now (answer .entry)) (countWords (nameBytesAnswer (now (image .entry)))) ⌝ }
 {
     if answer.len() < 8 * NAMES_WORDS {
@@ -206,7 +206,7 @@ pub extern "C" fn gongaurora_export_name_bytes(image: &[u8], answer: &mut [u8]) 
     put_answer(answer, count_answer(table::name_bytes(image)), NAMES_WORDS)
 }
 
-// Value k of a node's array, counted from 1. The answer, three words: node, kind (1 whole, 2 single, 3 double), bits (a whole number's at 64 bits).
+// Value k of a node's array, counted from 1. The answer, four words: node, entry, kind (1 whole, 2 single, 3 double), bits (a whole number's at 64 bits).
 #[no_mangle]
 pub extern "C" fn gongaurora_export_array_value(
     image: &[u8],
@@ -214,7 +214,7 @@ pub extern "C" fn gongaurora_export_array_value(
     k: u64,
     answer: &mut [u8],
 ) -> u64
-    ensures { λ r. ⌜ r ≡ exportRule 3 (now (answer .entry)) (valueAnswer (now (image .entry)) node k) ⌝ }
+    ensures { λ r. ⌜ r ≡ exportRule 4 (now (answer .entry)) (valueAnswer (now (image .entry)) node k) ⌝ }
     ensures { λ _. ⌜ now (answer .exit) ≡ exportBytes (now (answer .entry)) (valueWords (valueAnswer (now (image .entry)) node k)) ⌝ }
 {
     if answer.len() < 8 * VALUE_WORDS {
@@ -227,10 +227,10 @@ pub extern "C" fn gongaurora_export_array_value(
     )
 }
 
-// The DataSize of an array. The answer, five words: node, directions, and the size in i, j and k, 0 where the array lacks the direction.
+// The DataSize of an array. The answer, six words: node, entry, directions, and the size in i, j and k, 0 where the array lacks the direction.
 #[no_mangle]
 pub extern "C" fn gongaurora_export_data_size(image: &[u8], node: u64, answer: &mut [u8]) -> u64
-    ensures { λ r. ⌜ r ≡ exportRule 5 (now (answer .entry)) (dataSizeAnswer (now (image .entry)) node) ⌝ }
+    ensures { λ r. ⌜ r ≡ exportRule 6 (now (answer .entry)) (dataSizeAnswer (now (image .entry)) node) ⌝ }
     ensures { λ _. ⌜ now (answer .exit) ≡ exportBytes (now (answer .entry)) (sizeWords (dataSizeAnswer (now (image .entry)) node)) ⌝ }
 {
     if answer.len() < 8 * SIZE_WORDS {

@@ -11,9 +11,9 @@ use Rattle.model.specs.Image.{Tree, treeOf, nodeCount, parent}
 use Rattle.model.specs.Given.{Sound, NodesTo}
 use Rattle.model.specs.Containment.{role, containment, mayHold, validated}
 use Rattle.model.specs.Values.{placed, sidsRules}
-use Rattle.model.specs.Validation.{nodeRules, nodeCheckAt}
+use Rattle.model.specs.Validation.{sectionCheck, nodeCheckAt}
 use Rattle.model.proofs.Logic.{untrue, and-first, and-second}
-use Rattle.model.proofs.Passed.{Hold, Claim, claim, check-pass, hold-left}
+use Rattle.model.proofs.Passed.{Hold, Claim, claim, check-pass, then-first}
 use Rattle.model.proofs.Validated.{joins, validated-step}
 
 -- the parent of a validated node is validated
@@ -23,8 +23,8 @@ validated-above b s i h n e = and-second (joins (treeOf b) i) _ (sym (validated-
 
 -- validation has come to node i: the rules hold at a validated node before it
 pub earlier-holds : (b : List ℕ) (i : ℕ) → NodesTo b i → (j : ℕ) → j < i → validated (treeOf b) j ≡ true → Hold (sidsRules (treeOf b) j)
-unfolding nodeCheckAt nodeRules
-earlier-holds b i g j h v = hold-left (sidsRules (treeOf b) j) _ (check-pass j (nodeRules (treeOf b) j) (rw v at (g .before j h)))
+unfolding nodeCheckAt
+earlier-holds b i g j h v = check-pass j (sidsRules (treeOf b) j) (then-first _ (sectionCheck (treeOf b) j) (rw v at (g .before j h)))
 
 pub earlier-rule : (b : List ℕ) (i : ℕ) → NodesTo b i → (n j : ℕ) → j < i → validated (treeOf b) j ≡ true → Claim n (sidsRules (treeOf b) j)
 earlier-rule b i g n j h v = claim n (sidsRules (treeOf b) j) (earlier-holds b i g j h v)

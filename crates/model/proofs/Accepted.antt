@@ -1,19 +1,19 @@
 -- What rules 1 to 18 passed, and what an acceptance say: each rule, asked for by its number, holds at each node.
-use Prim.Native.Nat.{ℕ, _<_}
+use Prim.Native.Nat.{ℕ, suc, _<_}
 use mathlib.Core.Path.{_≡_}
 use mathlib.Core.Bool.{true}
 use mathlib.Core.List.{List}
 use native.Mathlib.Omega.{arith}
 use lib.Dec.{eqb}
-use Rattle.model.specs.Rules.{answer, passed, _then_}
+use Rattle.model.specs.Rules.{answer, passed, check, _then_}
 use Rattle.model.specs.Image.{treeOf, nodeCount}
 use Rattle.model.specs.Header.{headerCheck, headerRules}
 use Rattle.model.specs.Records.{recordCheckAt, recordRules, recordCheck, trailingCheck, tableCheck, nothingTrails}
 use Rattle.model.specs.Containment.{role, Elements, validated}
 use Rattle.model.specs.Values.{sidsRules}
-use Rattle.model.specs.Elements.{elementRules}
-use Rattle.model.specs.Validation.{Counts, validation, imageCheck, nodeCheck, nodeCheckAt, nodeRules}
-use Rattle.model.proofs.Passed.{Hold, Claim, claim, check-pass, hold-left, hold-right, then-first, then-second, gives-check, checkFrom-at}
+use Rattle.model.specs.Elements.{connectivityLength, elementRules, referenceRules, referenceCheckAt, referenceCheck}
+use Rattle.model.specs.Validation.{Counts, validation, imageCheck, nodeCheck, nodeCheckAt, sectionCheck}
+use Rattle.model.proofs.Passed.{Hold, Claim, claim, check-pass, then-first, then-second, at-entry-pass, gives-check, checkFrom-at}
 
 -- rules 1 to 18 hold
 module _ (b : List ℕ) (yes : tableCheck b ≡ passed) where
@@ -48,24 +48,45 @@ module _ (b : List ℕ) (yes : imageCheck b ≡ passed) where
   unfolding imageCheck
   table-passed = then-first (tableCheck b) _ yes
 
-  pub node-holds : (i : ℕ) → i < nodeCount b → validated (treeOf b) i ≡ true → Hold (nodeRules (treeOf b) i)
-  unfolding imageCheck nodeCheck nodeCheckAt treeOf
-  node-holds i h v =
-      check-pass i (nodeRules (treeOf b) i)
-      (rw v at (checkFrom-at (nodeCheckAt (treeOf b)) (nodeCount b) 0 i (then-second (tableCheck b) _ yes) (omega arith) (omega arith)))
+  -- at a validated node
+  module _ (i : ℕ) (h : i < nodeCount b) (v : validated (treeOf b) i ≡ true) where
+    node-passed : (check i (sidsRules (treeOf b) i) then sectionCheck (treeOf b) i) ≡ passed
+    unfolding imageCheck nodeCheck nodeCheckAt treeOf
+    node-passed = rw v at (checkFrom-at (nodeCheckAt (treeOf b)) (nodeCount b) 0 i (then-second (tableCheck b) _ yes) (omega arith) (omega arith))
+
+    node-holds : Hold (sidsRules (treeOf b) i)
+    node-holds = check-pass i (sidsRules (treeOf b) i) (then-first _ (sectionCheck (treeOf b) i) node-passed)
+
+    -- at a section
+    module _ (s : eqb (role (treeOf b) i) Elements ≡ true) where
+      section-passed : (check i (elementRules (treeOf b) i) then referenceCheck (treeOf b) i) ≡ passed
+      unfolding sectionCheck
+      section-passed = rw s at (then-second (check i (sidsRules (treeOf b) i)) (sectionCheck (treeOf b) i) node-passed)
+
+      section-holds : Hold (elementRules (treeOf b) i)
+      section-holds = check-pass i (elementRules (treeOf b) i) (then-first _ (referenceCheck (treeOf b) i) section-passed)
+
+      entry-holds : (k : ℕ) → k < connectivityLength (treeOf b) i → Hold (referenceRules (treeOf b) i k)
+      unfolding referenceCheck referenceCheckAt
+      entry-holds k l =
+          check-pass i (referenceRules (treeOf b) i k)
+          (at-entry-pass _ _
+          (checkFrom-at (referenceCheckAt (treeOf b) i) (connectivityLength (treeOf b) i) 0 k
+          (then-second (check i (elementRules (treeOf b) i)) (referenceCheck (treeOf b) i) section-passed)
+          (omega arith) (omega arith)))
 
   -- rules 20 to 26 at a validated node
   pub sids-rule : (n i : ℕ) → i < nodeCount b → validated (treeOf b) i ≡ true → Claim n (sidsRules (treeOf b) i)
-  unfolding nodeRules
-  sids-rule n i h v = claim n (sidsRules (treeOf b) i) (hold-left (sidsRules (treeOf b) i) _ (node-holds i h v))
+  sids-rule n i h v = claim n (sidsRules (treeOf b) i) (node-holds i h v)
 
-  -- rules 27 to 35 and 38 at a validated section
-  pub element-holds : (i : ℕ) → i < nodeCount b → validated (treeOf b) i ≡ true → eqb (role (treeOf b) i) Elements ≡ true → Hold (elementRules (treeOf b) i)
-  unfolding nodeRules
-  element-holds i h v s = rw s at (hold-right (sidsRules (treeOf b) i) _ (node-holds i h v))
-
+  -- rules 27 to 33 and 38 at a validated section
   pub element-rule : (n i : ℕ) → i < nodeCount b → validated (treeOf b) i ≡ true → eqb (role (treeOf b) i) Elements ≡ true → Claim n (elementRules (treeOf b) i)
-  element-rule n i h v s = claim n (elementRules (treeOf b) i) (element-holds i h v s)
+  element-rule n i h v s = claim n (elementRules (treeOf b) i) (section-holds i h v s)
+
+  -- rules 34 to 37 at an entry of its connectivity
+  pub entry-rule : (n i : ℕ) → i < nodeCount b → validated (treeOf b) i ≡ true → eqb (role (treeOf b) i) Elements ≡ true
+      → (k : ℕ) → k < connectivityLength (treeOf b) i → Claim n (referenceRules (treeOf b) i k)
+  entry-rule n i h v s k l = claim n (referenceRules (treeOf b) i k) (entry-holds i h v s k l)
 
 -- the answer of validation is an acceptance where all its checks pass
 pub accepted : (b : List ℕ) {c : Counts} → validation b ≡ answer c → imageCheck b ≡ passed

@@ -7,22 +7,24 @@ use mathlib.Core.List.{List, [], _∷_}
 use lib.ListN.{length, replicate}
 use lib.IntN.{ℤ, pos}
 use Rattle.model.specs.declared.Section.{Section}
+use Rattle.model.specs.declared.Rejection.{Rejection}
 use Rattle.model.specs.Bytes.{allBytes, text, numbers}
-use Rattle.model.specs.Rules.{Answer, rejected, answer, rejection, repetition}
+use Rattle.model.specs.Rules.{Answer, rejected, answer, rejection, rejectionAt, repetition}
 use Rattle.model.specs.Image.{treeOf}
 use Rattle.model.specs.Validation.{Counts, validation}
 use Rattle.model.specs.NameBytes.{nameBytesAnswer}
 use Rattle.model.specs.DataSize.{Sizes, dataSizeAnswer}
-use Rattle.model.specs.Sections.{entry}
+use Rattle.model.specs.Sections.{entry, sectionsAnswer}
 use Rattle.model.specs.Corner.{cornerAnswer}
 use Rattle.model.specs.ElementCorners.{elementCornersMemory}
 use Rattle.model.specs.OwnType.{ownTypeAnswer}
 use Rattle.model.specs.FaceUsage.{usageAnswer, usageMemory}
+use Rattle.model.specs.Exports.{validationWords, usageWords}
 use Rattle.model.specs.Build.{minus, Plan, plan, image}
 use Rattle.model.specs.Computed.{computed}
 use Rattle.model.proofs.Rule22.{onceOnly, sameRole, second}
 
-infix 10 _refuses_at_ _accepts_ _starts_ _sizes_is_ _uses_leaving_ _repeats_ _compares_ _reads_from_is_ _types_is_ _hands_is_ _seconds_is_
+infix 10 _refuses_at_ _refuses_at_place_ _reports_ _tells_also-of-faces_ _accepts_ _starts_ _sizes_is_ _uses_leaving_ _repeats_ _compares_ _reads_from_is_ _types_is_ _hands_is_ _seconds_is_
 -- the root that real files have
 abbrev rootPlan : Plan
 rootPlan = plan "HDF5 MotherNode" "Root Node of HDF5 File" "MT" [] 4294967295 []
@@ -195,6 +197,44 @@ rind name up = integers name "Rind_t" (replicate 6 0) up
 abbrev location : String → ℕ → Plan
 location name up = plan name "GridLocation_t" "C1" (6 ∷ []) up (text "Vertex")
 
+-- §6: cells, node 4, of one cell, element 5, with these references, before their faces 1 to 4, node 8, and before these nodes, from node 12 on
+abbrev cellFirst : Plan → List Plan → List ℕ
+cellFirst references others =
+    image
+    (rootPlan
+    ∷ integers "Base" "CGNSBase_t" (3 ∷ 3 ∷ []) 0
+    ∷ plan "Zone" "Zone_t" "I4" (1 ∷ 3 ∷ []) 1 (allBytes 4 (4 ∷ 1 ∷ 0 ∷ []))
+    ∷ plan "ZoneType" "ZoneType_t" "C1" (12 ∷ []) 2 (text "Unstructured")
+    ∷ integers "Cells" "Elements_t" (23 ∷ 0 ∷ []) 2
+    ∷ integers "ElementRange" "IndexRange_t" (5 ∷ 5 ∷ []) 4
+    ∷ integers "ElementStartOffset" "DataArray_t" (0 ∷ 4 ∷ []) 4
+    ∷ references
+    ∷ integers "Faces" "Elements_t" (22 ∷ 0 ∷ []) 2
+    ∷ integers "ElementRange" "IndexRange_t" (1 ∷ 4 ∷ []) 8
+    ∷ integers "ElementStartOffset" "DataArray_t" (0 ∷ 3 ∷ 6 ∷ 9 ∷ 12 ∷ []) 8
+    ∷ integers "ElementConnectivity" "DataArray_t" fourFaces 8
+    ∷ others)
+
+-- references in 4 bytes; faces 1 to 3 and another one in 8 bytes
+abbrev refer : List ℕ → Plan
+refer faces = integers "ElementConnectivity" "DataArray_t" faces 4
+
+abbrev wideFace : ℕ → List ℕ
+wideFace face = cellFirst (plan "ElementConnectivity" "DataArray_t" "I8" (4 ∷ []) 4 (allBytes 8 (1 ∷ 2 ∷ 3 ∷ face ∷ []))) []
+
+-- another section, node `at` below zone `up`, over its data, its range and its references
+abbrev another : ℕ → ℕ → List ℕ → List ℕ → List ℕ → List Plan
+another at up own range references =
+    integers "Other" "Elements_t" own up
+    ∷ integers "ElementRange" "IndexRange_t" range at
+    ∷ integers "ElementStartOffset" "DataArray_t" (0 ∷ length references ∷ []) at
+    ∷ integers "ElementConnectivity" "DataArray_t" references at
+    ∷ []
+
+-- the cell refers to faces 1 to 3 and to element 6, which that section has
+abbrev toOther : List ℕ → List ℕ → List ℕ → List ℕ
+toOther own range references = cellFirst (refer (1 ∷ 2 ∷ 3 ∷ 6 ∷ [])) (another 12 2 own range references)
+
 -- what a case says of an image
 pub data Case : Type 0 where
   -- the header's words
@@ -203,6 +243,12 @@ pub data Case : Type 0 where
   _accepts_ : List ℕ → Counts → Case
   -- a rule and a node
   _refuses_at_ : List ℕ → ℕ → ℕ → Case
+  -- a rule, a node and the place of an entry of its connectivity
+  _refuses_at_place_ : List ℕ → ℕ → ℕ → ℕ → Case
+  -- calls that give validation's refusal, entry and all: sections, face usage, sizes
+  _reports_ : List ℕ → Rejection → Case
+  -- the words of the exports of validation and of the face usage of zone 3
+  _tells_also-of-faces_ : List ℕ → List ℕ → List ℕ → Case
   -- the face usage of zone 3, in a buffer of six bytes
   _uses_leaving_ : List ℕ → ℕ → List ℕ → Case
   -- the section and the element of 45, the buffer's first four bytes then 0
@@ -229,6 +275,9 @@ Right [] = Unit {0}
 Right ((b starts ws) ∷ cs) = (numbers 4 8 b ≡ ws) × Right cs
 Right ((b accepts c) ∷ cs) = (validation b ≡ answer c) × Right cs
 Right ((b refuses r at n) ∷ cs) = (validation b ≡ rejected (rejection r n)) × Right cs
+Right ((b refuses r at n place k) ∷ cs) = (validation b ≡ rejected (rejectionAt r n k)) × Right cs
+Right ((b reports r) ∷ cs) = ((sectionsAnswer b 3 9 ≡ rejected r) × (usageAnswer b 3 6 ≡ rejected r) × (dataSizeAnswer b 6 ≡ rejected r)) × Right cs
+Right ((b tells ws also-of-faces vs) ∷ cs) = ((validationWords (validation b) ≡ ws) × (usageWords (usageAnswer b 3 6) ≡ vs)) × Right cs
 Right ((b uses f leaving bytes) ∷ cs) = ((usageAnswer b 3 6 ≡ answer f) × (usageMemory b 3 lent ≡ bytes)) × Right cs
 Right ((b repeats a) ∷ cs) = ((usageAnswer b 3 6 ≡ a) × (usageMemory b 3 lent ≡ (0 ∷ 0 ∷ 0 ∷ 0 ∷ 9 ∷ 9 ∷ []))) × Right cs
 Right ((b sizes i is s) ∷ cs) = (dataSizeAnswer b i ≡ answer s) × Right cs
@@ -259,11 +308,11 @@ cases =
     -- (h) faces range 1..5
     ∷ (tetrahedron (1 ∷ 5 ∷ []) (0 ∷ 3 ∷ 6 ∷ 9 ∷ 12 ∷ []) fourFaces (1 ∷ 2 ∷ 3 ∷ 4 ∷ []) refuses 29 at 9)
     -- (i) node 5
-    ∷ (tetrahedron (1 ∷ 4 ∷ []) (0 ∷ 3 ∷ 6 ∷ 9 ∷ 12 ∷ []) (1 ∷ 3 ∷ 2 ∷ 1 ∷ 2 ∷ 4 ∷ 2 ∷ 3 ∷ 4 ∷ 3 ∷ 1 ∷ 5 ∷ []) (1 ∷ 2 ∷ 3 ∷ 4 ∷ []) refuses 34 at 9)
-    -- (j) face 0, 5 or −2147483648
-    ∷ (withFaces (1 ∷ 2 ∷ 3 ∷ 0 ∷ []) refuses 35 at 13)
-    ∷ (withFaces (1 ∷ 2 ∷ 3 ∷ 5 ∷ []) refuses 35 at 13)
-    ∷ (withFaces (1 ∷ 2 ∷ 3 ∷ minus 2147483648 ∷ []) refuses 35 at 13)
+    ∷ (tetrahedron (1 ∷ 4 ∷ []) (0 ∷ 3 ∷ 6 ∷ 9 ∷ 12 ∷ []) (1 ∷ 3 ∷ 2 ∷ 1 ∷ 2 ∷ 4 ∷ 2 ∷ 3 ∷ 4 ∷ 3 ∷ 1 ∷ 5 ∷ []) (1 ∷ 2 ∷ 3 ∷ 4 ∷ []) refuses 34 at 9 place 12)
+    -- (j) face 0, 5 or −2147483648, as §6 has them
+    ∷ (withFaces (1 ∷ 2 ∷ 3 ∷ 0 ∷ []) refuses 35 at 13 place 4)
+    ∷ (withFaces (1 ∷ 2 ∷ 3 ∷ 5 ∷ []) refuses 37 at 13 place 4)
+    ∷ (withFaces (1 ∷ 2 ∷ 3 ∷ minus 2147483648 ∷ []) refuses 36 at 13 place 4)
     -- (k) faces 1 2 3 −3
     ∷ (withFaces (1 ∷ 2 ∷ 3 ∷ minus 3 ∷ []) accepts tetraCounts)
     ∷ (withFaces (1 ∷ 2 ∷ 3 ∷ minus 3 ∷ []) uses 4 leaving (1 ∷ 1 ∷ 3 ∷ 0 ∷ 9 ∷ 9 ∷ []))
@@ -323,7 +372,7 @@ cases =
     -- a cell of three faces; the second of two, with a face 0 in the first; one after a face with a node 5
     ∷ (withFaces (1 ∷ 2 ∷ 3 ∷ []) refuses 33 at 13)
     ∷ (withCells (5 ∷ 6 ∷ []) (0 ∷ 4 ∷ 7 ∷ []) (0 ∷ 2 ∷ 3 ∷ 4 ∷ 1 ∷ 2 ∷ 3 ∷ []) refuses 33 at 13)
-    ∷ (tetrahedron (1 ∷ 4 ∷ []) (0 ∷ 3 ∷ 6 ∷ 9 ∷ 12 ∷ []) (5 ∷ 3 ∷ 2 ∷ 1 ∷ 2 ∷ 4 ∷ 2 ∷ 3 ∷ 4 ∷ 3 ∷ 1 ∷ 4 ∷ []) (1 ∷ 2 ∷ 3 ∷ []) refuses 34 at 9)
+    ∷ (tetrahedron (1 ∷ 4 ∷ []) (0 ∷ 3 ∷ 6 ∷ 9 ∷ 12 ∷ []) (5 ∷ 3 ∷ 2 ∷ 1 ∷ 2 ∷ 4 ∷ 2 ∷ 3 ∷ 4 ∷ 3 ∷ 1 ∷ 4 ∷ []) (1 ∷ 2 ∷ 3 ∷ []) refuses 34 at 9 place 1)
     -- repeats count, as in (k) and (l): three nodes that are one; more are lawful: a face of four nodes, a cell of five faces
     ∷ (tetrahedron (1 ∷ 4 ∷ []) (0 ∷ 3 ∷ 6 ∷ 9 ∷ 12 ∷ []) (1 ∷ 1 ∷ 1 ∷ 1 ∷ 2 ∷ 4 ∷ 2 ∷ 3 ∷ 4 ∷ 3 ∷ 1 ∷ 4 ∷ []) (1 ∷ 2 ∷ 3 ∷ 4 ∷ []) accepts tetraCounts)
     ∷ (tetrahedron (1 ∷ 4 ∷ []) (0 ∷ 4 ∷ 7 ∷ 10 ∷ 13 ∷ []) (1 ∷ 3 ∷ 2 ∷ 1 ∷ 1 ∷ 2 ∷ 4 ∷ 2 ∷ 3 ∷ 4 ∷ 3 ∷ 1 ∷ 4 ∷ []) (1 ∷ 2 ∷ 3 ∷ 4 ∷ minus 4 ∷ [])
@@ -389,8 +438,8 @@ cases =
     ∷ (withTypes 17 12 10 reads 2 from 1 is rejected (rejection 43 0))
     ∷ (twoElements (0 ∷ 5 ∷ 9 ∷ []) (10 ∷ 11 ∷ 2 ∷ 3 ∷ 4 ∷ 7 ∷ 1 ∷ 2 ∷ 3 ∷ []) refuses 38 at 4)
     -- a node 11, a node 0; the types 17 and 14, above VertexSize too, are no nodes
-    ∷ (withTypes 17 14 11 refuses 34 at 4)
-    ∷ (withTypes 17 14 0 refuses 34 at 4)
+    ∷ (withTypes 17 14 11 refuses 34 at 4 place 16)
+    ∷ (withTypes 17 14 0 refuses 34 at 4 place 16)
     -- offsets as for 22: their number, the first, the rise, the last; 33 never: one node
     ∷ (twoElements (0 ∷ 9 ∷ []) (hexahedron 17 (14 ∷ 5 ∷ 6 ∷ 9 ∷ 8 ∷ 7 ∷ 10 ∷ [])) refuses 29 at 4)
     ∷ (twoElements (1 ∷ 9 ∷ 16 ∷ []) (hexahedron 17 (14 ∷ 5 ∷ 6 ∷ 9 ∷ 8 ∷ 7 ∷ 10 ∷ [])) refuses 30 at 4)
@@ -423,6 +472,55 @@ cases =
     accepts record { validated = 8; skipped = 0; zones = 1; sections = 0 })
     ∷ (inBlock (plan "Note" "Descriptor_t" "C1" (1 ∷ []) 4 (65 ∷ []) ∷ plan "Note1" "Descriptor_t" "C1" (1 ∷ []) 4 (65 ∷ []) ∷ [])
     accepts record { validated = 7; skipped = 0; zones = 1; sections = 0 })
+    -- §6 the first failing entry decides, before the lowest number
+    ∷ (withFaces (1 ∷ 5 ∷ 6 ∷ 0 ∷ []) refuses 37 at 13 place 2)
+    ∷ (withFaces (6 ∷ 0 ∷ 5 ∷ 4 ∷ []) refuses 36 at 13 place 1)
+    ∷ (withFaces (minus 1 ∷ 2 ∷ 0 ∷ minus 5 ∷ []) refuses 35 at 13 place 3)
+    ∷ (withFaces (1 ∷ minus 5 ∷ 0 ∷ 6 ∷ []) refuses 37 at 13 place 2)
+    -- in a second cell; a cell of the same section, itself, none
+    ∷ (withCells (5 ∷ 6 ∷ []) (0 ∷ 4 ∷ 8 ∷ []) (1 ∷ 2 ∷ 3 ∷ 4 ∷ minus 1 ∷ minus 2 ∷ 5 ∷ 0 ∷ []) refuses 37 at 13 place 7)
+    ∷ (withCells (5 ∷ 6 ∷ []) (0 ∷ 4 ∷ 8 ∷ []) (1 ∷ 2 ∷ 3 ∷ 4 ∷ minus 1 ∷ minus 2 ∷ minus 3 ∷ 6 ∷ []) refuses 37 at 13 place 8)
+    ∷ (withCells (5 ∷ 6 ∷ []) (0 ∷ 4 ∷ 8 ∷ []) (1 ∷ 2 ∷ 3 ∷ 4 ∷ minus 1 ∷ minus 2 ∷ minus 3 ∷ 7 ∷ []) refuses 36 at 13 place 8)
+    -- other calls give the entry too; other refusals have none
+    ∷ (withFaces (1 ∷ 5 ∷ 6 ∷ 0 ∷ []) reports record { rule = 37; node = 13; entry = 2; element = 0 })
+    ∷ (withOffsets (0 ∷ 3 ∷ 6 ∷ 6 ∷ 12 ∷ []) reports record { rule = 31; node = 9; entry = 0; element = 0 })
+    ∷ (withFaces (1 ∷ 2 ∷ 3 ∷ 3 ∷ []) repeats rejected (record { rule = 45; node = 13; entry = 0; element = 5 }))
+    -- the words of the exports: node, entry, then the counts of validation; node, entry, element and count of face usage
+    ∷ (withFaces (1 ∷ 5 ∷ 6 ∷ 0 ∷ []) tells (13 ∷ 2 ∷ 0 ∷ 0 ∷ 0 ∷ 0 ∷ []) also-of-faces (13 ∷ 2 ∷ 0 ∷ 0 ∷ []))
+    ∷ (withFaces (1 ∷ 2 ∷ 3 ∷ 3 ∷ []) tells (0 ∷ 0 ∷ 17 ∷ 0 ∷ 1 ∷ 2 ∷ []) also-of-faces (13 ∷ 0 ∷ 5 ∷ 0 ∷ []))
+    -- nodes: the first of two; in a section of triangles; in a MIXED section the place counts the type numbers
+    ∷ (tetrahedron (1 ∷ 4 ∷ []) (0 ∷ 3 ∷ 6 ∷ 9 ∷ 12 ∷ []) (1 ∷ 3 ∷ 2 ∷ 1 ∷ 5 ∷ 4 ∷ 2 ∷ 3 ∷ 0 ∷ 3 ∷ 1 ∷ 4 ∷ []) (1 ∷ 2 ∷ 3 ∷ 4 ∷ []) refuses 34 at 9 place 5)
+    ∷ (twoOf 5 (0 ∷ 3 ∷ 6 ∷ []) (1 ∷ 2 ∷ 3 ∷ 4 ∷ 11 ∷ 6 ∷ []) refuses 34 at 4 place 5)
+    ∷ (twoElements (0 ∷ 5 ∷ 9 ∷ []) (10 ∷ 1 ∷ 2 ∷ 3 ∷ 4 ∷ 5 ∷ 11 ∷ 0 ∷ 3 ∷ []) refuses 34 at 4 place 7)
+    ∷ (twoElements (0 ∷ 5 ∷ 9 ∷ []) (10 ∷ 11 ∷ 2 ∷ 3 ∷ 4 ∷ 5 ∷ 11 ∷ 2 ∷ 3 ∷ []) refuses 34 at 4 place 2)
+    -- faces after their cells
+    ∷ (cellFirst (refer (1 ∷ 2 ∷ 3 ∷ 4 ∷ [])) [] accepts record { validated = 12; skipped = 0; zones = 1; sections = 2 })
+    -- −2^63, 2^32 + 4, −4
+    ∷ (wideFace (2 ^ 63) refuses 36 at 4 place 4)
+    ∷ (wideFace 4294967300 refuses 36 at 4 place 4)
+    ∷ (wideFace (256 ^ 8 - 4) accepts record { validated = 12; skipped = 0; zones = 1; sections = 2 })
+    -- elements of a later section: triangles, MIXED, cells, a type that is not taken
+    ∷ (toOther (5 ∷ 0 ∷ []) (6 ∷ 6 ∷ []) (1 ∷ 2 ∷ 3 ∷ []) refuses 37 at 4 place 4)
+    ∷ (toOther (20 ∷ 0 ∷ []) (6 ∷ 6 ∷ []) (5 ∷ 1 ∷ 2 ∷ 3 ∷ []) refuses 37 at 4 place 4)
+    ∷ (toOther (23 ∷ 0 ∷ []) (6 ∷ 6 ∷ []) (1 ∷ 2 ∷ 3 ∷ 4 ∷ []) refuses 37 at 4 place 4)
+    ∷ (toOther (24 ∷ 0 ∷ []) (6 ∷ 6 ∷ []) (1 ∷ 2 ∷ 3 ∷ []) refuses 37 at 4 place 4)
+    -- faces of a later section; where its own data break 24, or 25, or its range does not conform: no elements
+    ∷ (toOther (22 ∷ 0 ∷ []) (6 ∷ 6 ∷ []) (1 ∷ 2 ∷ 3 ∷ []) accepts record { validated = 16; skipped = 0; zones = 1; sections = 3 })
+    ∷ (toOther (22 ∷ []) (6 ∷ 6 ∷ []) (1 ∷ 2 ∷ 3 ∷ []) refuses 36 at 4 place 4)
+    ∷ (toOther (22 ∷ minus 1 ∷ []) (6 ∷ 6 ∷ []) (1 ∷ 2 ∷ 3 ∷ []) refuses 36 at 4 place 4)
+    ∷ (toOther (22 ∷ 0 ∷ []) (0 ∷ 6 ∷ []) (1 ∷ 2 ∷ 3 ∷ []) refuses 36 at 4 place 4)
+    -- ranges that meet: an element of a face section is a face, and 28 comes later
+    ∷ (toOther (22 ∷ 0 ∷ []) (3 ∷ 6 ∷ []) (1 ∷ 2 ∷ 3 ∷ []) refuses 28 at 12)
+    ∷ (cellFirst (refer (1 ∷ 2 ∷ 3 ∷ 4 ∷ [])) (another 12 2 (5 ∷ 0 ∷ []) (4 ∷ 4 ∷ []) (1 ∷ 2 ∷ 3 ∷ [])) refuses 28 at 12)
+    ∷ (cellFirst (refer (1 ∷ 2 ∷ 3 ∷ 5 ∷ [])) (another 12 2 (22 ∷ 0 ∷ []) (5 ∷ 5 ∷ []) (1 ∷ 2 ∷ 3 ∷ [])) refuses 28 at 12)
+    -- an element of an earlier section
+    ∷ (cellFirst (refer (1 ∷ 2 ∷ 3 ∷ 4 ∷ [])) (another 12 2 (23 ∷ 0 ∷ []) (6 ∷ 6 ∷ []) (1 ∷ 2 ∷ 3 ∷ 5 ∷ [])) refuses 37 at 12 place 4)
+    -- elements of another zone
+    ∷ (cellFirst (refer (1 ∷ 2 ∷ 3 ∷ 6 ∷ []))
+    (plan "Zone2" "Zone_t" "I4" (1 ∷ 3 ∷ []) 1 (allBytes 4 (4 ∷ 1 ∷ 0 ∷ []))
+    ∷ plan "ZoneType" "ZoneType_t" "C1" (12 ∷ []) 12 (text "Unstructured")
+    ∷ another 14 12 (22 ∷ 0 ∷ []) (6 ∷ 6 ∷ []) (1 ∷ 2 ∷ 3 ∷ []))
+    refuses 36 at 4 place 4)
     ∷ []
 
 infixr 5 _also_
@@ -445,4 +543,8 @@ all-right =
     also refl also refl also refl also refl also refl also refl also refl
     also refl also refl also refl also refl
     also refl also refl also refl also refl also refl also refl also refl also refl also refl also refl
-    also refl also refl also refl also refl also refl also refl also refl also refl also refl also tt
+    also refl also refl also refl also refl also refl also refl also refl also refl also refl
+    also refl also refl also refl also refl also refl also refl also refl
+    also (refl, refl, refl) also (refl, refl, refl) also (refl, refl) also (refl, refl) also (refl, refl)
+    also refl also refl also refl also refl also refl also refl also refl also refl
+    also refl also refl also refl also refl also refl also refl also refl also refl also refl also refl also refl also refl also refl also tt

@@ -17,6 +17,7 @@ pub mod StartOffsets
 pub mod Layouts
 pub mod Arrays
 pub mod InZone
+pub mod ReferenceChecks
 pub mod Corners
 pub mod References
 pub mod NoNan

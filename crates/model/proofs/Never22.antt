@@ -11,14 +11,14 @@ use borrow.Author.Tests.{eqb-true, eq-eqb}
 use Rattle.model.specs.declared.Rejection.{Rejection}
 use Rattle.model.specs.Lists.{among, someFrom}
 use Rattle.model.specs.Bytes.{same, spells}
-use Rattle.model.specs.Rules.{Answer, rejected, answer, Check, passed, Rule, _unless_, check, checkFrom, _then_, _gives_}
+use Rattle.model.specs.Rules.{Answer, rejected, answer, Check, passed, Rule, _unless_, check, _atEntry_, checkFrom, _then_, _gives_}
 use Rattle.model.specs.Image.{Tree, treeOf, nodeCount, name, parent}
 use Rattle.model.specs.Header.{headerRules, headerCheck}
 use Rattle.model.specs.Records.{sibling, recordRules, recordCheckAt, recordCheck, trailingCheck, tableCheck}
 use Rattle.model.specs.Containment.{Root, Elements, role, containment, mayHold, validated, Named, _holds_called_, fixedNames, fixedName}
 use Rattle.model.specs.Values.{placed, named, sidsRules}
-use Rattle.model.specs.Elements.{elementRules}
-use Rattle.model.specs.Validation.{nodeRules, nodeCheckAt, nodeCheck, imageCheck, counts, validation}
+use Rattle.model.specs.Elements.{elementRules, referenceRules, referenceCheckAt, referenceCheck}
+use Rattle.model.specs.Validation.{sectionCheck, nodeCheckAt, nodeCheck, imageCheck, counts, validation}
 use Rattle.model.specs.Given.{NodesTo}
 use Rattle.model.proofs.Rule22.{onceOnly, sameRole, second, rulesWith22, nodeCheckWith22, imageCheckWith22, validationWith22, ruleNumbers, Never, NeverComes}
 use Rattle.model.proofs.Logic.{untrue, and-first, and-second, or-left, or-right}
@@ -106,18 +106,22 @@ module _ (b : List ℕ) (i : ℕ) (g : NodesTo b i) (v : validated (treeOf b) i 
 
 -- so the row makes no difference where validation has come to node i
 same-at : (b : List ℕ) (i : ℕ) → NodesTo b i → nodeCheckWith22 (treeOf b) i ≡ nodeCheckAt (treeOf b) i
-unfolding nodeCheckWith22 rulesWith22 nodeCheckAt nodeRules sidsRules
+unfolding nodeCheckWith22 rulesWith22 nodeCheckAt sidsRules
 same-at b i g = by-test (validated t i) refl
   where
     t : Tree
     t = treeOf b
 
     rules : List Rule
-    rules = nodeRules t i
+    rules = sidsRules t i
 
-    by-test : (v : Bool) → validated t i ≡ v → cond v (check i (take 2 rules ++ (22 unless not (second t i) ∷ drop 2 rules))) passed ≡ cond v (check i rules) passed
+    by-test : (v : Bool) → validated t i ≡ v
+        → cond v (check i (take 2 rules ++ (22 unless not (second t i) ∷ drop 2 rules)) then sectionCheck t i) passed
+        ≡ cond v (check i rules then sectionCheck t i) passed
     by-test false v = refl
-    by-test true v = row-kept i 22 (not (second t i)) (take 2 rules) (drop 2 rules) (λ h. ap not (no-second b i g v (h .0) (h .1 .0)))
+    by-test true v =
+        ap (λ c. c then sectionCheck t i)
+        (row-kept i 22 (not (second t i)) (take 2 rules) (drop 2 rules) (λ h. ap not (no-second b i g v (h .0) (h .1 .0))))
 
 alike : (b : List ℕ) → imageCheckWith22 b ≡ imageCheck b
 unfolding imageCheckWith22 imageCheck nodeCheck treeOf
@@ -147,6 +151,11 @@ module _ (n : ℕ) where
   never-then (rejected w) s f g r e q = f w refl (let z : w ≡ r = cc in rw z q)
   never-then (answer x) s f g r e q = g r e q
 
+  never-at-entry : (c : Check) (place : ℕ) → Never n c → Never n (c atEntry place)
+  unfolding _atEntry_
+  never-at-entry (rejected w) place f r e q = f w refl (let z : w .rule ≡ r .rule = cc in z ∙ q)
+  never-at-entry (answer x) place f r e q = never-answer x r e q
+
   never-from : (f : ℕ → Check) (k i : ℕ) → ((j : ℕ) → Never n (f j)) → Never n (checkFrom f k i)
   unfolding checkFrom
   never-from f zero i h = never-answer tt
@@ -161,14 +170,25 @@ module _ (b : List ℕ) where
       (never-then 22 (recordCheck (treeOf b)) _ (never-from 22 (recordCheckAt (treeOf b)) _ 0 (λ i. never-check 22 i (recordRules (treeOf b) i) refl))
       (never-check 22 _ _ refl))
 
+  entry-never : (i k : ℕ) → Never 22 (referenceCheckAt (treeOf b) i k)
+  unfolding referenceCheckAt referenceRules ruleNumbers among
+  entry-never i k = never-at-entry 22 (check i (referenceRules (treeOf b) i k)) (suc k) (never-check 22 i (referenceRules (treeOf b) i k) refl)
+
   node-never : (i : ℕ) → Never 22 (nodeCheckAt (treeOf b) i)
-  unfolding nodeCheckAt nodeRules sidsRules elementRules ruleNumbers among
+  unfolding nodeCheckAt sectionCheck referenceCheck sidsRules elementRules ruleNumbers among
   node-never i = by-test (validated (treeOf b) i) (eqb (role (treeOf b) i) Elements)
     where
-      by-test : (v e : Bool) → Never 22 (cond v (check i (sidsRules (treeOf b) i ++ cond e (elementRules (treeOf b) i) [])) passed)
+      sids : Never 22 (check i (sidsRules (treeOf b) i))
+      sids = never-check 22 i (sidsRules (treeOf b) i) refl
+
+      by-test : (v e : Bool)
+          → Never 22 (cond v (check i (sidsRules (treeOf b) i) then cond e (check i (elementRules (treeOf b) i) then referenceCheck (treeOf b) i) passed) passed)
       by-test false e = never-answer 22 tt
-      by-test true true = never-check 22 i _ refl
-      by-test true false = never-check 22 i _ refl
+      by-test true true =
+          never-then 22 _ _ sids
+          (never-then 22 (check i (elementRules (treeOf b) i)) _ (never-check 22 i (elementRules (treeOf b) i) refl)
+          (never-from 22 (referenceCheckAt (treeOf b) i) _ 0 (entry-never i)))
+      by-test true false = never-then 22 _ _ sids (never-answer 22 tt)
 
   answer-never : Never 22 (validation b)
   unfolding validation _gives_ imageCheck nodeCheck
@@ -184,7 +204,7 @@ module _ (b : List ℕ) where
       no-second b i g v (sids-rule b ok 20 i h v) (sids-rule b ok 21 i h v)
 
   pub never-22 : NeverComes b
-  unfolding validationWith22 validation rulesWith22 nodeRules sidsRules ruleNumbers
+  unfolding validationWith22 validation rulesWith22 sidsRules ruleNumbers
   never-22 =
       let same : validationWith22 b ≡ validation b = ap (λ c. c gives counts (treeOf b)) (alike b) in
       record { row = λ i. refl; never = rw same answer-never; same-answer = same; same-check = alike b; once = accepted-once }

@@ -8,7 +8,7 @@ use native.Mathlib.Decide.{ℕ-discrete}
 use native.Mathlib.Numerals.{add-one}
 use lib.Dec.{eqb}
 use Rattle.model.specs.declared.Rejection.{Rejection}
-use Rattle.model.specs.Rules.{Answer, rejected, answer, Check, passed, Rule, _unless_, check, checkFrom, _then_, _gives_, _into_}
+use Rattle.model.specs.Rules.{Answer, rejected, answer, Check, passed, Rule, _unless_, check, _atEntry_, checkFrom, _then_, _gives_, _into_}
 use Rattle.model.proofs.Logic.{choose}
 
 -- a refusal is no value
@@ -34,14 +34,6 @@ Claim n ((rule unless holds) ∷ rest) = cond (eqb n rule) (holds ≡ true) (Cla
 pub claim : (n : ℕ) (rules : List Rule) → Hold rules → Claim n rules
 claim n [] h = tt
 claim n ((rule unless holds) ∷ rest) h = choose (eqb n rule) (h .0) (claim n rest (h .1))
-
-pub hold-left : (xs ys : List Rule) → Hold (xs ++ ys) → Hold xs
-hold-left [] ys h = tt
-hold-left ((rule unless holds) ∷ xs) ys h = (h .0, hold-left xs ys (h .1))
-
-pub hold-right : (xs ys : List Rule) → Hold (xs ++ ys) → Hold ys
-hold-right [] ys h = h
-hold-right ((rule unless holds) ∷ xs) ys h = hold-right xs ys (h .1)
 
 -- a rule that holds wherever those before it hold makes no difference
 pub row-kept : (node rule : ℕ) (t : Bool) (xs ys : List Rule) → (Hold xs → t ≡ true) → check node (xs ++ (rule unless t ∷ ys)) ≡ check node (xs ++ ys)
@@ -70,6 +62,12 @@ module _ {A : Type 0} where
   unfolding _then_
   then-off s e = rw e
 
+  -- checks one after the other
+  pub then-then : (c d : Check) (s : Answer A) → ((c then d) then s) ≡ (c then (d then s))
+  unfolding _then_
+  then-then (rejected r) d s = refl
+  then-then (answer x) d s = refl
+
   pub gives-check : (c : Check) (v : A) {a : A} → (c gives v) ≡ answer a → c ≡ passed
   unfolding _gives_
   gives-check c v e = then-first c (answer v) e
@@ -83,6 +81,12 @@ pub into-value : {A B : Type 0} (s : Answer A) (f : A → Answer B) {v : B} → 
 unfolding _into_
 into-value (rejected r) f e = refused e
 into-value (answer x) f e = (x, refl, e)
+
+-- a check of an entry passes where the check does
+pub at-entry-pass : (c : Check) (place : ℕ) → (c atEntry place) ≡ passed → c ≡ passed
+unfolding _atEntry_
+at-entry-pass (rejected r) place e = refused e
+at-entry-pass (answer x) place e = refl
 
 pub checkFrom-at : (f : ℕ → Check) (k i j : ℕ) → checkFrom f k i ≡ passed → i ≤ j → j < i + k → f j ≡ passed
 unfolding checkFrom
@@ -115,6 +119,24 @@ checkFrom-same f g (suc k) i h =
       | yes q ↦ subst (λ (n : ℕ). g n ≡ passed) q p
       | no n ↦ before m (omega (arith, n)) w
     ]))))
+
+-- the first that does not pass decides, and where there is none the walk passes
+pub checkFrom-first : (f : ℕ → Check) (k i j : ℕ) {r : Rejection} → i ≤ j → j < i + k → ((m : ℕ) → i ≤ m → m < j → f m ≡ passed) → f j ≡ rejected r
+    → checkFrom f k i ≡ rejected r
+unfolding checkFrom
+checkFrom-first f zero i j l h before e = absurd (omega arith)
+checkFrom-first f (suc k) i j l h before e =
+    elim (ℕ-discrete i j) [
+      | yes q ↦ then-off (checkFrom f k (suc i)) (rw q e)
+      | no n ↦ then-on (checkFrom f k (suc i)) (before i (omega arith) (omega (arith, n)))
+          ∙ checkFrom-first f k (suc i) j (omega (arith, n)) (omega arith) (λ m a b. before m (omega arith) b) e
+    ]
+
+pub checkFrom-none : (f : ℕ → Check) (k i : ℕ) → ((m : ℕ) → i ≤ m → m < i + k → f m ≡ passed) → checkFrom f k i ≡ passed
+unfolding checkFrom
+checkFrom-none f zero i each = refl
+checkFrom-none f (suc k) i each =
+    then-on (checkFrom f k (suc i)) (each i (omega arith) (omega arith)) ∙ checkFrom-none f k (suc i) (λ m a b. each m (omega arith) (omega arith))
 
 -- a loop over the nodes: one that passes, one that does not, the end
 module _ (f : ℕ → Check) (n i : ℕ) where

@@ -13,16 +13,17 @@ use Rattle.model.specs.Rules.{passed}
 use Rattle.model.specs.Image.{Tree, treeOf, nodeCount, parent, stored, width}
 use Rattle.model.specs.Containment.{role, Zone, Elements, isZone, validatedAs, validated, sectionOf, mayHold}
 use Rattle.model.specs.Values.{sidsRules, reads, structured, unstructured, zoneTypeOf, indexDimension, vertexSize, cellSize, unstructuredSizes, zoneValue}
-use Rattle.model.specs.Values.{typeLawful, valueLawful, placed, connectivityOf}
+use Rattle.model.specs.Values.{valueLawful, placed, connectivityOf}
 use Rattle.model.specs.Elements.{NGON, NFACE, elementType, firstElement, lastElement, inRange, meets, overlap, overlaps, reference, connectivityLength}
-use Rattle.model.specs.Elements.{isTypeNumber, isNode, allNodes, faceSection, hasFace, faceOf, faceNumber, isFace, allFaces, elementRules}
+use Rattle.model.specs.Elements.{isTypeNumber, isNode, conformingSection, faceSection, hasFace, faceOf, faceNumber, isFace, elementRules, referenceRules}
 use Rattle.model.specs.Validation.{imageCheck}
 use Rattle.model.proofs.Logic.{same-is, untrue, and-first, and-second, and-both, or-cases, when, neither}
 use Rattle.model.proofs.Walks.{every-at, some-by, some-at}
 use Rattle.model.proofs.Accepted.{sids-rule}
 use Rattle.model.proofs.Sections.{not-root}
 use Rattle.model.proofs.TwosComplement.{half-wide, signed-is, magnitude-is}
-use Rattle.model.proofs.InZone.{InZone, parts, role-is, section-rule, connectivity, range}
+use Rattle.model.proofs.InZone.{InZone, parts, role-is, section-rule, section-entry, connectivity, range}
+use Rattle.model.proofs.ReferenceChecks.{conforms-section, rules-face}
 
 -- an element number in a section's range
 pub record InRange (t : Tree) (s f : ℕ) : Type 0 where
@@ -74,11 +75,11 @@ module _ {b : List ℕ} {z s : ℕ} (a : InZone b z s) where
   -- 34
   pub node-inside : (elementType (treeOf b) s ≡ NFACE → ⊥) → (i : ℕ) → i < connectivityLength (treeOf b) s → isTypeNumber (treeOf b) s i ≡ false
       → (1 ≤ reference (treeOf b) s i) × (reference (treeOf b) s i ≤ vertexSize (treeOf b) z 0)
-  unfolding elementRules allNodes isNode
+  unfolding referenceRules isNode
   node-inside n i h y =
       let x = reference (treeOf b) s i in
-      let r = when (not (eqb (elementType (treeOf b) s) NFACE)) (allNodes (treeOf b) s) (section-rule a 34) (rw (ne-eqb (elementType (treeOf b) s) NFACE n)) in
-      let e = rw (parts a .parent-is, y) at (every-at (isNode (treeOf b) s) (connectivityLength (treeOf b) s) 0 i r (omega arith) (omega arith)) in
+      let r = when (not (eqb (elementType (treeOf b) s) NFACE)) (isNode (treeOf b) s i) (section-entry a 34 i h) (rw (ne-eqb (elementType (treeOf b) s) NFACE n)) in
+      let e = rw (parts a .parent-is, y) at r in
       (leb-true 1 x (and-first (leb 1 x) _ e), leb-true x (vertexSize (treeOf b) z 0) (and-second (leb 1 x) _ e))
 
   -- 28: an element number is not in the range of an earlier section too
@@ -106,8 +107,7 @@ found-face : {b : List ℕ} → imageCheck b ≡ passed → (z f j : ℕ) → j 
 unfolding hasFace faceSection inRange
 found-face {b} ok z f j l e =
     let t = treeOf b in
-    let lawful = sectionOf t z j && typeLawful t j && valueLawful t j in
-    let g = and-first (lawful && eqb (elementType t j) NGON) _ (and-first (faceSection t z j) _ e) in
+    let g = and-first (faceSection t z j) _ e in
     let r = and-second (faceSection t z j) (inRange t j f) e in
     record {
       section = j;
@@ -115,9 +115,9 @@ found-face {b} ok z f j l e =
           record {
             accepted = ok;
             listed = l;
-            is-section = and-first (sectionOf t z j) _ (and-first (sectionOf t z j && typeLawful t j) _ (and-first lawful _ g));
+            is-section = conforms-section t z j (and-first (conformingSection t z j) _ g);
           };
-      face-section = eqb-true (elementType t j) NGON (and-second lawful _ g);
+      face-section = eqb-true (elementType t j) NGON (and-second (conformingSection t z j) _ g);
       has =
           record {
             from = leb-true (firstElement t j) f (and-first (leb (firstElement t j) f) _ r);
@@ -125,16 +125,20 @@ found-face {b} ok z f j l e =
           };
     }
 
--- 35
+-- 35, 36, 37
+pub reference-face : {b : List ℕ} {z s : ℕ} → InZone b z s → elementType (treeOf b) s ≡ NFACE → (i : ℕ) → i < connectivityLength (treeOf b) s
+    → faceOf (treeOf b) z (faceNumber (treeOf b) s i) ≡ true
+unfolding referenceRules isFace
+reference-face {b} {s = s} a e i h =
+    rw (parts a .parent-is) at (rules-face (treeOf b) s i e (section-entry a 35 i h) (section-entry a 36 i h) (section-entry a 37 i h))
+
 pub face-inside : {b : List ℕ} {z s : ℕ} → InZone b z s → elementType (treeOf b) s ≡ NFACE → (i : ℕ) → i < connectivityLength (treeOf b) s
     → HasFace b z (faceNumber (treeOf b) s i)
-unfolding elementRules allFaces isFace faceOf treeOf
+unfolding faceOf treeOf
 face-inside {b} {z} {s} a e i h =
     let t = treeOf b in
     let f = faceNumber t s i in
-    let r = when (eqb (elementType t s) NFACE) (allFaces t s) (section-rule a 35) (rw e) in
-    let o = rw (parts a .parent-is) at (every-at (isFace t s) (connectivityLength t s) 0 i r (omega arith) (omega arith)) in
-    let u = some-at (hasFace t z f) (nodeCount b) 0 o in
+    let u = some-at (hasFace t z f) (nodeCount b) 0 (reference-face a e i h) in
     found-face (a .accepted) z f (u .at) (omega (arith, u .to)) (u .holds)
 
 -- what a signed reference says: a node number, or a face number's magnitude

@@ -12,7 +12,8 @@ use Rattle.model.specs.Rules.{Rule, _unless_, Answer, rejected, Check, p
 use Rattle.model.specs.Image.{Tree, treeOf, nodeCount}
 use Rattle.model.specs.Records.{sibling, tableCheck}
 use Rattle.model.specs.Containment.{LibraryVersion, ZoneType, Rind, GridLocation, role, validated}
-use Rattle.model.specs.Validation.{Counts, counts, nodeRules, imageCheck, validation}
+use Rattle.model.specs.Values.{sidsRules}
+use Rattle.model.specs.Validation.{Counts, counts, sectionCheck, imageCheck, validation}
 
 -- once only: the labels that a parent may have once
 unfoldable pub onceOnly : List ℕ
@@ -25,12 +26,12 @@ sameRole t i j = sibling t i j && eqb (role t j) (role t i)
 unfoldable pub second : Tree → ℕ → Bool
 second t i = among (role t i) onceOnly && someFrom (sameRole t i) i 0
 
--- the rules of a validated node, with 22 after 20 and 21
+-- rules 20 to 26 of a validated node, with 22 after 20 and 21
 unfoldable pub rulesWith22 : Tree → ℕ → List Rule
-rulesWith22 t i = take 2 (nodeRules t i) ++ (22 unless not (second t i) ∷ drop 2 (nodeRules t i))
+rulesWith22 t i = take 2 (sidsRules t i) ++ (22 unless not (second t i) ∷ drop 2 (sidsRules t i))
 
 unfoldable pub nodeCheckWith22 : Tree → ℕ → Check
-nodeCheckWith22 t i = cond (validated t i) (check i (rulesWith22 t i)) passed
+nodeCheckWith22 t i = cond (validated t i) (check i (rulesWith22 t i) then sectionCheck t i) passed
 
 unfoldable pub imageCheckWith22 : List ℕ → Check
 imageCheckWith22 b = tableCheck b then checkFrom (nodeCheckWith22 (treeOf b)) (treeOf b .count) 0

@@ -1,5 +1,5 @@
 -- Face usage of an accepted image: positive plus negative uses are the zone's type 23 connectivity lengths summed.
--- Each entry means a face of the zone (rule 35), so it has a place below F, and its use sets one bit that was free.
+-- Each entry means a face of the zone (rules 35 to 37), so it has a place below F, and its use sets one bit that was free.
 use Prim.Native.Nat.{ℕ, zero, suc, _+_, _-_, _/_, _%_, _≤_, _<_}
 use mathlib.Core.Path.{_≡_, refl, _∙_}
 use mathlib.Core.Bool.{Bool, true, false, cond, _&&_}
@@ -10,7 +10,7 @@ use native.Mathlib.Nat.{add-zero, zero-add}
 use lib.ListN.{length, getD, set, replicate, length-set, length-replicate}
 use lib.Seq.{getD-set-same, getD-set-other, set-out}
 use lib.Dec.{eqb, leb, ltb}
-use borrow.Author.Tests.{leb-true, ltb-true, ltb-false}
+use borrow.Author.Tests.{eqb-true, leb-true, ltb-true, ltb-false}
 use Rattle.model.specs.Lists.{sumBefore, seekFrom}
 use Rattle.model.specs.Bytes.{negative}
 use Rattle.model.specs.Rules.{rejected, answer, passed, repetition, _into_}
@@ -18,15 +18,15 @@ use Rattle.model.specs.Image.{Tree, treeOf, nodeCount, parent, width}
 use Rattle.model.specs.Containment.{sectionOf}
 use Rattle.model.specs.Values.{connectivityOf}
 use Rattle.model.specs.Elements.{NFACE, elementType, connectivityLength, firstElement, lastElement, elementCount, inRange, faceSection, hasFace, faceOf}
-use Rattle.model.specs.Elements.{faceNumber, isFace, allFaces, reference, elementRules}
+use Rattle.model.specs.Elements.{faceNumber, reference}
 use Rattle.model.specs.FaceUsage.{facesIn, faceCount, facePlace, usePlace, useSign, unused, elementHolding, useEntry, useEntries, usesIn, useNodes, usage}
 use Rattle.model.specs.FaceUsage.{positiveUses, negativeUses, cellEntries}
 use Rattle.model.specs.Validation.{imageCheck}
-use Rattle.model.proofs.Logic.{untrue, and-first, and-second, when}
-use Rattle.model.proofs.Walks.{every-at, Some, some-at, seek-holds, seek-before, sum-part}
+use Rattle.model.proofs.Logic.{untrue, and-first, and-second}
+use Rattle.model.proofs.Walks.{Some, some-at, seek-holds, seek-before, sum-part}
 use Rattle.model.proofs.Passed.{refused, into-value}
-use Rattle.model.proofs.Accepted.{element-rule}
-use Rattle.model.proofs.Conforming.{section-is}
+use Rattle.model.proofs.InZone.{InZone, parts}
+use Rattle.model.proofs.References.{reference-face}
 
 -- a face of the zone has a place below F
 place-below : (t : Tree) (z f : ℕ) → faceOf t z f ≡ true → facePlace t z f < faceCount t z
@@ -165,7 +165,7 @@ zeros (suc n) (suc i) = zeros n i
 module _ (b : List ℕ) (yes : imageCheck b ≡ passed) (z : ℕ) where
   -- an entry of a type 23 section means a face of the zone
   entry-below : (s k : ℕ) → s < nodeCount b → k < usesIn (treeOf b) z s → usePlace (treeOf b) s k < faceCount (treeOf b) z
-  unfolding usesIn usePlace elementRules allFaces isFace
+  unfolding usesIn usePlace
   entry-below s k l h = by-test (sectionOf t z s && eqb (elementType t s) NFACE) refl h
     where
       t : Tree
@@ -174,11 +174,8 @@ module _ (b : List ℕ) (yes : imageCheck b ≡ passed) (z : ℕ) where
       by-test : (u : Bool) → (sectionOf t z s && eqb (elementType t s) NFACE) ≡ u → k < cond u (connectivityLength t s) 0
           → facePlace t (parent t s) (faceNumber t s k) < faceCount t z
       by-test true e m =
-          let i = section-is t z s (and-first (sectionOf t z s) _ e) in
-          let r = when (eqb (elementType t s) NFACE) (allFaces t s) (element-rule b yes 35 s l (i .is-validated) (i .elements))
-          (and-second (sectionOf t z s) _ e) in
-          let f = every-at (isFace t s) (connectivityLength t s) 0 k r (omega arith) (omega arith) in
-          rw (i .parent-is) (place-below t z (faceNumber t s k) (rw (i .parent-is) at f))
+          let a : InZone b z s = record { accepted = yes; listed = l; is-section = and-first (sectionOf t z s) _ e } in
+          rw (parts a .parent-is) (place-below t z (faceNumber t s k) (reference-face a (eqb-true _ _ (and-second (sectionOf t z s) _ e)) k m))
       by-test false e m = absurd (omega arith)
 
   none-yet : Book (faceCount (treeOf b) z) (replicate (faceCount (treeOf b) z) 0)

@@ -11,7 +11,7 @@ use native.Mathlib.Nat.{add-zero}
 use lib.Dec.{eqb}
 use borrow.Author.Tests.{eqb-true, ne-eqb}
 use Rattle.model.specs.Lists.{everyFrom, someFrom, countFrom, listFrom, seekFrom, sumBefore, among}
-use Rattle.model.proofs.Logic.{untrue, and-first, and-second, or-left, or-right, or-cases}
+use Rattle.model.proofs.Logic.{untrue, and-first, and-second, and-false, or-left, or-right, or-cases}
 
 left : (n i : ℕ) → i < n → n - i ≡ suc (n - (i + 1))
 left n i h = omega arith
@@ -70,10 +70,32 @@ unfolding someFrom
 some-same p q zero i e = refl
 some-same p q (suc k) i e = rw (e i (omega arith) (omega arith), some-same p q k (suc i) (λ j l h. e j (omega arith) (omega arith)))
 
+module _ (p q : ℕ → Bool) where
+  pub every-same : (k i : ℕ) → ((j : ℕ) → i ≤ j → j < i + k → p j ≡ q j) → everyFrom p k i ≡ everyFrom q k i
+  unfolding everyFrom
+  every-same zero i e = refl
+  every-same (suc k) i e = rw (e i (omega arith) (omega arith), every-same k (suc i) (λ j l h. e j (omega arith) (omega arith)))
+
+  pub every-both : (k i : ℕ) → everyFrom (λ (j : ℕ). p j && q j) k i ≡ (everyFrom p k i && everyFrom q k i)
+  unfolding everyFrom
+  every-both zero i = refl
+  every-both (suc k) i = rw (every-both k (suc i)) (in-turn (p i) (q i) (everyFrom p k (suc i)) (everyFrom q k (suc i)))
+    where
+      in-turn : (a b c d : Bool) → ((a && b) && (c && d)) ≡ ((a && c) && (b && d))
+      in-turn true true c d = refl
+      in-turn true false c d = sym (and-false c)
+      in-turn false b c d = refl
+
 pub sum-same : (f g : ℕ → ℕ) (n : ℕ) → ((j : ℕ) → j < n → f j ≡ g j) → sumBefore f n ≡ sumBefore g n
 unfolding sumBefore
 sum-same f g zero e = refl
 sum-same f g (suc n) e = rw (sum-same f g n (λ j h. e j (omega arith)), e n (omega arith))
+
+-- what always holds holds of every number
+pub every-holds : (p : ℕ → Bool) → ((j : ℕ) → p j ≡ true) → (k i : ℕ) → everyFrom p k i ≡ true
+unfolding everyFrom
+every-holds p e zero i = refl
+every-holds p e (suc k) i = rw (e i) (every-holds p e k (suc i))
 
 -- what holds of every number holds of each
 pub every-at : (p : ℕ → Bool) (k i j : ℕ) → everyFrom p k i ≡ true → i ≤ j → j < i + k → p j ≡ true

@@ -110,9 +110,9 @@ pub record TypeCall (b : List ℕ) (z k element : ℕ) (r : ℕ) (out′ : List 
   pub refused-by : (why : Rejection) → tells ≡ rejected why → r ≡ why .rule
   pub type-is : (n : ℕ) → tells ≡ answer n → (r ≡ 0) × (le 8 out′ ≡ n)
 
--- The export of a zone's sections, where it answers rule 0: the second word of its answer is their count, and the list that it leaves is one that the claim
+-- The export of a zone's sections, where it answers rule 0: the third word of its answer is their count, and the list that it leaves is one that the claim
 -- speaks of.
 pub record SectionsGiven (b : List ℕ) (z : ℕ) (out out′ answer′ : List ℕ) : Type 0 where
-  pub count-is : le 8 (drop 8 answer′) ≡ sectionCount (treeOf b) z
+  pub count-is : le 8 (drop 16 answer′) ≡ sectionCount (treeOf b) z
   pub list-is : out′ ≡ given b z (drop (entryLength * sectionCount (treeOf b) z) out) .entries
   pub claim : Claim3 b z (drop (entryLength * sectionCount (treeOf b) z) out)

@@ -1,11 +1,11 @@
--- Document 01, "Sections", and document 02, §2 and §4: rules 27 to 35, and 38 between 33 and 34.
+-- Document 01, "Sections", and document 02, §2, §4 and §6: rules 27 to 33 and 38 of a section, then 34 to 37 of the entries of its connectivity.
 use Prim.Native.Nat.{ℕ, zero, suc, _+_, _*_, _-_}
 use mathlib.Core.Bool.{Bool, cond, not, _&&_, _||_}
 use mathlib.Core.List.{List, [], _∷_}
 use lib.Dec.{eqb, leb, ltb}
 use Rattle.model.specs.Lists.{_⊃_, Row, _has_, row, someFrom, everyFrom}
 use Rattle.model.specs.Bytes.{below, magnitude}
-use Rattle.model.specs.Rules.{Rule, _unless_}
+use Rattle.model.specs.Rules.{Rule, _unless_, Check, check, _atEntry_, checkFrom}
 use Rattle.model.specs.Image.{Tree, parent, width, number}
 use Rattle.model.specs.Containment.{sectionOf, found}
 use Rattle.model.specs.Values.{size, cellDimension, vertexSize, typeLawful, valueLawful, rangeOf, offsetsOf, connectivityOf}
@@ -163,30 +163,43 @@ isTypeNumber t s k = eqb (elementType t s) MIXED && someFrom (startsAt t s k) (e
 unfoldable pub isNode : Tree → ℕ → ℕ → Bool
 isNode t s k = isTypeNumber t s k || (leb 1 (reference t s k) && leb (reference t s k) (vertexSize t (parent t s) 0))
 
-unfoldable pub allNodes : Tree → ℕ → Bool
-allNodes t s = everyFrom (isNode t s) (connectivityLength t s) 0
+-- a section of the zone whose own data and range count: its node meets 24 and 25, its ElementRange conforms
+unfoldable pub conformingSection : Tree → ℕ → ℕ → Bool
+conformingSection t z s = sectionOf t z s && typeLawful t s && valueLawful t s && found t (rangeOf t s)
 
--- 35: the zone's face sections: type 22, own node meets 24 and 25, ElementRange conforms
+-- it brings element e to the zone; e is an element of the zone
+unfoldable pub hasElement : Tree → ℕ → ℕ → ℕ → Bool
+hasElement t z e s = conformingSection t z s && inRange t s e
+
+unfoldable pub elementOf : Tree → ℕ → ℕ → Bool
+elementOf t z e = someFrom (hasElement t z e) (t .count) 0
+
+-- a face section of the zone: such a section of type 22
 unfoldable pub faceSection : Tree → ℕ → ℕ → Bool
-faceSection t z s = sectionOf t z s && typeLawful t s && valueLawful t s && eqb (elementType t s) NGON && found t (rangeOf t s)
+faceSection t z s = conformingSection t z s && eqb (elementType t s) NGON
 
--- section s brings face f to the zone; f is a face of the zone
+-- it brings face f to the zone; f is a face of the zone
 unfoldable pub hasFace : Tree → ℕ → ℕ → ℕ → Bool
 hasFace t z f s = faceSection t z s && inRange t s f
 
 unfoldable pub faceOf : Tree → ℕ → ℕ → Bool
 faceOf t z f = someFrom (hasFace t z f) (t .count) 0
 
--- the face that entry k of a type 23 section means; a negative reference means the same face seen from its other side
+-- the element number that entry k of a type 23 section refers to; a negative reference means the same face seen from its other side
 unfoldable pub faceNumber : Tree → ℕ → ℕ → ℕ
 faceNumber t s k = magnitude (width t (connectivityOf t s)) (reference t s k)
+
+-- 35: it is not zero; 36: it is an element of the zone; 37: it is a face of the zone
+unfoldable pub notZero : Tree → ℕ → ℕ → Bool
+notZero t s k = ltb 0 (faceNumber t s k)
+
+unfoldable pub isElement : Tree → ℕ → ℕ → Bool
+isElement t s k = elementOf t (parent t s) (faceNumber t s k)
 
 unfoldable pub isFace : Tree → ℕ → ℕ → Bool
 isFace t s k = faceOf t (parent t s) (faceNumber t s k)
 
-unfoldable pub allFaces : Tree → ℕ → Bool
-allFaces t s = everyFrom (isFace t s) (connectivityLength t s) 0
-
+-- the rules of a section, before its entries are looked at one by one
 unfoldable pub elementRules : Tree → ℕ → List Rule
 elementRules t s =
     27 unless taken (elementType t s)
@@ -197,6 +210,20 @@ elementRules t s =
     ∷ 32 unless (hasOffsets (elementType t s) ⊃ endsAtLength t s)
     ∷ 33 unless allLargeEnough t s
     ∷ 38 unless (eqb (elementType t s) MIXED ⊃ allTypesFit t s)
-    ∷ 34 unless (not (eqb (elementType t s) NFACE) ⊃ allNodes t s)
-    ∷ 35 unless (eqb (elementType t s) NFACE ⊃ allFaces t s)
     ∷ []
+
+-- the rules of entry k of its connectivity, counted from 0; of 35, 36 and 37 it breaks one at most
+unfoldable pub referenceRules : Tree → ℕ → ℕ → List Rule
+referenceRules t s k =
+    34 unless (not (eqb (elementType t s) NFACE) ⊃ isNode t s k)
+    ∷ 35 unless (eqb (elementType t s) NFACE ⊃ notZero t s k)
+    ∷ 36 unless (eqb (elementType t s) NFACE ⊃ notZero t s k ⊃ isElement t s k)
+    ∷ 37 unless (eqb (elementType t s) NFACE ⊃ isElement t s k ⊃ isFace t s k)
+    ∷ []
+
+-- a refusal tells the entry's place, counted from 1; the first entry that breaks a rule decides
+unfoldable pub referenceCheckAt : Tree → ℕ → ℕ → Check
+referenceCheckAt t s k = check s (referenceRules t s k) atEntry suc k
+
+unfoldable pub referenceCheck : Tree → ℕ → Check
+referenceCheck t s = checkFrom (referenceCheckAt t s) (connectivityLength t s) 0

@@ -8,12 +8,16 @@ infix 68 _unless_
 infixr 20 _then_
 infix 15 _gives_
 infixl 15 _into_
--- a refusal of document 01: its number and its node; the element is for 45 alone
+infixl 25 _atEntry_
+-- a refusal: its number and its node; the place of an entry in the connectivity, from 1, is for 34 to 37 alone, the element for 45 alone
+abbrev pub rejectionAt : ℕ → ℕ → ℕ → Rejection
+rejectionAt rule node entry = record { rule = rule; node = node; entry = entry; element = 0 }
+
 abbrev pub rejection : ℕ → ℕ → Rejection
-rejection rule node = record { rule = rule; node = node; element = 0 }
+rejection rule node = rejectionAt rule node 0
 
 abbrev pub repetition : ℕ → ℕ → Rejection
-repetition node element = record { rule = 45; node = node; element = element }
+repetition node element = record { rule = 45; node = node; entry = 0; element = element }
 
 -- what a call tells: a refusal, or its values
 pub data Answer (A : Type 0) : Type 0 where
@@ -45,12 +49,17 @@ unfoldable pub _into_ : {A B : Type 0} → Answer A → (A → Answer B) → Ans
 pub data Rule : Type 0 where
   _unless_ : ℕ → Bool → Rule
 
--- at a node the first rule of a list whose test fails; lists are ascending, but for 38, which stands between 33 and 34
+-- at a node the first rule of a list whose test fails; lists are ascending
 unfoldable pub check : ℕ → List Rule → Check
 check node [] = passed
 check node ((rule unless holds) ∷ rest) = let later = check node rest in cond holds later (rejected (rejection rule node))
 
--- the lowest node first: k nodes from i on
+-- the check of an entry of the connectivity: its refusal tells the place of the entry
+unfoldable pub _atEntry_ : Check → ℕ → Check
+(rejected r) atEntry place = rejected (rejectionAt (r .rule) (r .node) place)
+(answer x) atEntry place = answer x
+
+-- the lowest node, or entry, first: k of them from i on
 unfoldable pub checkFrom : (ℕ → Check) → ℕ → ℕ → Check
 checkFrom f zero i = passed
 checkFrom f (suc k) i = let rest = checkFrom f k (suc i) in f i then rest

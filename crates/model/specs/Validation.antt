@@ -1,23 +1,23 @@
 -- The verdict of document 01: header, records, leftovers, meaning; and the four counts of an acceptance.
 use Prim.Native.Nat.{ℕ}
-use mathlib.Core.Bool.{Bool, cond}
-use mathlib.Core.List.{List, [], _++_}
+use mathlib.Core.Bool.{cond}
+use mathlib.Core.List.{List}
 use lib.Dec.{eqb}
 use Rattle.model.specs.Lists.{countFrom}
-use Rattle.model.specs.Rules.{Rule, Answer, Check, passed, check, checkFrom, _then_, _gives_}
+use Rattle.model.specs.Rules.{Answer, Check, passed, check, checkFrom, _then_, _gives_}
 use Rattle.model.specs.Image.{Tree, treeOf}
 use Rattle.model.specs.Records.{tableCheck}
 use Rattle.model.specs.Containment.{Zone, Elements, role, validated, skipped, validatedAs}
 use Rattle.model.specs.Values.{sidsRules}
-use Rattle.model.specs.Elements.{elementRules}
+use Rattle.model.specs.Elements.{elementRules, referenceCheck}
 
--- a section has rules 27 to 35 and 38 besides
-unfoldable pub nodeRules : Tree → ℕ → List Rule
-nodeRules t i = sidsRules t i ++ cond (eqb (role t i) Elements) (elementRules t i) []
+-- a section has rules 27 to 33 and 38 besides, then 34 to 37 of the entries of its connectivity
+unfoldable pub sectionCheck : Tree → ℕ → Check
+sectionCheck t i = cond (eqb (role t i) Elements) (check i (elementRules t i) then referenceCheck t i) passed
 
 -- a node that is not validated is skipped
 unfoldable pub nodeCheckAt : Tree → ℕ → Check
-nodeCheckAt t i = cond (validated t i) (check i (nodeRules t i)) passed
+nodeCheckAt t i = cond (validated t i) (check i (sidsRules t i) then sectionCheck t i) passed
 
 unfoldable pub nodeCheck : Tree → Check
 nodeCheck t = checkFrom (nodeCheckAt t) (t .count) 0

@@ -1,12 +1,14 @@
 // The types that contracts name: a rejection, the answer of each call, a section. What they mean stands in specs/.
 ghost use mathlib.Core.Path.{_≡_};
-ghost use Rattle.model.specs.Rules.{rejection, repetition};
+ghost use Rattle.model.specs.Rules.{rejection, rejectionAt, repetition};
 ghost use Rattle.model.specs.Answers.{rejectionOf};
 
-// Why a call is refused: document 01's rule number, the node (0 where the rule names none) and, for rule 45 alone, the element.
+// Why a call is refused: the rule's number, the node (0 where the rule names none), for rules 34 to 37 alone the place of the entry in the connectivity,
+// counted from 1, and for rule 45 alone the element.
 pub struct Rejection {
     pub rule: u64,
     pub node: u64,
+    pub entry: u64,
     pub element: u64,
 }
 
@@ -18,6 +20,19 @@ impl Rejection {
         Rejection {
             rule,
             node,
+            entry: 0,
+            element: 0,
+        }
+    }
+
+    // A rule broken by an entry of a section's connectivity.
+    pub fn at_entry(rule: u64, node: u64, entry: u64) -> Rejection
+        ensures { λ r. ⌜ r ≡ rejectionAt rule node entry ⌝ }
+    {
+        Rejection {
+            rule,
+            node,
+            entry,
             element: 0,
         }
     }
@@ -29,6 +44,7 @@ impl Rejection {
         Rejection {
             rule: 45,
             node,
+            entry: 0,
             element,
         }
     }

@@ -2,10 +2,10 @@
 use Prim.Native.Nat.{ℕ, _+_, _-_, _≤_, _<_}
 use mathlib.Core.Path.{_≡_, refl, sym, _∙_}
 use mathlib.Core.Bool.{Bool, true, false, cond, _&&_}
-use mathlib.Core.List.{List, []}
+use mathlib.Core.List.{List}
 use native.Mathlib.Omega.{arith}
 use native.Mathlib.Decide.{ℕ-discrete}
-use lib.Dec.{eqb, ltb}
+use lib.Dec.{ltb}
 use borrow.Author.Tests.{ltb-true}
 use lib.ListN.{getD}
 use Rattle.model.proofs.Logic.{and-first, and-second, when}
@@ -13,30 +13,24 @@ use Rattle.model.proofs.Accepted.{sids-rule}
 use Rattle.model.proofs.Reading.{rank-is}
 use Rattle.model.specs.Lists.{countFrom}
 use Rattle.model.specs.declared.Rejection.{Rejection}
-use Rattle.model.specs.Rules.{Check, answer, rejected, rejection, _gives_, passed, check, checkFrom, _then_}
+use Rattle.model.specs.Rules.{answer, rejected, rejection, _gives_, passed, check, checkFrom, _then_}
 use Rattle.model.specs.Image.{Tree, treeOf, nodeCount, node, parent, dimensions}
-use Rattle.model.specs.Containment.{role, Zone, Elements, validated, skipped, validatedAs}
+use Rattle.model.specs.Containment.{Zone, Elements, validated, skipped, validatedAs}
 use Rattle.model.specs.Values.{sidsRules, sizedArray, sizesLawful, dataSizes}
 use Rattle.types.proofs.StoredNumbers.{shaped-is}
 use Rattle.model.specs.DataSize.{isSizedArray, sizesOf, dataSizeAnswer}
-use Rattle.model.specs.Elements.{elementRules}
 use Rattle.model.specs.Given.{Accepted}
-use Rattle.model.specs.Validation.{nodeRules, nodeCheckAt, nodeCheck, imageCheck, counts}
+use Rattle.model.specs.Validation.{sectionCheck, nodeCheckAt, nodeCheck, imageCheck, counts}
 use Rattle.model.proofs.Walks.{countFrom-step, countFrom-end, count-both}
 use Rattle.model.proofs.Passed.{checkFrom-on, checkFrom-off, checkFrom-end}
-use Rattle.model.proofs.Staging.{check-append}
-
--- a section's own rules, none for another node
-abbrev pub sectionRules : Tree → ℕ → Check
-sectionRules t i = check i (cond (eqb (role t i) Elements) (elementRules t i) [])
 
 pub node-skipped : (t : Tree) (i : ℕ) → validated t i ≡ false → passed ≡ nodeCheckAt t i
 unfolding nodeCheckAt
 node-skipped t i e = rw e
 
-pub node-checked : (t : Tree) (i : ℕ) → validated t i ≡ true → (check i (sidsRules t i) then sectionRules t i) ≡ nodeCheckAt t i
-unfolding nodeCheckAt nodeRules
-node-checked t i e = rw e (sym (check-append i (sidsRules t i) _))
+pub node-checked : (t : Tree) (i : ℕ) → validated t i ≡ true → (check i (sidsRules t i) then sectionCheck t i) ≡ nodeCheckAt t i
+unfolding nodeCheckAt
+node-checked t i e = rw e
 
 -- what a loop has counted before i, of n
 pub record Counted (p : ℕ → Bool) (n i count : ℕ) : Type 0 where

@@ -1,21 +1,18 @@
 // Validation of an image: every rule in the stated order, and the four counts of an acceptance. The DataSize of an array.
 ghost use mathlib.Core.Path.{_≡_};
 ghost use mathlib.Core.Bool.{true, cond};
-ghost use mathlib.Core.List.{[]};
 ghost use Prim.Native.Nat.{_≤_};
-ghost use lib.Dec.{eqb};
 ghost use lib.ListN.{length};
 ghost use Rattle.model.specs.Lists.{seekFrom};
 ghost use Rattle.model.specs.Rules.{answer, check, passed};
 ghost use Rattle.model.specs.Image.{treeOf, nodeCount};
-ghost use Rattle.model.specs.Containment.{role, Elements, validated};
+ghost use Rattle.model.specs.Containment.{validated};
 ghost use Rattle.model.specs.Values.{sidsRules};
-ghost use Rattle.model.specs.Elements.{elementRules};
-ghost use Rattle.model.specs.Validation.{nodeCheckAt, nodeCheck, imageCheck, counts, validation};
+ghost use Rattle.model.specs.Validation.{sectionCheck, nodeCheckAt, nodeCheck, imageCheck, counts, validation};
 ghost use Rattle.model.specs.Given.{NodesTo};
 ghost use Rattle.model.specs.Answers.{stageTells, validationTells};
 ghost use Rattle.index.specs.Index.{Index};
-ghost use Rattle.elements.specs.Ranges.{overlapAt, Faces};
+ghost use Rattle.section_data.specs.Ranges.{overlapAt, Faces};
 
 mod sizes; // sizes.rt: the DataSize of an array
 
@@ -25,7 +22,7 @@ use model::Stage;
 use model::Validation;
 pub use sizes::data_size;
 
-// Rules 27 to 35 and 38 where node i is a section.
+// Rules 27 to 38 where node i is a section.
 fn section_stage(
     image: &[u8],
     index: &[u16],
@@ -41,7 +38,7 @@ fn section_stage(
     requires { ⌜ check i (sidsRules (treeOf (now image)) i) ≡ passed ⌝ }
     requires { ⌜ overlap ≡ seekFrom (overlapAt (treeOf (now image))) (nodeCount (now image)) 0 ⌝ }
     requires { ⌜ Faces (treeOf (now image)) (now firsts) (now reach) faces × (2048 ≤ length (now levels)) ⌝ }
-    ensures { λ r. ⌜ stageTells r ≡ check i (cond (eqb (role (treeOf (now (image .entry))) i) Elements) (elementRules (treeOf (now (image .entry))) i) []) ⌝ }
+    ensures { λ r. ⌜ stageTells r ≡ sectionCheck (treeOf (now (image .entry))) i ⌝ }
 {
     if index::role_of(image, index, i) == ELEMENTS {
         return elements::element_stage(image, index, i, overlap, firsts, reach, faces, levels);
@@ -49,7 +46,7 @@ fn section_stage(
     Stage::Pass
 }
 
-// Rules 20 to 35 and 38 at node i, to which validation has come; a node that is not validated is skipped.
+// Rules 20 to 38 at node i, to which validation has come; a node that is not validated is skipped.
 fn node_stage(
     image: &[u8],
     index: &[u16],
@@ -75,7 +72,7 @@ fn node_stage(
     section_stage(image, index, i, overlap, firsts, reach, faces, levels)
 }
 
-// Rules 20 to 35 and 38 at every node, the lowest node first. `overlap` is the first node that breaks rule 28; the tables hold the faces of all zones.
+// Rules 20 to 38 at every node, the lowest node first. `overlap` is the first node that breaks rule 28; the tables hold the faces of all zones.
 fn every_node(
     image: &[u8],
     index: &[u16],
@@ -114,12 +111,12 @@ fn nodes_stage(
     requires { ⌜ (2048 ≤ length (now firsts)) × (2048 ≤ length (now reach)) ⌝ }
     ensures { λ r. ⌜ stageTells r ≡ nodeCheck (treeOf (now (image .entry))) ⌝ }
 {
-    let overlap = elements::first_overlap(image, index, firsts, reach);
-    let faces = elements::gather_faces(image, index, firsts, reach);
+    let overlap = section_data::first_overlap(image, index, firsts, reach);
+    let faces = section_data::gather_faces(image, index, firsts, reach);
     every_node(image, index, overlap, firsts, reach, faces, levels)
 }
 
-// Every rule, 1 to 35 and 38, as one stage, in lent tables. The index is that of the image where rules 1 to 18 hold.
+// Every rule, 1 to 38, as one stage, in lent tables. The index is that of the image where rules 1 to 18 hold.
 pub fn image_stage_with(
     image: &[u8],
     index: &mut [u16],
@@ -182,7 +179,8 @@ fn counted(image: &[u8], index: &[u16]) -> Validation
     }
 }
 
-// Whether the image meets every rule: the counts of validated nodes, skipped nodes, zones and sections; otherwise the first broken rule and its node.
+// Whether the image meets every rule: the counts of validated nodes, skipped nodes, zones and sections; otherwise the first broken rule and its node, and of rules 34 to 37 the
+// entry that breaks it.
 pub fn validate(image: &[u8]) -> Validation
     ensures { λ r. ⌜ validationTells r ≡ validation (now (image .entry)) ⌝ }
 {

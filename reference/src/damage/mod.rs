@@ -11,6 +11,7 @@ mod once_only;
 mod pick;
 mod points;
 mod records;
+mod references;
 mod sections;
 mod site;
 mod stored_types;
@@ -33,6 +34,7 @@ pub use header::flips;
 pub use mixed::{mixed_case, MIXED_CASES};
 pub use names::{name_case, NAME_CASES};
 pub use points::{point_case, POINT_CASES};
+pub use references::{reference_case, REFERENCE_CASES};
 
 /// A way to break an image: its nodes, words of its header, or its length in bytes.
 #[derive(Clone, Copy)]
@@ -45,7 +47,7 @@ pub enum Damage {
 use Damage::{Length, Nodes, Words};
 
 /// The rules that an image may break, each with its damages.
-pub const DAMAGES: [(u32, &[Damage]); 34] = [
+pub const DAMAGES: [(u32, &[Damage]); 36] = [
     (1, &[Length(cut_short), Length(cut_short), Length(cut_short), Length(too_long)]),
     (2, &[Words(other_form)]),
     (3, &[Words(other_length), Length(more_bytes), Length(fewer_bytes)]),
@@ -107,7 +109,9 @@ pub const DAMAGES: [(u32, &[Damage]); 34] = [
     (32, &[Nodes(last_offset), Nodes(connectivity_longer)]),
     (33, &[Nodes(flat_element), Nodes(flat_element), Nodes(flat_element), Nodes(third_dimension)]),
     (34, &[Nodes(other_node_reference)]),
-    (35, &[Nodes(other_face_reference), Nodes(other_face_reference), Nodes(face_section_lost)]),
+    (35, &[Nodes(zero_face_reference)]),
+    (36, &[Nodes(no_element_reference), Nodes(no_element_reference), Nodes(face_section_lost)]),
+    (37, &[Nodes(element_reference), Nodes(element_reference), Nodes(face_section_retyped)]),
     (38, &[Nodes(unlisted), Nodes(unlisted), Nodes(of_other_size), Nodes(other_start), Nodes(called_mixed)]),
 ];
 

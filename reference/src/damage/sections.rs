@@ -1,4 +1,4 @@
-//! Damage to sections (rules 27 to 35). For rule 38 see `stored_types.rs`.
+//! Damage to sections (rules 27 to 37). For rule 38 see `stored_types.rs`.
 
 use super::pick::{change, labelled, section, section_child};
 use super::stored_types::type_places;
@@ -210,8 +210,8 @@ pub fn other_node_reference(image: &mut Image, random: &mut Random) {
     }
 }
 
-/// A face reference that is zero or may be no face (rule 35).
-pub fn other_face_reference(image: &mut Image, random: &mut Random) {
+/// Changes a face reference: `other` is given the ranges of the zone's sections, at least one.
+fn change_face(image: &mut Image, random: &mut Random, other: impl Fn(&mut Random, &[(i64, i64)]) -> i64) {
     let Some(array) = section_child(image, random, &[23], "ElementConnectivity") else {
         return;
     };
@@ -226,37 +226,62 @@ pub fn other_face_reference(image: &mut Image, random: &mut Random) {
     if ranges.is_empty() {
         return;
     }
-    let (first, last) = *random.pick(&ranges);
-    let sign = *random.pick(&[1, -1]);
-    let choices = [
-        0,
-        0,
-        first.saturating_sub(1).saturating_mul(sign),
-        last.saturating_add(1).saturating_mul(sign),
-        first.saturating_mul(sign),
-        i64::from(i32::MIN),
-        i64::from(i32::MIN),
-        sign * MAX_NUMBER,
-        i64::MIN,
-        i64::MAX,
-    ];
     let place = random.index(image.nodes[array].numbers().len());
-    change(image, array, place, *random.pick(&choices));
+    let number = other(random, &ranges);
+    change(image, array, place, number);
 }
 
-/// A face section that is no longer one, or has fewer faces; what else it breaks may come later than the cells.
+/// A face reference that is zero (rule 35).
+pub fn zero_face_reference(image: &mut Image, random: &mut Random) {
+    change_face(image, random, |_, _| 0);
+}
+
+/// A face reference that may be no element of the zone (rule 36).
+pub fn no_element_reference(image: &mut Image, random: &mut Random) {
+    change_face(image, random, |random, ranges| {
+        let (first, last) = *random.pick(ranges);
+        let sign = *random.pick(&[1, -1]);
+        let choices = [
+            first.saturating_sub(1).saturating_mul(sign),
+            last.saturating_add(1).saturating_mul(sign),
+            i64::from(i32::MIN),
+            sign * MAX_NUMBER,
+            i64::MIN,
+            i64::MAX,
+        ];
+        *random.pick(&choices)
+    });
+}
+
+/// A reference to any element of the zone (rule 37, if it is no face).
+pub fn element_reference(image: &mut Image, random: &mut Random) {
+    change_face(image, random, |random, ranges| {
+        let (first, last) = *random.pick(ranges);
+        random.pick(&[first, last]).saturating_mul(*random.pick(&[1, -1]))
+    });
+}
+
+/// A face section of another type (rule 37 at cells with a lower number).
+pub fn face_section_retyped(image: &mut Image, random: &mut Random) {
+    if let Some(range) = section_child(image, random, &[NGON_N], "ElementRange") {
+        let section = image.nodes[range].parent as usize;
+        change(image, section, 0, *random.pick(&[7, MIXED, NFACE_N, 0, 24, -22]));
+    }
+}
+
+/// A face section that does not count, or has fewer faces (rule 36 at cells with a lower number); what else it breaks may
+/// come later than the cells.
 pub fn face_section_lost(image: &mut Image, random: &mut Random) {
     let Some(range) = section_child(image, random, &[22], "ElementRange") else {
         return;
     };
     let section = image.nodes[range].parent as usize;
     let (first, last) = range_of(image, range).unwrap_or((1, 1));
-    match random.below(6) {
+    match random.below(5) {
         0 => image.remove(section),
-        1 => change(image, section, 0, 7),
-        2 => change(image, section, 1, -1),
-        3 => change(image, range, 1, last.saturating_sub(1).max(first)),
-        4 => change(image, range, 0, 0),
+        1 => change(image, section, 1, -1),
+        2 => change(image, range, 1, last.saturating_sub(1).max(first)),
+        3 => change(image, range, 0, 0),
         _ => break_type(random, &mut image.nodes[section]),
     }
 }

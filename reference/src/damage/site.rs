@@ -7,6 +7,7 @@ use crate::elements::{NFACE_N, NGON_N};
 use crate::lawful::Deck;
 use crate::random::Random;
 use crate::sizes::MAX_NUMBER;
+use crate::text::padded;
 
 /// An unstructured zone, and what its next sections are made of. The elements of a section are lists of references.
 pub struct Site<'a> {
@@ -65,10 +66,11 @@ impl<'a> Site<'a> {
         *self.random.pick(&[0, -1, self.vertices + 1, -self.vertices, MAX_NUMBER, i64::from(i32::MIN)])
     }
 
-    /// A number that is no face of the zone: zero, that of the next element, one behind all, or one that 4 bytes cannot
-    /// negate.
-    pub fn bad_face(&mut self) -> i64 {
-        *self.random.pick(&[0, self.next_element, -self.next_element - 9, i64::from(i32::MIN)])
+    /// A number that is no face of the zone, and the rule that it breaks in a section that is added next: zero, that of
+    /// its first element, one behind all, or one that 4 bytes cannot negate.
+    pub fn bad_face(&mut self) -> (i64, u32) {
+        let next = self.next_element;
+        *self.random.pick(&[(0, 35), (next, 37), (-next - 9, 36), (i64::from(i32::MIN), 36)])
     }
 
     /// Adds a section of these faces, which are those of all cells that come after it.
@@ -98,6 +100,17 @@ impl<'a> Site<'a> {
 
     /// Adds a section with its children in any order, each at any place behind the zone and the section.
     pub fn add(&mut self, name: &str, element_type: i64, elements: &[Vec<i64>]) {
+        self.add_after(self.zone, name, element_type, elements);
+    }
+
+    /// The same with all of these nodes behind another section.
+    pub fn add_behind(&mut self, before: &str, name: &str, element_type: i64, elements: &[Vec<i64>]) -> Option<()> {
+        self.add_after(self.section(before)?, name, element_type, elements);
+        Some(())
+    }
+
+    /// The same behind a node.
+    fn add_after(&mut self, after: usize, name: &str, element_type: i64, elements: &[Vec<i64>]) {
         let first = self.next_element;
         self.next_element += elements.len() as i64;
         let [of_range, of_offsets, of_connectivity] = [(); 3].map(|()| self.width());
@@ -110,7 +123,18 @@ impl<'a> Site<'a> {
         ];
         self.random.shuffle(&mut nodes);
         nodes.insert(0, Node::integers(name, "Elements_t", 4, &[2], &[element_type, 0]));
-        scatter(self.image, self.random, self.zone, self.zone, nodes);
+        scatter(self.image, self.random, self.zone, after, nodes);
+    }
+
+    /// Another zone of the same base, with as many vertices, behind this one; its elements begin at a number.
+    pub fn beside(&mut self, first_element: i64) -> Site<'_> {
+        let base = self.image.nodes[self.zone].parent as usize;
+        let zone = Node { name: padded(b"Mesh beside"), ..self.image.nodes[self.zone].clone() };
+        let zone_type = Node::text("ZoneType", "ZoneType_t", "Unstructured");
+        let zone = scatter(self.image, self.random, base, self.zone, vec![zone, zone_type]);
+        let deck = Deck::new(self.random, Vec::new(), false);
+        let (image, random, vertices) = (&mut *self.image, &mut *self.random, self.vertices);
+        Site { image, random, zone, vertices, next_element: first_element, deck }
     }
 
     /// 4 or 8.
@@ -158,15 +182,17 @@ impl<'a> Site<'a> {
 
     /// Refused by a rule at a section.
     pub fn refused(&self, rule: u32, name: &str) -> Option<Answer> {
-        Some(Answer::Refused { rule, node: self.section(name)? })
+        self.refused_at(rule, name, 0)
     }
 
-    /// Refused by the rule of one of two sections, whichever has the lower number.
-    pub fn refused_at_lower(&self, (rule, name): (u32, &str), (other_rule, other): (u32, &str)) -> Option<Answer> {
-        if self.section(name)? < self.section(other)? {
-            self.refused(rule, name)
-        } else {
-            self.refused(other_rule, other)
-        }
+    /// Refused by a rule at an entry of a section's connectivity, counted from 1.
+    pub fn refused_at(&self, rule: u32, name: &str, entry: u64) -> Option<Answer> {
+        Some(Answer::at_entry(rule, self.section(name)?, entry))
+    }
+
+    /// Refused by the rule of one of two sections, whichever has the lower number; each with its entry, or 0.
+    pub fn refused_at_lower(&self, one: (u32, &str, u64), other: (u32, &str, u64)) -> Option<Answer> {
+        let (rule, name, entry) = if self.section(one.1)? < self.section(other.1)? { one } else { other };
+        self.refused_at(rule, name, entry)
     }
 }

@@ -137,7 +137,7 @@ fn expected(parent: usize, label: &str, fixed: &str, names: [Text; 2], [first, s
         Held(_) if misnamed[0] => (21, first),
         Held(_) => (21, second),
     };
-    Answer::Refused { rule, node }
+    Answer::at_node(rule, node)
 }
 
 /// Puts two children of every label allowed once under a parent of the tree, under all pairs of names, in all layouts:

@@ -1,5 +1,5 @@
-//! Accepted images in which one number of a MIXED section is changed afterwards, a stored type or a start offset: what the readers
-//! then answer by the section of before.
+//! Accepted images in which one number is changed afterwards: of a MIXED section a stored type or a start offset, and what the
+//! readers then answer by the section of before; of any section a reference, and where validation then finds it.
 
 use reference::build::signed_bytes;
 use reference::bytes::signed_at;
@@ -33,6 +33,21 @@ pub fn changed(image: &[u8], entries: &[Section], random: &mut Random) -> Option
         put(&mut image, type_at, width, stored);
     }
     Some(Changed { image, section, element: section.first + index })
+}
+
+/// An image with an entry of the connectivity of one of its sections changed, the first, the last or any, mostly to what is no
+/// node and no face; nothing where it has no section.
+pub fn changed_reference(image: &[u8], entries: &[Section], random: &mut Random) -> Option<Vec<u8>> {
+    let section = entries.get(random.index(entries.len().max(1)))?;
+    let width = section.connectivity_width as usize;
+    let last = section.connectivity_length - 1;
+    let any = random.below(section.connectivity_length);
+    let at = section.connectivity_at as usize + width * *random.pick(&[0, last, any]) as usize;
+    let (first, behind) = (section.first as i64, section.last as i64 + 1);
+    let numbers = [0, 0, first, -first, behind, -behind, i64::from(i32::MIN), i64::MIN, i64::MAX, (1 << 32) + first];
+    let mut image = image.to_vec();
+    put(&mut image, at, width, *random.pick(&numbers));
+    Some(image)
 }
 
 /// Another number in place of a stored type: mostly near what is supported, now and then of as many nodes, or the same in its

@@ -7,23 +7,24 @@ use reference::{
 /// The rule, 0 where there is none, and the words of the answer.
 pub type Told<const N: usize> = (u64, [u64; N]);
 
-/// A refusal: its rule, and as words its node, and 0 for all others.
+/// A refusal: its rule, and as words its node, its entry, and 0 for all others.
 fn refusal<const N: usize>(rejection: Rejection) -> Told<N> {
     let mut words = [0; N];
     words[0] = rejection.node;
+    words[1] = rejection.entry;
     (u64::from(rejection.rule), words)
 }
 
-/// node, validated, skipped, zones, sections
-pub fn validation(image: &[u8]) -> Told<5> {
+/// node, entry, validated, skipped, zones, sections
+pub fn validation(image: &[u8]) -> Told<6> {
     match validate(image) {
-        Ok(counts) => (0, [0, counts.validated, counts.skipped, counts.zones, counts.sections]),
+        Ok(counts) => (0, [0, 0, counts.validated, counts.skipped, counts.zones, counts.sections]),
         Err(rejection) => refusal(rejection),
     }
 }
 
-/// node, count; nine numbers a section go to the front of `out`
-pub fn sections(image: &[u8], zone: u64, out: &mut [u64]) -> Told<2> {
+/// node, entry, count; nine numbers a section go to the front of `out`
+pub fn sections(image: &[u8], zone: u64, out: &mut [u64]) -> Told<3> {
     let entries = match section_entries(image, zone) {
         Ok(entries) => entries,
         Err(rejection) => return refusal(rejection),
@@ -31,53 +32,56 @@ pub fn sections(image: &[u8], zone: u64, out: &mut [u64]) -> Told<2> {
     let numbers: Vec<u64> = entries.iter().flat_map(|entry| entry.numbers()).collect();
     match out.get_mut(..numbers.len()) {
         Some(front) => front.copy_from_slice(&numbers),
-        None => return (46, [0, 0]),
+        None => return (46, [0; 3]),
     }
-    (0, [0, entries.len() as u64])
+    (0, [0, 0, entries.len() as u64])
 }
 
-/// node, element, count; the usage of each face goes to the front of `out`
-pub fn usage(image: &[u8], zone: u64, out: &mut [u8]) -> Told<3> {
+/// node, entry, element, count; the usage of each face goes to the front of `out`
+pub fn usage(image: &[u8], zone: u64, out: &mut [u8]) -> Told<4> {
     match face_usage(image, zone, out) {
-        Ok(count) => (0, [0, 0, count as u64]),
-        Err(rejection) => (u64::from(rejection.rule), [rejection.node, rejection.element, 0]),
+        Ok(count) => (0, [0, 0, 0, count as u64]),
+        Err(rejection) => {
+            let words = [rejection.node, rejection.entry, rejection.element, 0];
+            (u64::from(rejection.rule), words)
+        }
     }
 }
 
-/// node, count; the path goes to the front of `out`
-pub fn path(image: &[u8], node: u64, out: &mut [u8]) -> Told<2> {
+/// node, entry, count; the path goes to the front of `out`
+pub fn path(image: &[u8], node: u64, out: &mut [u8]) -> Told<3> {
     match path_into(image, node, out) {
-        Ok(length) => (0, [0, length as u64]),
+        Ok(length) => (0, [0, 0, length as u64]),
         Err(rejection) => refusal(rejection),
     }
 }
 
-/// node, count
-pub fn name_bytes(image: &[u8]) -> Told<2> {
+/// node, entry, count
+pub fn name_bytes(image: &[u8]) -> Told<3> {
     match reference::name_bytes(image) {
-        Ok(count) => (0, [0, count]),
+        Ok(count) => (0, [0, 0, count]),
         Err(rejection) => refusal(rejection),
     }
 }
 
-/// node, directions, i, j, k
-pub fn sizes(image: &[u8], node: u64) -> Told<5> {
+/// node, entry, directions, i, j, k
+pub fn sizes(image: &[u8], node: u64) -> Told<6> {
     match data_size(image, node) {
         Ok(size) => {
-            let mut words = [0, size.directions as u64, 0, 0, 0];
-            words[2..2 + size.directions].copy_from_slice(size.dimensions());
+            let mut words = [0, 0, size.directions as u64, 0, 0, 0];
+            words[3..3 + size.directions].copy_from_slice(size.dimensions());
             (0, words)
         }
         Err(rejection) => refusal(rejection),
     }
 }
 
-/// node, kind, bits
-pub fn value(image: &[u8], node: u64, k: u64) -> Told<3> {
+/// node, entry, kind, bits
+pub fn value(image: &[u8], node: u64, k: u64) -> Told<4> {
     match array_value(image, node, k) {
-        Ok(Value::Whole(number)) => (0, [0, 1, number as u64]),
-        Ok(Value::Single(bits)) => (0, [0, 2, u64::from(bits)]),
-        Ok(Value::Double(bits)) => (0, [0, 3, bits]),
+        Ok(Value::Whole(number)) => (0, [0, 0, 1, number as u64]),
+        Ok(Value::Single(bits)) => (0, [0, 0, 2, u64::from(bits)]),
+        Ok(Value::Double(bits)) => (0, [0, 0, 3, bits]),
         Err(rejection) => refusal(rejection),
     }
 }

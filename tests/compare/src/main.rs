@@ -17,11 +17,11 @@ use reference::generate::image;
 use reference::lawful::SizeClass;
 use reference::random::Random;
 
-use changed::{changed, Changed};
+use changed::{changed, changed_reference, Changed};
 use comparison::Comparison;
 use fixed::fixed;
 use guarded::Arena;
-use questions::{ask, ask_changed, ask_part};
+use questions::{ask, ask_changed, ask_part, ask_reference};
 use tally::{Place, Tally};
 
 const USAGE: &str = "compare SEED COUNT [small|medium|large]";
@@ -29,8 +29,9 @@ const USAGE: &str = "compare SEED COUNT [small|medium|large]";
 /// More than the longest image, which rule 1 is broken by.
 const LONGEST: usize = 16_777_216 + 64;
 
-/// How often a number of a MIXED section is changed.
+/// How often a number of a MIXED section is changed, and how often a reference of any section.
 const CHANGES: usize = 6;
+const REFERENCES: usize = 2;
 
 fn main() -> ExitCode {
     let arguments: Vec<String> = std::env::args().skip(1).collect();
@@ -76,8 +77,8 @@ struct Arenas {
     sections: Arena,
 }
 
-/// Compares all calls on an image, some of them on the image with a number of a MIXED section changed and, now and then, on a
-/// part of it.
+/// Compares all calls on an image, some of them on the image with a number of a MIXED section or a reference changed and, now
+/// and then, on a part of it.
 fn compare(bytes: &[u8], random: &mut Random, class: SizeClass, arenas: &mut Arenas, tally: &mut Tally) {
     let Arenas { images, sections } = arenas;
     tally.image(bytes.len(), expected::validation(bytes).0);
@@ -87,6 +88,11 @@ fn compare(bytes: &[u8], random: &mut Random, class: SizeClass, arenas: &mut Are
         let Some(Changed { image, section, element }) = changed(bytes, &entries, random) else { break };
         let lent = place(images, &image, random.one_in(2));
         ask_changed(&mut Comparison { image: &image, lent, sections, tally }, random, &section, element);
+    }
+    for _ in 0..REFERENCES {
+        let Some(image) = changed_reference(bytes, &entries, random) else { break };
+        let lent = place(images, &image, random.one_in(2));
+        ask_reference(&mut Comparison { image: &image, lent, sections, tally }, random);
     }
     if random.one_in(4) {
         let part = &bytes[..random.index(bytes.len() + 1)];

@@ -44,6 +44,14 @@ pub fn ask_changed(comparison: &mut Comparison, random: &mut Random, section: &S
     }
 }
 
+/// Asks about an image in which a reference was changed: validation, and the calls that give its refusal.
+pub fn ask_reference(comparison: &mut Comparison, random: &mut Random) {
+    let mut asker = Asker { comparison, random, limits: Limits::FEW };
+    asker.validations();
+    let node = asker.random.below(9);
+    asker.about_image_node(node);
+}
+
 /// How much is asked: nodes of either kind, zones, corner reads of a section.
 struct Limits {
     nodes: usize,
@@ -89,13 +97,13 @@ impl Asker<'_, '_> {
     }
 
     fn validations(&mut self) {
-        for room in self.answers(5) {
+        for room in self.answers(6) {
             self.comparison.validate(room);
         }
     }
 
     fn name_bytes(&mut self) {
-        for room in self.answers(2) {
+        for room in self.answers(3) {
             self.comparison.name_bytes(room);
         }
     }
@@ -117,7 +125,7 @@ impl Asker<'_, '_> {
         for node in self.nodes(count) {
             let length = path(self.comparison.image, node).map_or(3, |path| path.len());
             for bytes in self.rooms(length) {
-                for room in self.answers(2) {
+                for room in self.answers(3) {
                     self.comparison.path(node, bytes, room);
                 }
             }
@@ -135,7 +143,7 @@ impl Asker<'_, '_> {
         asked.sort_unstable();
         asked.dedup();
         for k in asked {
-            for room in self.answers(3) {
+            for room in self.answers(4) {
                 self.comparison.array_value(node, k, room);
             }
         }
@@ -177,19 +185,19 @@ impl Asker<'_, '_> {
     }
 
     fn data_size(&mut self, node: u64) {
-        for room in self.answers(5) {
+        for room in self.answers(6) {
             self.comparison.data_size(node, room);
         }
     }
 
     fn sections(&mut self, zone: u64, numbers: usize) {
-        for room in self.answers(2) {
+        for room in self.answers(3) {
             self.comparison.sections(zone, numbers, room);
         }
     }
 
     fn face_usage(&mut self, zone: u64, bytes: usize) {
-        for room in self.answers(3) {
+        for room in self.answers(4) {
             self.comparison.face_usage(zone, bytes, room);
         }
     }

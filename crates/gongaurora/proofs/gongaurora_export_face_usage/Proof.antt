@@ -4,23 +4,23 @@ use mathlib.Core.Path.{ap, _∙_}
 use borrow.Author.Needs.{needs}
 use lib.ListN.{length}
 use Rattle.model.specs.Exports.{usageWords}
-use Rattle.gongaurora.proofs.Laws.{usage-three, short, enough, memory-short, memory-long}
+use Rattle.gongaurora.proofs.Laws.{usage-four, short, enough, memory-short, memory-long}
 use Rattle.gongaurora.proofs.gongaurora_export_face_usage.Statement.{statement}
 use Rattle.gongaurora.proofs.gongaurora_export_face_usage.Tie as tie
 
 returns : tie.Need-returns
-returns c = let s = short usageWords 3 usage-three _ _ (c .if1 .taken) in (s .0, (s .1, memory-short 3 _ _ _ (c .if1 .taken)))
+returns c = let s = short usageWords 4 usage-four _ _ (c .if1 .taken) in (s .0, (s .1, memory-short 4 _ _ _ (c .if1 .taken)))
 
 put-answer-requires : tie.Need-put-answer-requires
-put-answer-requires c κs = (ap length (c .usage-answer .ensures .1) ∙ usage-three _, omega arith)
+put-answer-requires c κs = (ap length (c .usage-answer .ensures .1) ∙ usage-four _, omega arith)
 
 returns-2 : tie.Need-returns-2
 returns-2 c =
     let d = c .before .before in
     let call = d .before .before .before .before .face-usage .ensures in
     let room = d .before .before .before .before .before .before .before .if1 .left in
-    let answers = enough usageWords 3 usage-three _ _ room (call .0) (d .before .usage-answer .ensures) (d .put-answer .ensures) in
-    (answers .0, (answers .1, call .1 ∙ memory-long 3 _ _ _ room))
+    let answers = enough usageWords 4 usage-four _ _ room (call .0) (d .before .usage-answer .ensures) (d .put-answer .ensures) in
+    (answers .0, (answers .1, call .1 ∙ memory-long 4 _ _ _ room))
 
 pub gongaurora-export-face-usage-spec : {M : Type 1} → statement M
 gongaurora-export-face-usage-spec =

@@ -2,7 +2,7 @@
 use mathlib.Core.Path.{sym, _∙_}
 use borrow.Author.Needs.{needs}
 use borrow.Author.Tests.{eq-eqb, ne-eqb}
-use Rattle.model.specs.Rules.{check}
+use Rattle.model.specs.Validation.{sectionCheck}
 use Rattle.validation.proofs.section_stage.Statement.{statement}
 use Rattle.validation.proofs.section_stage.Tie as tie
 
@@ -16,12 +16,13 @@ element-stage-requires c κs =
     (p .0, ((p .1 .0, sym (r .role-of .ensures .0) ∙ c .before .if1 .taken), p .1 .1))
 
 returns : tie.Need-returns
+unfolding sectionCheck
 returns c =
     let i = c .before .before .before .before in
     rw (eq-eqb _ _ (sym (i .before .role-of .ensures .0) ∙ i .if1 .taken)) (c .before .before .element-stage .ensures)
 
 returns-2 : tie.Need-returns-2
-unfolding check
+unfolding sectionCheck
 returns-2 c = rw (ne-eqb _ _ (λ q. c .if1 .left (c .before .role-of .ensures .0 ∙ q)))
 
 pub section-stage-spec : {M : Type 1} → statement M

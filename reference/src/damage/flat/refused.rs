@@ -32,7 +32,7 @@ pub fn flat_faces_and_cells(image: &mut Image, random: &mut Random) -> Option<An
     let mut site = Site::new(image, random, 3);
     let (faces, cells) = (site.flat_sizes(LEAST_FACE), site.flat_sizes(LEAST_CELL));
     site.add_mesh(&faces, &cells);
-    site.refused_at_lower((33, "Faces"), (33, "Cells"))
+    site.refused_at_lower((33, "Faces", 0), (33, "Cells", 0))
 }
 
 /// 33 at a flat last face; the first has a node that is none.
@@ -46,16 +46,17 @@ pub fn flat_face_behind_bad_node(image: &mut Image, random: &mut Random) -> Opti
 /// 34 at faces of three nodes, one of which is none.
 pub fn bad_node_in_least_face(image: &mut Image, random: &mut Random) -> Option<Answer> {
     let mut site = Site::new(image, random, 3);
-    add_bad_faces(&mut site, &[LEAST_FACE; 2]);
-    site.refused(34, "Faces")
+    let entry = add_bad_faces(&mut site, &[LEAST_FACE; 2]);
+    site.refused_at(34, "Faces", entry)
 }
 
-/// Adds faces of these sizes, the first with a node that is none.
-fn add_bad_faces(site: &mut Site, sizes: &[i64]) {
+/// Adds faces of these sizes, the first with a node that is none; answers its entry.
+fn add_bad_faces(site: &mut Site, sizes: &[i64]) -> u64 {
     let mut faces = site.faces(sizes);
     let place = site.random.index(faces[0].len());
     faces[0][place] = site.bad_node();
     site.add_faces(&faces);
+    place as u64 + 1
 }
 
 /// 33 at a flat last cell; the first has a face that is none.
@@ -66,28 +67,31 @@ pub fn flat_cell_behind_bad_face(image: &mut Image, random: &mut Random) -> Opti
     site.refused(33, "Cells")
 }
 
-/// 35 at cells of four faces, one of which is none.
+/// 35 to 37 at cells of four faces, one of which is none.
 pub fn bad_face_in_least_cell(image: &mut Image, random: &mut Random) -> Option<Answer> {
     let mut site = Site::new(image, random, 3);
-    add_bad_cells(&mut site, &[LEAST_FACE; 2], &[LEAST_CELL; 2]);
-    site.refused(35, "Cells")
+    let (rule, entry) = add_bad_cells(&mut site, &[LEAST_FACE; 2], &[LEAST_CELL; 2]);
+    site.refused_at(rule, "Cells", entry)
 }
 
-/// 33 at faces, one of them flat, or 35 at a cell with a face that is none.
+/// 33 at faces, one of them flat, or 35 to 37 at a cell with a face that is none.
 pub fn flat_faces_and_bad_cell(image: &mut Image, random: &mut Random) -> Option<Answer> {
     let mut site = Site::new(image, random, 3);
     let (faces, cells) = (site.flat_sizes(LEAST_FACE), site.sizes(LEAST_CELL));
-    add_bad_cells(&mut site, &faces, &cells);
-    site.refused_at_lower((33, "Faces"), (35, "Cells"))
+    let (rule, entry) = add_bad_cells(&mut site, &faces, &cells);
+    site.refused_at_lower((33, "Faces", 0), (rule, "Cells", entry))
 }
 
-/// Adds faces and cells of these sizes, the first cell with a face that is none.
-fn add_bad_cells(site: &mut Site, face_sizes: &[i64], cell_sizes: &[i64]) {
+/// Adds faces and cells of these sizes, the first cell with a face that is none; answers the rule that it breaks, and its
+/// entry.
+fn add_bad_cells(site: &mut Site, face_sizes: &[i64], cell_sizes: &[i64]) -> (u32, u64) {
     site.add_faces_of(face_sizes);
     let mut cells = site.cells(cell_sizes);
     let place = site.random.index(cells[0].len());
-    cells[0][place] = site.bad_face();
+    let (number, rule) = site.bad_face();
+    cells[0][place] = number;
     site.add_cells(&cells);
+    (rule, place as u64 + 1)
 }
 
 /// 33 at faces of a base of three dimensions; another base of fewer has flat ones too, which pass.

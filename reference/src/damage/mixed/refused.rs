@@ -33,10 +33,11 @@ fn change_size(site: &mut Site, element: &mut [i64]) {
     element[0] = *site.random.pick(&types_of_other_size(element[0]));
 }
 
-/// Gives an element a number that is no node of the zone.
-fn spoil_node(site: &mut Site, element: &mut [i64]) {
+/// Gives an element a number that is no node of the zone; answers its place in the element, counted from 0.
+fn spoil_node(site: &mut Site, element: &mut [i64]) -> usize {
     let place = site.node_place(element);
     element[place] = site.bad_node();
+    place
 }
 
 /// 38, a type that is not in the list.
@@ -126,10 +127,14 @@ pub fn types_not_counted(site: &mut Site) -> Option<Answer> {
     site.refused(32, "Mixed")
 }
 
-/// 34, a node that is none.
+/// 34, a node that is none, its entry counted with the types.
 pub fn bad_node(site: &mut Site) -> Option<Answer> {
-    let elements = with_one(site, spoil_node);
-    refused(site, 34, &elements)
+    let mut elements = site.some_typed();
+    let element = site.random.index(elements.len());
+    let place = spoil_node(site, &mut elements[element]);
+    site.add_mixed(&elements);
+    let before: usize = elements[..element].iter().map(Vec::len).sum();
+    site.refused_at(34, "Mixed", (before + place) as u64 + 1)
 }
 
 /// 38 at the last element; the first has a node that is none.
@@ -191,8 +196,8 @@ pub fn ranges_that_meet(site: &mut Site) -> Option<Answer> {
     site.refused(28, later)
 }
 
-/// Adds faces, MIXED elements and a cell, one of whose faces is a MIXED element, of either sign.
-fn add_cell_of(site: &mut Site, elements: &[Vec<i64>]) {
+/// Adds faces, MIXED elements and a cell, one of whose faces is a MIXED element, of either sign; answers its entry.
+fn add_cell_of(site: &mut Site, elements: &[Vec<i64>]) -> u64 {
     site.add_faces_of(&[LEAST_FACE; 2]);
     let mut cell = site.cells(&[LEAST_CELL]).concat();
     let number = site.next_element + site.random.between(0, elements.len() as i64 - 1);
@@ -200,20 +205,21 @@ fn add_cell_of(site: &mut Site, elements: &[Vec<i64>]) {
     let place = site.random.index(cell.len());
     cell[place] = number * *site.random.pick(&[1, -1]);
     site.add_cells(&[cell]);
+    place as u64 + 1
 }
 
-/// 35 at a cell with a MIXED element in place of a face.
+/// 37 at a cell with a MIXED element in place of a face.
 pub fn mixed_as_face(site: &mut Site) -> Option<Answer> {
     let elements = if site.random.one_in(2) { site.some_typed() } else { site.typed(&[5, 7]) };
-    add_cell_of(site, &elements);
-    site.refused(35, "Cells")
+    let entry = add_cell_of(site, &elements);
+    site.refused_at(37, "Cells", entry)
 }
 
-/// 35 at such a cell or 38 at a bad type.
+/// 37 at such a cell or 38 at a bad type.
 pub fn bad_type_and_bad_cell(site: &mut Site) -> Option<Answer> {
     let elements = with_one(site, spoil_type);
-    add_cell_of(site, &elements);
-    site.refused_at_lower((38, "Mixed"), (35, "Cells"))
+    let entry = add_cell_of(site, &elements);
+    site.refused_at_lower((38, "Mixed", 0), (37, "Cells", entry))
 }
 
 /// 33 at a face of two nodes or 38 at a bad type.
@@ -221,5 +227,5 @@ pub fn flat_face_and_bad_type(site: &mut Site) -> Option<Answer> {
     let elements = with_one(site, spoil_type);
     site.add_faces_of(&[LEAST_FACE, LEAST_FACE - 1]);
     site.add_mixed(&elements);
-    site.refused_at_lower((33, "Faces"), (38, "Mixed"))
+    site.refused_at_lower((33, "Faces", 0), (38, "Mixed", 0))
 }

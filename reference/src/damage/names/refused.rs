@@ -36,7 +36,7 @@ pub fn twin(site: &mut Site) -> Option<Answer> {
     let (place, nodes) = short_family(site, 2)?;
     let pair = places(site, nodes.len());
     let numbers = with_twins(site, &place, nodes, &[pair]);
-    Some(Answer::Refused { rule: 11, node: numbers[pair[1]] })
+    Some(Answer::at_node(11, numbers[pair[1]]))
 }
 
 /// 11 at the last of many siblings, which has the name of the first.
@@ -48,7 +48,7 @@ pub fn far_twin(site: &mut Site) -> Option<Answer> {
     let nodes = site.members(&place, &names)?;
     let last = nodes.len() - 1;
     let numbers = with_twins(site, &place, nodes, &[[0, last]]);
-    Some(Answer::Refused { rule: 11, node: numbers[last] })
+    Some(Answer::at_node(11, numbers[last]))
 }
 
 /// 11 at the second of three siblings of one name.
@@ -56,7 +56,7 @@ pub fn three_alike(site: &mut Site) -> Option<Answer> {
     let (place, nodes) = short_family(site, 3)?;
     let [first, second, third] = places(site, nodes.len());
     let numbers = with_twins(site, &place, nodes, &[[first, second], [first, third]]);
-    Some(Answer::Refused { rule: 11, node: numbers[second] })
+    Some(Answer::at_node(11, numbers[second]))
 }
 
 /// 11 at the earlier of two nodes that have names of earlier siblings.
@@ -69,7 +69,7 @@ pub fn two_pairs(site: &mut Site) -> Option<Answer> {
         _ => ([[a, b], [c, d]], b),
     };
     let numbers = with_twins(site, &place, nodes, &pairs);
-    Some(Answer::Refused { rule: 11, node: numbers[lower] })
+    Some(Answer::at_node(11, numbers[lower]))
 }
 
 /// 11 among skipped nodes.
@@ -80,7 +80,7 @@ pub fn skipped_twin(site: &mut Site) -> Option<Answer> {
     let nodes = site.members(&place, &names)?;
     let pair = places(site, nodes.len());
     let numbers = with_twins(site, &place, nodes, &[pair]);
-    Some(Answer::Refused { rule: 11, node: numbers[pair[1]] })
+    Some(Answer::at_node(11, numbers[pair[1]]))
 }
 
 /// 11 at the later of a node of the image and a new sibling, which has its name and another label, type and data.
@@ -91,7 +91,7 @@ pub fn twin_of_another_label(site: &mut Site) -> Option<Answer> {
     let new = Node { name, ..Node::text("", label, "text") };
     site.add(parent, vec![new]);
     let later = site.image.children(parent).into_iter().rfind(|&n| site.image.nodes[n].name == name)?;
-    Some(Answer::Refused { rule: 11, node: later })
+    Some(Answer::at_node(11, later))
 }
 
 /// A node with the name of an earlier sibling, and a rule that is broken there, before it or behind it.
@@ -133,7 +133,7 @@ pub fn twin_beside_another_rule(site: &mut Site) -> Option<Answer> {
             (11, second)
         }
     };
-    Some(Answer::Refused { rule, node })
+    Some(Answer::at_node(rule, node))
 }
 
 /// 20 at the first of a family of labels that a base does not hold, or 23 at the first of zones without a type.
@@ -145,5 +145,5 @@ pub fn counted_all_the_same(site: &mut Site) -> Option<Answer> {
     let names = site.any_names(count);
     let nodes = site.members(&Place { parent, labels }, &names)?;
     let numbers = site.add(parent, nodes);
-    Some(Answer::Refused { rule, node: numbers[0] })
+    Some(Answer::at_node(rule, numbers[0]))
 }

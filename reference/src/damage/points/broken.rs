@@ -157,7 +157,7 @@ pub fn range_and_list(site: &mut Site) -> Option<Answer> {
     site.random.shuffle(&mut nodes);
     let beside = site.beside();
     let node = site.flow(nodes, beside);
-    Some(Answer::Refused { rule: 25, node })
+    Some(Answer::at_node(25, node))
 }
 
 /// A node that does not conform, with its size.

@@ -43,7 +43,7 @@ fn refused_below(site: &mut Site, rule: u32, parent: usize, node: Node) -> Optio
     if site.image.children(parent).into_iter().any(|n| site.image.nodes[n].name == node.name) {
         return None;
     }
-    Some(Answer::Refused { rule, node: site.scatter(parent, vec![node]) })
+    Some(Answer::at_node(rule, site.scatter(parent, vec![node])))
 }
 
 /// A range or a list under a name that is not its own there, and that name.

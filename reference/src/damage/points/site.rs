@@ -169,6 +169,6 @@ impl<'a> Site<'a> {
 
     /// Refused by a rule at the child of a node with this name.
     pub fn refused(&self, rule: u32, parent: usize, name: &str) -> Option<Answer> {
-        Some(Answer::Refused { rule, node: self.image.child(parent, name)? })
+        Some(Answer::at_node(rule, self.image.child(parent, name)?))
     }
 }

@@ -1,8 +1,9 @@
 -- The start offsets are there where their count is n + 1, and are then a row of the bytes.
 use mathlib.Core.Path.{sym, ap, _∙_}
 use Rattle.model.specs.Rules.{rejected}
-use Rattle.elements.proofs.RuleLaws.{row-numbers}
-use Rattle.elements.proofs.ShapeLaws.{offsets-there, offsets-found, count-small, offsets-short, offsets-fit}
+use Rattle.section_data.proofs.ArrayLaws.{row-numbers}
+use Rattle.section_data.proofs.ArrayLaws.{offsets-there, offsets-found}
+use Rattle.elements.proofs.ShapeLaws.{count-small, offsets-short, offsets-fit}
 use native.Mathlib.Omega.{arith}
 use borrow.Author.Needs.{needs}
 use Rattle.elements.proofs.lengths.offset_shape.Statement.{statement}

@@ -1,7 +1,7 @@
 -- The first stage that rejects is the answer.
 use Rattle.model.proofs.Staging.{stop, go, passes}
-use Rattle.elements.proofs.StageLaws.{length-read, row-is}
-use native.Mathlib.Omega.{arith}
+use Rattle.elements.proofs.StageLaws.{length-read}
+use Rattle.section_data.proofs.ArrayLaws.{row-is}
 use borrow.Author.Needs.{needs}
 use Rattle.elements.proofs.stage.array_stage.Statement.{statement}
 use Rattle.elements.proofs.stage.array_stage.Tie as tie

@@ -2,10 +2,11 @@
 use mathlib.Core.Path.{ap, _∙_}
 use borrow.Author.Tests.{eq-eqb, ne-eqb, not-true, not-false}
 use Rattle.model.specs.Rules.{rejected}
-use Rattle.elements.proofs.Stored.{stores-has}
-use Rattle.elements.proofs.SectionContext.{section-ready}
-use Rattle.elements.proofs.RangeLaws.{ready-ranged, overlap-is}
-use Rattle.elements.proofs.StageLaws.{first-by, last-by, type-read, count-read, type-broken, overlap-broken, arrays-left, up-read, most-read}
+use Rattle.section_data.proofs.Stored.{stores-has}
+use Rattle.section_data.proofs.SectionContext.{section-ready}
+use Rattle.section_data.proofs.RangeLaws.{ready-ranged, overlap-is}
+use Rattle.section_data.proofs.ArrayLaws.{first-by, last-by}
+use Rattle.elements.proofs.StageLaws.{type-read, count-read, type-broken, overlap-broken, arrays-left, up-read, most-read}
 use native.Mathlib.Omega.{arith}
 use borrow.Author.Needs.{needs}
 use Rattle.elements.proofs.stage.element_stage.Statement.{statement}

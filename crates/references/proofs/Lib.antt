@@ -1,0 +1,4 @@
+pub mod Failing
+pub mod FaceLaws
+pub mod RuleLaws
+pub mod MixedLaws

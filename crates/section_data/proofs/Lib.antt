@@ -1,0 +1,4 @@
+pub mod Stored
+pub mod ArrayLaws
+pub mod SectionContext
+pub mod RangeLaws
