@@ -130,10 +130,7 @@ pub enum FaceUsage {
 
 // The two parents of a face, as its section stores them; the second is 0 where there is none.
 pub enum ParentPair {
-    Of {
-        first: u64,
-        second: u64,
-    },
+    Of { first: u64, second: u64 },
     Rejected(Rejection),
 }
 
