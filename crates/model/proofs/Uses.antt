@@ -17,7 +17,7 @@ use Rattle.model.specs.Rules.{rejected, answer, passed, repetition, _int
 use Rattle.model.specs.Image.{Tree, treeOf, nodeCount, parent, width}
 use Rattle.model.specs.Containment.{sectionOf}
 use Rattle.model.specs.Values.{connectivityOf}
-use Rattle.model.specs.Elements.{NFACE, elementType, connectivityLength, firstElement, lastElement, elementCount, inRange, faceSection, hasFace, faceOf, sectionWith}
+use Rattle.model.specs.Elements.{NFACE, elementType, connectivityLength, firstElement, lastElement, elementCount, inRange, faceSection, hasFace, faceOf, sectionWithFace}
 use Rattle.model.specs.Elements.{faceNumber, reference}
 use Rattle.model.specs.FaceUsage.{facesIn, faceCount, facePlace, usePlace, useSign, unused, elementHolding, useEntry, useEntries, usesIn, useNodes, usage}
 use Rattle.model.specs.FaceUsage.{positiveUses, negativeUses, cellEntries}
@@ -30,7 +30,7 @@ use Rattle.model.proofs.References.{reference-face}
 
 -- a face of the zone has a place below F
 place-below : (t : Tree) (z f : ℕ) → faceOf t z f ≡ true → facePlace t z f < faceCount t z
-unfolding faceOf sectionWith facePlace faceCount facesIn hasFace inRange elementCount
+unfolding faceOf sectionWithFace facePlace faceCount facesIn hasFace inRange elementCount
 place-below t z f e = omega (arith, sum-part (facesIn t z) s (t .count) inside, size)
   where
     some : Some (hasFace t z f) (t .count) 0

@@ -186,9 +186,9 @@ hasFace t z f s = faceSection t z s && inRange t s f
 unfoldable pub faceOf : Tree → ℕ → ℕ → Bool
 faceOf t z f = someFrom (hasFace t z f) (t .count) 0
 
--- the section that brings it (rule 28: the only one)
-unfoldable pub sectionWith : Tree → ℕ → ℕ → ℕ
-sectionWith t z f = seekFrom (hasFace t z f) (t .count) 0
+-- the section that brings it: the first, and by rule 28 the only one
+unfoldable pub sectionWithFace : Tree → ℕ → ℕ → ℕ
+sectionWithFace t z f = seekFrom (hasFace t z f) (t .count) 0
 
 -- a cell section of the zone: such a section of type 23; it brings cell c to the zone; c is a cell of the zone
 unfoldable pub cellSection : Tree → ℕ → ℕ → Bool

@@ -7,7 +7,7 @@ use Rattle.model.specs.Lists.{_⊃_, someFrom, everyFrom}
 use Rattle.model.specs.Rules.{_unless_, Answer, answer, Check, check, _then_, _gives_, _into_, leaves}
 use Rattle.model.specs.Image.{Tree, treeOf}
 use Rattle.model.specs.Containment.{isZone, found}
-use Rattle.model.specs.Elements.{firstElement, elementCount, faceSection, faceOf, sectionWith, faceNumber, parentsOf, firstParent, secondParent}
+use Rattle.model.specs.Elements.{firstElement, elementCount, faceSection, faceOf, sectionWithFace, faceNumber, parentsOf, firstParent, secondParent}
 use Rattle.model.specs.Validation.{imageCheck}
 use Rattle.model.specs.FaceUsage.{elementHolding, usesIn, usageAnswer, usageMemory}
 
@@ -23,10 +23,10 @@ storedParents t s f = record { first = firstParent t s (f - firstElement t s); s
 unfoldable pub parentsCheck : List ℕ → ℕ → ℕ → Check
 parentsCheck b z f =
     let t = treeOf b in
-    imageCheck b then check 0 (40 unless isZone t z ∷ 41 unless faceOf t z f ∷ 54 unless found t (parentsOf t (sectionWith t z f)) ∷ [])
+    imageCheck b then check 0 (40 unless isZone t z ∷ 41 unless faceOf t z f ∷ 54 unless found t (parentsOf t (sectionWithFace t z f)) ∷ [])
 
 unfoldable pub parentsAnswer : List ℕ → ℕ → ℕ → Answer FaceParents
-parentsAnswer b z f = parentsCheck b z f gives storedParents (treeOf b) (sectionWith (treeOf b) z f) f
+parentsAnswer b z f = parentsCheck b z f gives storedParents (treeOf b) (sectionWithFace (treeOf b) z f) f
 
 -- the cells that use face f, one for each use: in n entries of section s from entry k on, in n nodes from node s on, in the zone
 unfoldable pub usersIn : Tree → ℕ → ℕ → ℕ → ℕ → List ℕ
