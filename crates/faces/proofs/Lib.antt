@@ -1,4 +1,2 @@
-pub mod Arrays
-pub mod Runs
 pub mod Whole
 pub mod Checks

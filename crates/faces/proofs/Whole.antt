@@ -20,7 +20,7 @@ use Rattle.model.specs.FaceUsage.{faceCount, facePlace, unused, elementHolding,
 use Rattle.model.proofs.Logic.{and-first}
 use Rattle.model.proofs.Passed.{refused, into-value}
 use Rattle.model.proofs.Conforming.{section-is}
-use Rattle.faces.specs.Uses.{used, Used}
+use Rattle.face_uses.specs.Uses.{used, Used}
 use Rattle.face_places.proofs.Accepted.{place-below, cells-faces}
 
 -- bytes behind those that a run left

@@ -8,8 +8,6 @@ ghost use Rattle.model.specs.FaceUsage.{usageAnswer, usageMemory};
 ghost use Rattle.model.specs.Validation.{imageCheck};
 ghost use Rattle.index.specs.Index.{Index};
 
-mod cells; // cells.rt: the references of the zone's cells
-mod uses; // uses.rt: the references, one after the other
 mod zone; // zone.rt: a zone's usage
 
 use model::FaceUsage;

@@ -3,9 +3,9 @@ use mathlib.Core.Path.{sym, _∙_}
 use borrow.Author.Needs.{needs}
 use borrow.Author.Tests.{not-true, not-false}
 use Rattle.face_places.proofs.Accepted.{section-kind}
-use Rattle.faces.proofs.Arrays.{cells-by, connectivity-inside, connectivity-dimension, connectivity-stores-n, references, no-references}
-use Rattle.faces.proofs.cells.references_of.Statement.{statement}
-use Rattle.faces.proofs.cells.references_of.Tie as tie
+use Rattle.face_uses.proofs.Arrays.{cells-by, connectivity-inside, connectivity-dimension, connectivity-stores-n, references, no-references}
+use Rattle.face_uses.proofs.cells.references_of.Statement.{statement}
+use Rattle.face_uses.proofs.cells.references_of.Tie as tie
 
 returns : tie.Need-returns
 returns c = no-references _ _ _ _ (sym (c .before .has-type .ensures) ∙ not-true _ (c .if1 .taken))

@@ -7,12 +7,12 @@ use Rattle.model.specs.Rules.{repetition}
 use Rattle.model.specs.Image.{treeOf}
 use Rattle.model.specs.FaceUsage.{faceCount, usesIn, useEntries}
 use Rattle.section_data.proofs.RangeLaws.{face-small}
-use Rattle.faces.proofs.Runs.{tables-kept, Left, left-more, left-stop, left-done, entries-start, entries-step, entries-end}
-use Rattle.faces.proofs.Runs.{entry-face, entry-used, entry-repeated}
+use Rattle.face_uses.proofs.Runs.{tables-kept, Left, left-more, left-stop, left-done, entries-start, entries-step, entries-end}
+use Rattle.face_uses.proofs.Runs.{entry-face, entry-used, entry-repeated}
 use native.Mathlib.Omega.{arith}
 use borrow.Author.Needs.{needs}
-use Rattle.faces.proofs.uses.use_entries.Statement.{statement}
-use Rattle.faces.proofs.uses.use_entries.Tie as tie
+use Rattle.face_uses.proofs.uses.use_entries.Statement.{statement}
+use Rattle.face_uses.proofs.uses.use_entries.Tie as tie
 
 abbrev Inv-loop : tie.InvT-loop
 Inv-loop image index faces s firsts reach places levels out₀ row guesses₀ last₀ k₀ out guesses last k =

@@ -19,8 +19,8 @@ use Rattle.model.specs.Corner.{numberAt}
 use Rattle.model.specs.FaceUsage.{facePlace, faceCount, unused, elementHolding, usePlace, useSign, useEntry, useEntries, usesIn, useNodes}
 use Rattle.rows.specs.declared.Row.{Row}
 use Rattle.usage_bytes.specs.Marks.{signOf, afterUse}
-use Rattle.faces.specs.Uses.{Tables, UsedAt, used, Used, Reference}
-use Rattle.faces.specs.declared.uses.Faces.{Faces}
+use Rattle.face_uses.specs.Uses.{Tables, UsedAt, used, Used, Reference}
+use Rattle.face_uses.specs.declared.uses.Faces.{Faces}
 use Rattle.face_places.proofs.Accepted.{place-below}
 
 -- memory of the same length serves the tables as well

@@ -3,9 +3,9 @@ use mathlib.Core.Path.{sym, _∙_}
 use native.Mathlib.Omega.{arith}
 use borrow.Author.Needs.{needs}
 use Rattle.face_places.proofs.Gathering.{At, face-found}
-use Rattle.faces.proofs.Runs.{use-is}
-use Rattle.faces.proofs.uses.use_entry.Statement.{statement}
-use Rattle.faces.proofs.uses.use_entry.Tie as tie
+use Rattle.face_uses.proofs.Runs.{use-is}
+use Rattle.face_uses.proofs.uses.use_entry.Statement.{statement}
+use Rattle.face_uses.proofs.uses.use_entry.Tie as tie
 
 -- the entry that holds it
 found : (m : tie.After-magnitude-at) → let a = m .before .before .before .before .before .before .args in

@@ -26,7 +26,7 @@ use Rattle.section_data.specs.Given.{Stores, Indexed}
 use Rattle.section_data.proofs.Stored.{dataFrom, stores-row, stores-number, connectivity-stores, offsets-stores}
 use Rattle.face_places.specs.declared.zone_sections.Span.{Span}
 use Rattle.face_places.specs.ZoneSections.{Cells, Spans}
-use Rattle.faces.specs.Uses.{RowOf, References}
+use Rattle.face_uses.specs.Uses.{RowOf, References}
 use Rattle.face_places.proofs.Accepted.{section-by, own-zone, count-read, cells-faces}
 use Rattle.model.proofs.Reading.{rank-is}
 

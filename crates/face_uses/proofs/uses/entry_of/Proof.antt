@@ -6,8 +6,8 @@ use denote.Ref.{now}
 use Rattle.ranges.proofs.Halving.{entry-found}
 use native.Mathlib.Omega.{arith}
 use borrow.Author.Needs.{needs}
-use Rattle.faces.proofs.uses.entry_of.Statement.{statement}
-use Rattle.faces.proofs.uses.entry_of.Tie as tie
+use Rattle.face_uses.proofs.uses.entry_of.Statement.{statement}
+use Rattle.face_uses.proofs.uses.entry_of.Tie as tie
 
 returns : tie.Need-returns
 returns c =

@@ -19,7 +19,7 @@ use Rattle.rows.specs.Rows.{Numbers}
 use Rattle.ranges.specs.Tables.{Found}
 use Rattle.ranges.specs.SearchTree.{Built}
 use Rattle.usage_bytes.specs.Marks.{signOf, afterUse}
-use Rattle.faces.specs.declared.uses.Faces.{Faces}
+use Rattle.face_uses.specs.declared.uses.Faces.{Faces}
 use Rattle.face_places.specs.ZoneSections.{Cells}
 use Rattle.face_places.specs.Ranges.{Ranges}
 

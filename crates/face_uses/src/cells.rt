@@ -7,7 +7,7 @@ ghost use Rattle.model.specs.FaceUsage.{elementHolding};
 ghost use Rattle.section_data.specs.Given.{Stores};
 ghost use Rattle.index.specs.Index.{Index};
 ghost use Rattle.face_places.specs.ZoneSections.{Cells};
-ghost use Rattle.faces.specs.Uses.{RowOf, References};
+ghost use Rattle.face_uses.specs.Uses.{RowOf, References};
 use element_types::NFACE;
 use face_places::zone_sections::has_type;
 use face_places::zone_sections::span_of;

@@ -5,9 +5,9 @@ use native.Mathlib.Omega.{arith}
 use borrow.Author.Needs.{needs}
 use Rattle.model.specs.Image.{treeOf, nodeCount}
 use Rattle.model.specs.FaceUsage.{faceCount, useNodes}
-use Rattle.faces.proofs.Runs.{tables-kept, Left, left-more, left-stop, left-done, nodes-start, nodes-step, nodes-end}
-use Rattle.faces.proofs.uses.use_nodes.Statement.{statement}
-use Rattle.faces.proofs.uses.use_nodes.Tie as tie
+use Rattle.face_uses.proofs.Runs.{tables-kept, Left, left-more, left-stop, left-done, nodes-start, nodes-step, nodes-end}
+use Rattle.face_uses.proofs.uses.use_nodes.Statement.{statement}
+use Rattle.face_uses.proofs.uses.use_nodes.Tie as tie
 
 abbrev Inv-loop : tie.InvT-loop
 Inv-loop image index faces firsts reach places levels out₀ nodes i₀ out i =

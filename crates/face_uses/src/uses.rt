@@ -12,7 +12,7 @@ ghost use Rattle.rows.specs.Rows.{Numbers};
 ghost use Rattle.ranges.specs.Tables.{Ordered};
 ghost use Rattle.ranges.specs.SearchTree.{Built};
 ghost use Rattle.index.specs.Index.{Index};
-ghost use Rattle.faces.specs.Uses.{Tables, FoundFor, UsedAt, Used};
+ghost use Rattle.face_uses.specs.Uses.{Tables, FoundFor, UsedAt, Used};
 use super::cells::element_holding;
 use super::cells::references_of;
 use model::Rejection;

@@ -1,8 +1,8 @@
 -- A node's numbers stand from its data's start on, as wide as its data type says.
 use borrow.Author.Needs.{needs}
-use Rattle.faces.proofs.Arrays.{row-read}
-use Rattle.faces.proofs.cells.row_of.Statement.{statement}
-use Rattle.faces.proofs.cells.row_of.Tie as tie
+use Rattle.face_uses.proofs.Arrays.{row-read}
+use Rattle.face_uses.proofs.cells.row_of.Statement.{statement}
+use Rattle.face_uses.proofs.cells.row_of.Tie as tie
 
 returns : tie.Need-returns
 returns c =

@@ -1,9 +1,9 @@
 -- The section's start offsets tell how many of its elements end before the entry.
 use borrow.Author.Needs.{needs}
 use Rattle.face_places.proofs.Accepted.{section-kind}
-use Rattle.faces.proofs.Arrays.{cells-offsets, element-read}
-use Rattle.faces.proofs.cells.element_holding.Statement.{statement}
-use Rattle.faces.proofs.cells.element_holding.Tie as tie
+use Rattle.face_uses.proofs.Arrays.{cells-offsets, element-read}
+use Rattle.face_uses.proofs.cells.element_holding.Statement.{statement}
+use Rattle.face_uses.proofs.cells.element_holding.Tie as tie
 
 offsets-of-requires : tie.Need-offsets-of-requires
 offsets-of-requires c κs = let n = c .before .before .before .before .pre .section in ((n .indexed, n .inside), section-kind n)
