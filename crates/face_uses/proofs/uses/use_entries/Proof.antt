@@ -6,7 +6,7 @@ use borrow.Author.Tests.{not-true, not-false}
 use Rattle.model.specs.Rules.{repetition}
 use Rattle.model.specs.Image.{treeOf}
 use Rattle.model.specs.FaceUsage.{faceCount, usesIn, useEntries}
-use Rattle.section_data.proofs.RangeLaws.{face-small}
+use Rattle.section_data.proofs.TableLaws.{face-small}
 use Rattle.face_uses.proofs.Runs.{tables-kept, Left, left-more, left-stop, left-done, entries-start, entries-step, entries-end}
 use Rattle.face_uses.proofs.Runs.{entry-face, entry-used, entry-repeated}
 use native.Mathlib.Omega.{arith}

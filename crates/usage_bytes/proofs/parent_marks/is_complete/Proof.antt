@@ -1,8 +1,4 @@
 -- The first mark, then the second.
-use Prim.Native.Nat.{_/_, _%_}
-use mathlib.Core.Path.{sym, ap}
-use mathlib.Core.Bool.{Bool, _&&_, _||_}
-use lib.Dec.{eqb}
 use borrow.Author.Tests.{eq-eqb, ne-eqb}
 use Rattle.usage_bytes.specs.ParentMarks.{complete}
 use Rattle.usage_bytes.proofs.parent_marks.is_complete.Statement.{statement}
@@ -18,7 +14,7 @@ returns-2 c = rw (eq-eqb _ 1 (c .before .if1 .taken), c .if2 .left)
 
 returns-3 : tie.Need-returns-3
 unfolding complete
-returns-3 c = ap (λ (x : Bool). x && (c .before .args .single || eqb (c .before .args .byte / 4 / 2 % 2) 1)) (sym (ne-eqb _ 1 (c .if1 .left)))
+returns-3 c = rw (ne-eqb _ 1 (c .if1 .left))
 
 pub is-complete-spec : {M : Type 1} → statement M
 is-complete-spec = tie.close (tie.spec returns returns-2 returns-3)
