@@ -10,7 +10,7 @@ use Rattle.usage_bytes.proofs.parent_marks.match_parent.Statement.{stat
 use Rattle.usage_bytes.proofs.parent_marks.match_parent.Tie as tie
 
 more-marks-requires : tie.Need-more-marks-requires
-more-marks-requires c κs = omega (arith, c .slice-known2 .given)
+more-marks-requires c κs = omega (arith, c .slice-known2 .given (c .before .before .args .p))
 
 returns : tie.Need-returns
 returns c =
@@ -21,7 +21,7 @@ mul-out : tie.Need-mul-out
 mul-out c = omega (arith, c .before .more-marks .ensures .1)
 
 add-out : tie.Need-add-out
-add-out c = omega (arith, c .before .more-marks .ensures .1, c .before .before .slice-known2 .given)
+add-out c = omega (arith, c .before .more-marks .ensures .1, c .before .before .slice-known2 .given (c .before .before .before .before .args .p))
 
 returns-2 : tie.Need-returns-2
 returns-2 c =
