@@ -1,0 +1,2 @@
+// Whether the parents of a zone's faces agree with its cells.
+pub fn nothing() {}
