@@ -10,8 +10,8 @@ cell-offsets-requires c κs = (c .before .before .before .pre, c .span-of .ensur
 
 returns : tie.Need-returns
 returns c =
-    let o = c .before in
-    let s = o .before in element-read (s .before .before .before .before .pre) (s .span-of .ensures) refl (o .cell-offsets .ensures) _ (c .ends-after .ensures .0)
+    let o = c .before .before in
+    let s = o .before in element-read (s .before .before .before .pre) (s .span-of .ensures) refl (o .cell-offsets .ensures) _ (c .before .ends-after .ensures .0)
 
 pub element-holding-spec : {M : Type 1} → statement M
 element-holding-spec =
