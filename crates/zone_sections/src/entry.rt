@@ -54,7 +54,7 @@ pub fn entry_of(image: &[u8], index: &[u16], s: usize) -> Section
     let parents = sids::parents_of(image, index, s, element_type);
     Section {
         node: s as u64,
-        element_type: element_type,
+        element_type,
         first: types::whole(image, range, 0),
         last: types::whole(image, range, 1),
         offsets_at: start_of(image, offsets),
