@@ -1,5 +1,6 @@
 -- The children are where the index has them; an accepted image has them conforming, so that their numbers are the entry's.
 use Rattle.zone_sections.proofs.Parts.{section-kind, own-has, first-has, last-has, found-inside, found-flat, entry-made}
+use native.Mathlib.Omega.{arith}
 use borrow.Author.Needs.{needs}
 use Rattle.model.specs.Elements.{elementType}
 use Rattle.zone_sections.proofs.entry.entry_of.Statement.{statement}
@@ -43,8 +44,8 @@ size-of-requires c κs =
 
 start-of-requires-3 : tie.Need-start-of-requires-3
 start-of-requires-3 c κs =
-    let q = c .before .before .before .before .before .before .before in
-    (q .before .before .before .before .before .before .before .pre .0 .accepted .sound, q .parents-of .ensures .1)
+    let d = c .before .before .before .before .before .before .before .before .before in
+    (d .before .before .before .before .before .pre .0 .accepted .sound, omega arith)
 
 returns : tie.Need-returns
 returns c =
