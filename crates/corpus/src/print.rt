@@ -125,7 +125,7 @@ fn each_number(out: &[u64]) {
     }
 }
 
-// The nine numbers of an entry.
+// The eleven numbers of an entry.
 pub fn section(s: Section) {
     pair(b" ", s.node);
     pair(b" ", s.element_type);
@@ -136,6 +136,8 @@ pub fn section(s: Section) {
     pair(b" ", s.connectivity_at);
     pair(b" ", s.connectivity_width);
     pair(b" ", s.connectivity_length);
+    pair(b" ", s.parents_at);
+    pair(b" ", s.parents_width);
 }
 
 // The signed numbers of lent memory, after `room`.

@@ -134,9 +134,9 @@ pub extern "C" fn gongaurora_export_sections(
     out: &mut [u64],
     answer: &mut [u8],
 ) -> u64
-    ensures { λ r. ⌜ r ≡ exportRule 3 (now (answer .entry)) (sectionsAnswer (now (image .entry)) zone (length (now (out .entry)) / 9)) ⌝ }
+    ensures { λ r. ⌜ r ≡ exportRule 3 (now (answer .entry)) (sectionsAnswer (now (image .entry)) zone (length (now (out .entry)) / 11)) ⌝ }
     ensures { λ _. ⌜ now (answer .exit)
-        ≡ exportBytes (now (answer .entry)) (countWords (sectionsAnswer (now (image .entry)) zone (length (now (out .entry)) / 9))) ⌝ }
+        ≡ exportBytes (now (answer .entry)) (countWords (sectionsAnswer (now (image .entry)) zone (length (now (out .entry)) / 11))) ⌝ }
     ensures { λ _. ⌜ now (out .exit)
         ≡ exportMemory 3 (now (answer .entry)) (now (out .entry)) (sectionNumbersMemory (now (image .entry)) zone (now (out .entry))) ⌝ }
 {
