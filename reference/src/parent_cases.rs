@@ -195,7 +195,7 @@ pub fn parent_cases() -> Vec<(&'static str, Vec<u8>)> {
     let empty = |label| Node::empty(PARENT_ELEMENTS, label);
     let (bad, node_five) = ([[5, 0], [5, 0], [5, 0], [0, 0]], [1, 3, 2, 1, 2, 4, 2, 3, 4, 3, 1, 5]);
     let both_sides = |last| with_parents(with_faces(&[1, 2, 3, 4, -4]), [[5, 0], [5, 0], [5, 0], last]);
-    let in_both = with_parents(two_face_sections([1, 2, 3, -6]), [[5, 0]; 4]);
+    let in_one = with_parents(two_face_sections([1, 2, 3, -6]), [[5, 0]; 4]);
     let images = [
         // accepted, and the parents agree
         ("q7_agrees", agreeing()),
@@ -222,7 +222,7 @@ pub fn parent_cases() -> Vec<(&'static str, Vec<u8>)> {
         ("q7_first_wrong", three_cells([8, 9])),
         ("q7_wrong_cell", apart([10, 0])),
         ("q7_both_named", apart([9, 10])),
-        ("q7_both_sections", with(in_both, FIFTH, array(4, &[[5, 0]]))),
+        ("q7_both_sections", with(in_one.clone(), FIFTH, array(4, &[[5, 0]]))),
         // accepted, and 45
         ("q7_repeat", with_parents(with_faces(&[1, 2, 3, 3]), [[5, 0]; 4])),
         // accepted, and no section has parents
@@ -279,7 +279,7 @@ pub fn parent_cases() -> Vec<(&'static str, Vec<u8>)> {
         ("q7_before_cell", with_list(with_parents(tetrahedron(), bad), CELL_FACES, &[1, 2, 3, 0])),
         ("q7_behind_cell", cell_first(with_list(with_parents(tetrahedron(), bad), CELL_FACES, &[1, 2, 3, 0]))),
         ("q7_two_arrays", with(with_parents(two_face_sections([1, 2, 3, -6]), bad), FIFTH, array(4, &[[0, 0]]))),
-        ("q7_second_array", with(with_parents(two_face_sections([1, 2, 3, -6]), [[5, 0]; 4]), FIFTH, array(4, &[[0, 0]]))),
+        ("q7_second_array", with(in_one, FIFTH, array(4, &[[0, 0]]))),
     ];
     images.map(|(name, image)| (name, image.to_bytes())).into()
 }

@@ -20,7 +20,7 @@ fn folder(name: &str) -> PathBuf {
 #[test]
 fn calls() {
     let place = folder("cases");
-    assert_eq!(run(&["cases", place.to_str().unwrap()]), "cases 169\n");
+    assert_eq!(run(&["cases", place.to_str().unwrap()]), "cases 244\n");
     let file = |name: &str| place.join(format!("{name}.img")).to_str().unwrap().to_string();
     let (a, l) = (file("a"), file("l"));
     assert_eq!(run(&["validate", &a]), "accept 17 0 1 2\n");
@@ -30,13 +30,13 @@ fn calls() {
     assert_eq!(run(&["path", &a, "10"]), "/Base/Zone1/Faces/ElementRange\n");
     assert_eq!(run(&["sizes", &file("m"), "7"]), "sizes 3 17 33 11\n");
     assert_eq!(run(&["sizes", &file("p1_wall"), "7"]), "sizes 1 12\n");
-    let entries = "entries 2 9 22 1 4 1736 4 1756 4 12 13 23 5 5 1820 4 1828 4 4\n";
+    let entries = "entries 2 9 22 1 4 1736 4 1756 4 12 0 0 13 23 5 5 1820 4 1828 4 4 0 0\n";
     assert_eq!(run(&["entries", &a, "3"]), entries);
-    let corner = ["corner", &a, "9", "22", "1", "4", "1736", "4", "1756", "4", "12", "4", "1"];
+    let corner = ["corner", &a, "9", "22", "1", "4", "1736", "4", "1756", "4", "12", "0", "0", "4", "1"];
     assert_eq!(run(&corner), "corner 3\n");
-    let element_type = ["element-type", &a, "9", "22", "1", "4", "1736", "4", "1756", "4", "12", "4"];
+    let element_type = ["element-type", &a, "9", "22", "1", "4", "1736", "4", "1756", "4", "12", "0", "0", "4"];
     assert_eq!(run(&element_type), "type 22\n");
-    let mixed = ["element-type", &file("m4_three"), "5", "20", "1", "3", "912", "4", "928", "4", "21", "2"];
+    let mixed = ["element-type", &file("m4_three"), "5", "20", "1", "3", "912", "4", "928", "4", "21", "0", "0", "2"];
     assert_eq!(run(&mixed), "type 14\n");
     assert_eq!(run(&["element-type", &a, "1"]), "");
     assert_eq!(run(&["value", &a, "2", "1"]), "whole 3\n");
@@ -48,7 +48,7 @@ fn calls() {
     assert_eq!(run(&["list-into", &a, "3", "2"]), entries.replace("entries 2", "entries 2 room"));
     let reads = ["reads", &a, "3", "4", "0", "1", "2", "1", "5", "9", "16", "5", "1"];
     assert_eq!(run(&reads), "reads 3 room 3 0 0 170 rules 0 42 40 170\n");
-    let element = ["element-into", &a, "9", "22", "1", "4", "1736", "4", "1756", "4", "12", "4", "4"];
+    let element = ["element-into", &a, "9", "22", "1", "4", "1736", "4", "1756", "4", "12", "0", "0", "4", "4"];
     assert_eq!(run(&element), "corners 3 room 3 1 4 170\n");
     assert!(run(&["answers", place.to_str().unwrap()]).starts_with("a.img accept 17 0 1 2\nb.img refuse 1 0\n"));
     let first = "validate = accept 17 0 1 2\ntable = accept 17\nname-bytes = bytes 88\npath 0 = /\n";

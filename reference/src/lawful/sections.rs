@@ -49,6 +49,7 @@ impl Maker<'_> {
         for plan in plans {
             self.section(zone, &plan, vertices, &mut deck);
         }
+        self.parents(zone);
     }
 
     /// A section of a type, its range not yet known.
@@ -146,7 +147,8 @@ impl Maker<'_> {
         (0..count).map(|_| self.random.between(plan.least, most)).collect()
     }
 
-    /// Start offsets, where they are needed or now and then, and other children of a section.
+    /// Start offsets, where they are needed or now and then, and other children of a section. An array named
+    /// ParentElements is an ordinary one where the elements are no faces.
     fn section_extras(&mut self, section: usize, plan: &Plan, sizes: &[i64]) {
         let width = self.width();
         if shape_of(plan.element_type).is_some_and(Shape::has_offsets) {
@@ -158,7 +160,7 @@ impl Maker<'_> {
         if self.chance(10, 1) {
             self.add(section, Node::integers("Rind", "Rind_t", 4, &[2], &[0, 3]));
         }
-        if self.chance(10, 1) {
+        if !plan.is(NGON_N) && self.chance(10, 1) {
             let data_type = *self.random.pick(&STORING_TYPES);
             let mut array = Node::new("ParentElements", "DataArray_t", data_type, &[], Vec::new());
             array.reshape(&[plan.count as u64, 2]);
