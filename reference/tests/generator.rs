@@ -170,7 +170,7 @@ fn sizes_of_arrays_beside_points_are_asked_for() {
 
 /// Shows every section of faces or cells of some lawful images, with its image and zone.
 fn lawful_sections(mut see: impl FnMut(&[u8], u64, &Section)) {
-    for index in 0..2_000 {
+    for index in 0..3_000 {
         let image = lawful(&mut Random::new(33, index), SizeClass::Small).to_bytes();
         for zone in 0..check_table(&image).unwrap() {
             let entries = section_entries(&image, zone).unwrap_or_default();

@@ -39,13 +39,20 @@ impl Maker<'_> {
             plans.retain(|plan| !plan.is(NFACE_N));
         }
         let sparing = !self.random.one_in(3);
+        let covering = sparing && self.random.one_in(2);
         if sparing {
             spare_faces(&mut plans);
+        }
+        if covering {
+            drop_faces(&mut plans);
         }
         self.place_ranges(&mut plans);
         self.random.shuffle(&mut plans);
         let faces = plans.iter().filter(|plan| plan.is(NGON_N)).flat_map(|plan| plan.first..plan.first + plan.count);
         let mut deck = Deck::new(self.random, faces.collect(), sparing);
+        if covering {
+            deck = deck.covering();
+        }
         for plan in plans {
             self.section(zone, &plan, vertices, &mut deck);
         }
@@ -180,5 +187,16 @@ fn spare_faces(plans: &mut [Plan]) {
     let uses: i64 = plans.iter().filter(|plan| plan.is(NGON_N)).map(|plan| 2 * plan.count).sum();
     for plan in plans.iter_mut().filter(|plan| plan.is(NFACE_N)) {
         plan.count = plan.count.min(uses / needed);
+    }
+}
+
+/// Lets the faces be so few that the cells use all of them, as far as each section has one.
+fn drop_faces(plans: &mut [Plan]) {
+    let mut uses: i64 = plans.iter().filter(|plan| plan.is(NFACE_N)).map(|plan| plan.least * plan.count).sum();
+    if uses > 0 {
+        for plan in plans.iter_mut().filter(|plan| plan.is(NGON_N)) {
+            plan.count = plan.count.min(uses).max(1);
+            uses -= plan.count;
+        }
     }
 }

@@ -89,7 +89,7 @@ fn check_zone(image: &[u8], zone: u64, entries: &[Section]) -> Result<bool, u32>
 
 #[test]
 fn answers_are_those_of_walking_all_cells() {
-    for (class, count, least) in [(SizeClass::Small, 5_000, 40), (SizeClass::Medium, 150, 10)] {
+    for (class, count, least) in [(SizeClass::Small, 5_000, 40), (SizeClass::Medium, 400, 20)] {
         let mut met: BTreeMap<Result<bool, u32>, u64> = BTreeMap::new();
         for index in 0..count {
             let image = image(39, index, class);
