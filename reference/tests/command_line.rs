@@ -43,6 +43,18 @@ fn calls() {
     assert_eq!(run(&["usage", &file("k"), "3"]), "usage 4 1 1 3 0\n");
     assert_eq!(run(&["usage", &l, "3"]), "refuse 45 13 5\n");
     assert_eq!(run(&["usage-into", &l, "3", "5"]), "refuse 45 13 5 room 0 0 0 0 170\n");
+    let (agrees, repeat) = (file("q7_agrees"), file("q7_repeat"));
+    assert_eq!(run(&["parents", &agrees, "3", "4"]), "parents 5 0\n");
+    assert_eq!(run(&["parents", &agrees, "3", "5"]), "refuse 41 0\n");
+    assert_eq!(run(&["parents", &a, "3", "4"]), "refuse 54 0\n");
+    assert_eq!(run(&["agree", &agrees, "3"]), "agrees 1\n");
+    assert_eq!(run(&["agree", &file("q7_second"), "3"]), "agrees 0\n");
+    assert_eq!(run(&["agree", &repeat, "3"]), "refuse 45 13 5\n");
+    assert_eq!(run(&["agree", &file("q7_face"), "3"]), "refuse 39 9\n");
+    assert_eq!(run(&["agree-into", &agrees, "3", "5"]), "agrees 1 room 1 1 1 1 170\n");
+    assert_eq!(run(&["agree-into", &agrees, "3", "3"]), "refuse 44 0 room 170 170 170\n");
+    assert_eq!(run(&["agree-into", &repeat, "3", "5"]), "refuse 45 13 5 room 0 0 0 0 170\n");
+    assert_eq!(run(&["agree-into", &a, "3", "2"]), "refuse 54 0 room 170 170\n");
     assert_eq!(run(&["path-into", &a, "0", "2"]), "length 1 room 47 170\n");
     assert_eq!(run(&["entries-into", &a, "3", "0"]), "refuse 46 0 room\n");
     assert_eq!(run(&["list-into", &a, "3", "2"]), entries.replace("entries 2", "entries 2 room"));
