@@ -141,7 +141,7 @@ fn agreement_on_block_meshes() {
         let last = image.len() - width as usize;
         let mut other = image.clone();
         other[last] = faces as u8 + 1;
-        other[last + 1] = (faces + 1 >> 8) as u8;
+        other[last + 1] = ((faces + 1) >> 8) as u8;
         assert_eq!(parents_agree(&other, 3, &mut out), Ok(false), "{n}");
         assert_eq!(out, usage);
     }

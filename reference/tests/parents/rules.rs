@@ -143,11 +143,14 @@ fn with_later_cell() -> (Image, usize) {
     (image, later)
 }
 
+/// A change of an image at a section.
+type Change = fn(&mut Image, usize);
+
 #[test]
 fn what_is_asked_of_a_later_section_of_cells() {
     let (image, later) = with_later_cell();
     assert_eq!(refusal(&image), (0, 0, 0));
-    let uncounted: [fn(&mut Image, usize); 6] = [
+    let uncounted: [Change; 6] = [
         |image, later| image.nodes[later].set_numbers(&[23, -1]),
         |image, later| image.nodes[later].data_type = *b"U4",
         |image, later| image.nodes[later].dimensions.push(1),
@@ -160,7 +163,7 @@ fn what_is_asked_of_a_later_section_of_cells() {
         change(&mut image, later);
         assert_eq!(refusal(&image), (39, FACES as u64, 0));
     }
-    let counted: [(fn(&mut Image, usize), u32); 4] = [
+    let counted: [(Change, u32); 4] = [
         (|image, later| image.remove(later + CONNECTIVITY), 23),
         (|image, later| image.remove(later + OFFSETS), 29),
         (|image, later| image.nodes[later + OFFSETS].set_numbers(&[1, 2]), 30),
