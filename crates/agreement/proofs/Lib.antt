@@ -1,3 +1,4 @@
+pub mod ArrayLaws
 pub mod CellLaws
 pub mod Settling
 pub mod Steps
