@@ -1,4 +1,5 @@
 pub mod ArrayLaws
 pub mod CellLaws
+pub mod EntryLaws
 pub mod Settling
 pub mod Steps

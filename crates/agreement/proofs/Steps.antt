@@ -69,7 +69,7 @@ module _ {b : List ℕ} (a : Accepted b) (z : ℕ) where
           (when _ _ (every-at (sectionAgrees (treeOf b) z) (nodeCount b) 0 s y (omega arith) (omega arith)) p) l (omega arith)
 
   -- faces with one place are one face
-  inside : (s f : ℕ) → hasFace (treeOf b) z f s ≡ true → (firstElement (treeOf b) s ≤ f) × (f - firstElement (treeOf b) s < facesIn (treeOf b) z s)
+  pub inside : (s f : ℕ) → hasFace (treeOf b) z f s ≡ true → (firstElement (treeOf b) s ≤ f) × (f - firstElement (treeOf b) s < facesIn (treeOf b) z s)
   unfolding hasFace inRange facesIn elementCount
   inside s f x =
       let r = and-second (faceSection (treeOf b) z s) _ x in

@@ -1,3 +1,4 @@
 // Whether the parents of a zone's faces agree with its cells: each use of a face is matched with one of its parents, and each parent with a use.
 mod arrays; // arrays.rt: the arrays of parents, by the entries of the tables
 mod cells; // cells.rt: the cell that holds an entry
+mod matching; // matching.rt: the uses, one after the other
