@@ -1,5 +1,5 @@
 -- The arrays beside the entries: one section more; and what stands beside the entry of a face.
-use Prim.Native.Nat.{ℕ, _+_, _≤_, _<_}
+use Prim.Native.Nat.{ℕ, _+_, _*_, _≤_, _<_}
 use mathlib.Core.Path.{_≡_, refl, sym, ap, _∙_}
 use mathlib.Core.Bool.{Bool, true, false, _&&_}
 use mathlib.Core.List.{List}
@@ -8,7 +8,7 @@ use native.Mathlib.Decide.{ℕ-discrete}
 use lib.ListN.{length, getD, set, length-set}
 use lib.Seq.{getD-set-same, getD-set-other}
 use borrow.Author.Tests.{lt-ltb, le-ltb}
-use Rattle.model.specs.Image.{Tree, treeOf, nodeCount, dimensions}
+use Rattle.model.specs.Image.{Tree, treeOf, nodeCount, dimensions, number}
 use Rattle.model.specs.Given.{Accepted}
 use Rattle.model.specs.Containment.{found}
 use Rattle.model.specs.Elements.{firstElement, lastElement, elementCount, inRange, faceSection, hasFace, faceOf, sectionWithFace, parentsOf}
@@ -19,8 +19,10 @@ use Rattle.ranges.specs.Tables.{Found}
 use Rattle.face_places.specs.Ranges.{Ranges}
 use Rattle.face_places.proofs.Accepted.{face-ranged, apart, found-is}
 use Rattle.face_places.proofs.Gathering.{At, face-found}
+use Rattle.rows.specs.declared.Row.{Row}
+use Rattle.face_parents.specs.Parents.{ParentRow}
 use Rattle.face_parents.proofs.Columns.{columns}
-use Rattle.agreement.specs.Arrays.{Arrays, InTables, StoresColumns}
+use Rattle.agreement.specs.Arrays.{Arrays, InTables, StoresColumns, ArrayRow}
 
 pub no-arrays : (t : Tree) (z n : ℕ) (firsts arrays : List ℕ) → n ≤ length arrays → Arrays t z 0 n firsts arrays
 no-arrays t z n firsts arrays h = record { room = h; each = λ s j l. absurd (omega arith) }
@@ -32,7 +34,7 @@ module _ {b : List ℕ} (a : Accepted b) {z s n : ℕ} {firsts reach arrays : Li
   arrays-same e =
       record {
         room = r .room;
-        each = λ q j l f i p. elim (ℕ-discrete q s) [ | yes y ↦ untrue (sym e ∙ rw (← y) f) | no d ↦ r .each q j (omega arith) f i p ];
+        each = λ q j l f i p. elim (ℕ-discrete q s) [ yes y ↦ untrue (sym e ∙ rw (← y) f) | no d ↦ r .each q j (omega arith) f i p ];
       }
 
   -- a face section, whose first face was looked up
@@ -62,8 +64,8 @@ module _ {b : List ℕ} (a : Accepted b) {z s n : ℕ} {firsts reach arrays : Li
               λ i k l f m w.
               elim (ℕ-discrete i s) [
                 | yes y ↦
-                  let u = g .1 .distinct k j m entry-inside (w ∙ ap (firstElement (treeOf b)) y ∙ sym own) in
-                  rw (u, getD-set-same arrays j x 0 (omega (arith, entry-inside, r .room))) (p ∙ ap (parentsOf (treeOf b)) (sym y))
+                    let u = g .1 .distinct k j m entry-inside (w ∙ ap (firstElement (treeOf b)) y ∙ sym own) in
+                    rw (u, getD-set-same arrays j x 0 (omega (arith, entry-inside, r .room))) (p ∙ ap (parentsOf (treeOf b)) (sym y))
                 | no d ↦ getD-set-other arrays j k x 0 (λ u. d (other i k l f w u)) ∙ r .each i k (omega arith) f m w
               ];
         }
@@ -100,3 +102,17 @@ module _ {b : List ℕ} (a : Accepted b) {z n : ℕ} {firsts arrays : List ℕ} 
   pub array-stores : StoresColumns b (getD arrays j 0)
   array-stores l =
       let c = columns a z s (at .known) (array-has l) in rw (array-is, c .sizes) c
+
+  pub face-row : {row : Row} → ArrayRow b (getD arrays j 0) row → ParentRow b (parentsOf (treeOf b) s) (elementCount (treeOf b) s) row
+  face-row w =
+      let e = array-is in
+      record {
+        numbers = w .numbers;
+        none = λ l. w .none (rw e l);
+        long =
+            λ l.
+            let c = columns a z s (at .known) (array-has (rw e l)) in
+            let q : getD (dimensions (treeOf b) (getD arrays j 0)) 0 0 ≡ elementCount (treeOf b) s = rw (e, c .sizes) in
+            w .long (rw e l) ∙ ap (λ (x : ℕ). x * 2) q;
+        stored = λ k l. ap (λ (x : ℕ). number (treeOf b) x k) (sym e) ∙ w .stored k l;
+      }

@@ -57,7 +57,7 @@ module _ {b : List ℕ} (a : Accepted b) {z n f j : ℕ} {firsts places : List �
     -- the numbers of both columns
     module _ (e : array .n ≡ 0 → ⊥) where
       there : parentsOf (treeOf b) s < nodeCount b
-      there = elim (decLt (parentsOf (treeOf b) s) (nodeCount b)) [ | yes l ↦ l | no l ↦ absurd (e (r .none (omega arith))) ]
+      there = elim (decLt (parentsOf (treeOf b) s) (nodeCount b)) [ yes l ↦ l | no l ↦ absurd (e (r .none (omega arith))) ]
 
       pub first-inside : f - getD firsts j 0 < array .n
       first-inside = omega (arith, near, r .long there)

@@ -48,6 +48,10 @@ module _ {b : List ℕ} {z : ℕ} where
   matched-same d e m =
       record { kept = m .kept; on = λ q x. matching-same e (m .on q (matching-same d x)); off = λ q x. m .off q (matching-same d x) }
 
+  -- an answer false says nothing of the cells to come
+  pub matched-stop : {all left other : ℕ → List ℕ} {bytes after : List ℕ} {r : Bool} → r ≡ false → Matched b z all left bytes r after → Matched b z all other bytes false after
+  matched-stop e m = record { kept = m .kept; on = λ q. untrue q; off = λ q x. m .off e x }
+
 -- in an accepted image
 module _ {b : List ℕ} (a : Accepted b) (z : ℕ) where
   -- a face of a section that has the array
@@ -111,7 +115,7 @@ module _ {b : List ℕ} (a : Accepted b) (z : ℕ) where
         other r f l p i =
             elim (ℕ-discrete g f) [
               | yes y ↦
-                let w = one-section s r g h l x (rw y (has-face r f p i)) in untrue (sym e ∙ ap (hasParents (treeOf b) z) (sym w) ∙ p)
+                  let w = one-section s r g h l x (rw y (has-face r f p i)) in untrue (sym e ∙ ap (hasParents (treeOf b) z) (sym w) ∙ p)
               | no n ↦ rw (ne-eqb g f n)
             ]
 
@@ -160,10 +164,10 @@ module _ {b : List ℕ} (a : Accepted b) (z : ℕ) where
                 elim (ℕ-discrete g f) [
                   | yes v ↦ rw (one-section s r g h l x (rw v (has-face r f p i)), ← v) here
                   | no n ↦
-                    let q : withUser g c left f ≡ left f = rw (ne-eqb g f n) in
-                    let d = getD-set-other bytes place (facePlace (treeOf b) z f) (getD bytes place 0 + 4 * more) 0
-                    (λ v. n (one-place s r g f h l x (has-face r f p i) (sym v))) in
-                    m .each r f l p i ∙ ap (settles _ _) q ∙ ap (λ (v : ℕ). settles (storedParents (treeOf b) r f) (v / 4) (left f)) (sym d)
+                      let q : withUser g c left f ≡ left f = rw (ne-eqb g f n) in
+                      let d = getD-set-other bytes place (facePlace (treeOf b) z f) (getD bytes place 0 + 4 * more) 0
+                      (λ v. n (one-place s r g f h l x (has-face r f p i) (sym v))) in
+                      m .each r f l p i ∙ ap (settles _ _) q ∙ ap (λ (v : ℕ). settles (storedParents (treeOf b) r f) (v / 4) (left f)) (sym d)
                 ];
           }
         where

@@ -62,3 +62,113 @@ fn match_entry(
     let second = rows::number_at(image, array, array.n / 2 + d) == cell;
     match_parent(out, p, first, second)
 }
+
+// Matches the uses of the entries of node s, where it is a cell section of the zone; false at the first that cannot be matched.
+fn match_entries(
+    image: &[u8],
+    index: &[u16],
+    faces: Faces,
+    s: usize,
+    firsts: &[u64],
+    reach: &[u64],
+    places: &[u64],
+    levels: &[u32],
+    arrays: &[u64],
+    out: &mut [u8],
+) -> bool
+    requires { ⌜ (Index (now image) (now index) × (s < nodeCount (now image))) × (2048 ≤ length (now levels)) ⌝ }
+    requires { ⌜ Tables (now image) faces (now firsts) (now reach) (now places) (length (now out)) ⌝ }
+    requires { ⌜ Arrays (treeOf (now image)) (faces .zone) (nodeCount (now image)) (faces .count) (now firsts) (now arrays) ⌝ }
+    ensures { λ r. ⌜ Matched (now (image .entry)) (faces .zone) (usersOn (treeOf (now (image .entry))) (faces .zone) s)
+        (usersOn (treeOf (now (image .entry))) (faces .zone) (s + 1)) (now (out .entry)) r (now (out .exit)) ⌝ }
+{
+    let row = references_of(image, index, faces.zone, s);
+    if row.n == 0 {
+        return true;
+    }
+    let span = span_of(image, index, s);
+    let offsets = cell_offsets(image, index, s, span);
+    let mut cell = first_cell(image, offsets);
+    let mut guesses: [usize; 9] = [0; 9];
+    let mut last: usize = 2048;
+    let mut array = Row {
+        at: 0,
+        width: 4,
+        n: 0,
+    };
+    let mut k: usize = 0;
+    while k < row.n {
+        cell = cell_at(image, offsets, row.n, k, cell);
+        let j = entry_of(
+            image,
+            faces,
+            row,
+            k,
+            firsts,
+            reach,
+            levels,
+            &mut guesses,
+            last,
+        );
+        array = array_at(image, arrays, j, last, array);
+        let element = span.first + cell.place as u64;
+        if !match_entry(
+            image,
+            faces,
+            row,
+            k,
+            firsts,
+            reach,
+            places,
+            j,
+            array,
+            element,
+            out,
+        ) {
+            return false;
+        }
+        last = j;
+        k += 1;
+    }
+    true
+}
+
+// Matches the uses of all references of the zone's cells, in node and entry order.
+pub fn match_nodes(
+    image: &[u8],
+    index: &[u16],
+    faces: Faces,
+    firsts: &[u64],
+    reach: &[u64],
+    places: &[u64],
+    levels: &[u32],
+    arrays: &[u64],
+    out: &mut [u8],
+) -> bool
+    requires { ⌜ Index (now image) (now index) × (2048 ≤ length (now levels)) ⌝ }
+    requires { ⌜ Tables (now image) faces (now firsts) (now reach) (now places) (length (now out)) ⌝ }
+    requires { ⌜ Arrays (treeOf (now image)) (faces .zone) (nodeCount (now image)) (faces .count) (now firsts) (now arrays) ⌝ }
+    ensures { λ r. ⌜ Matched (now (image .entry)) (faces .zone) (usersOn (treeOf (now (image .entry))) (faces .zone) 0)
+        (usersOn (treeOf (now (image .entry))) (faces .zone) (nodeCount (now (image .entry)))) (now (out .entry)) r (now (out .exit)) ⌝ }
+{
+    let nodes = labels::node_count(image);
+    let mut i: usize = 0;
+    while i < nodes {
+        if !match_entries(
+            image,
+            index,
+            faces,
+            i,
+            firsts,
+            reach,
+            places,
+            levels,
+            arrays,
+            out,
+        ) {
+            return false;
+        }
+        i += 1;
+    }
+    true
+}
