@@ -1,5 +1,6 @@
 pub mod ArrayLaws
 pub mod CellLaws
+pub mod CompleteLaws
 pub mod EntryLaws
 pub mod RunLaws
 pub mod Settling

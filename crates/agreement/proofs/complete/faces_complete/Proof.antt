@@ -1,65 +1,39 @@
+-- One face after the other.
+use Prim.Native.Nat.{_-_}
+use mathlib.Core.Path.{sym, _∙_}
 use native.Mathlib.Omega.{arith}
 use borrow.Author.Needs.{needs}
+use borrow.Author.Tests.{not-true, not-false}
+use Rattle.model.specs.Lists.{everyFrom}
+use Rattle.model.proofs.Loops.{EveryLeft, every-start, every-more, every-stop, every-done}
+use Rattle.agreement.specs.Matching.{completeAt}
 use Rattle.agreement.proofs.complete.faces_complete.Statement.{statement}
 use Rattle.agreement.proofs.complete.faces_complete.Tie as tie
-use Rattle.agreement.proofs.complete.faces_complete.Reads as reads
-use Rattle.agreement.proofs.complete.faces_complete.Lts as lts
-use Rattle.rows.proofs.number_at.Reads as number-at-reads
-use Rattle.usage_bytes.proofs.parent_marks.is_complete.Reads as is-complete-reads
 
 abbrev Inv-loop : tie.InvT-loop
-Inv-loop image row n place out d₀ d = ?
+Inv-loop image row n place out d₀ d = EveryLeft (completeAt image row n place out) n d (everyFrom (completeAt image row n place out) n 0)
 
 abbrev μ-loop : tie.MeasureT-loop
-μ-loop image row n place out d₀ d = ?
+μ-loop image row n place out d₀ d = n - d
 
 loop-holds : tie.Need-loop-holds Inv-loop μ-loop
-loop-holds c = search needs
-
-add-number-at : tie.Need-add-number-at Inv-loop μ-loop
-add-number-at c = search needs
-
-number-at-requires : tie.Need-number-at-requires Inv-loop μ-loop
-number-at-requires c κs = search needs
-
-add-is-complete : tie.Need-add-is-complete Inv-loop μ-loop
-add-is-complete c = search needs
-
-shared-slice-read-is-complete : tie.Need-shared-slice-read-is-complete Inv-loop μ-loop
-shared-slice-read-is-complete c = search needs
-
-is-complete-requires : tie.Need-is-complete-requires Inv-loop μ-loop
-is-complete-requires c κs = search needs
+loop-holds c = every-start _ _
 
 returns : tie.Need-returns Inv-loop μ-loop
-returns c = search needs
-
-add-d : tie.Need-add-d Inv-loop μ-loop
-add-d c = search needs
-
-loop-less : tie.Need-loop-less Inv-loop μ-loop
-loop-less c = search needs
+unfolding completeAt
+returns c =
+    every-stop (c .before .before .before .before .before .loop .inv) (omega arith)
+    (rw (← c .before .before .before .number-at .ensures) (sym (c .before .is-complete .ensures) ∙ not-true _ (c .if1 .taken)))
 
 loop-again : tie.Need-loop-again Inv-loop μ-loop
-loop-again c = search needs
+unfolding completeAt
+loop-again c = every-more (c .before .before .before .before .before .loop .inv) (omega arith)
+    (rw (← c .before .before .before .number-at .ensures) (sym (c .before .is-complete .ensures) ∙ not-false _ (c .if1 .left)))
 
 returns-2 : tie.Need-returns-2 Inv-loop μ-loop
-returns-2 c = search needs
+returns-2 c = every-done (c .before .loop .inv) (omega arith)
 
 pub faces-complete-spec : {M : Type 1} → statement M
 faces-complete-spec =
-    tie.close
-    (tie.spec
-    Inv-loop
-    μ-loop
-    loop-holds
-    add-number-at
-    number-at-requires
-    add-is-complete
-    shared-slice-read-is-complete
-    is-complete-requires
-    returns
-    add-d
-    loop-less
-    loop-again
-    returns-2)
+    tie.close (tie.spec Inv-loop μ-loop loop-holds (search needs) (λ c κs. search needs) (search needs) (search needs) (λ c κs. search needs) returns (search needs)
+    (search needs) loop-again returns-2)
