@@ -5,3 +5,4 @@ pub mod EntryLaws
 pub mod RunLaws
 pub mod Settling
 pub mod Steps
+pub mod ZoneLaws

@@ -55,7 +55,7 @@ module _ {b : List ℕ} {z : ℕ} where
 -- in an accepted image
 module _ {b : List ℕ} (a : Accepted b) (z : ℕ) where
   -- a face of a section that has the array
-  has-face : (s f : ℕ) → hasParents (treeOf b) z s ≡ true → inRange (treeOf b) s f ≡ true → hasFace (treeOf b) z f s ≡ true
+  pub has-face : (s f : ℕ) → hasParents (treeOf b) z s ≡ true → inRange (treeOf b) s f ≡ true → hasFace (treeOf b) z f s ≡ true
   unfolding hasParents hasFace
   has-face s f p r = and-both _ _ (and-first (faceSection (treeOf b) z s) _ p) r
 
