@@ -2,6 +2,7 @@
 use Prim.Native.Nat.{_+_, _*_}
 use mathlib.Core.Path.{sym, _∙_}
 use denote.Ref.{now}
+use Rattle.model.proofs.Joins.{and-on, and-done}
 use Rattle.rows.specs.Rows.{Numbers}
 use native.Mathlib.Omega.{arith}
 use borrow.Author.Tests.{not-true, not-false}
@@ -18,11 +19,8 @@ returns : tie.Need-returns
 returns c =
     let w = c .before .before in
     let p = w .before .before .before .before .before .pre .0 .0 in
-    rw (
-      columns-are (p .0) _ (p .1) (w .before .data-start .ensures .0) (w .width-at .ensures .0) _,
-      sym (c .before .are-cells .ensures)
-          ∙ not-true _ (c .if1 .taken),
-    )
+    and-done _ (c .before .are-cells .ensures) (not-true _ (c .if1 .taken))
+    ∙ sym (columns-are (p .0) _ (p .1) (w .before .data-start .ensures .0) (w .width-at .ensures .0) _)
 
 -- the second column lies in the image
 second : (c : tie.Else1) → let w = c .before .before in let p = w .before .data-start .result in
@@ -40,12 +38,8 @@ returns-2 c =
     let i = c .before in
     let w = i .before .before in
     let p = w .before .before .before .before .before .pre .0 .0 in
-    rw (
-      columns-are (p .0) _ (p .1) (w .before .data-start .ensures .0) (w .width-at .ensures .0) _,
-      sym (i .before .are-cells .ensures)
-          ∙ not-false _ (i .if1 .left),
-    )
-    (c .are-cells2 .ensures)
+    and-on (i .before .are-cells .ensures) (not-false _ (i .if1 .left)) (c .are-cells2 .ensures)
+    ∙ sym (columns-are (p .0) _ (p .1) (w .before .data-start .ensures .0) (w .width-at .ensures .0) _)
 
 pub columns-lawful-spec : {M : Type 1} → statement M
 columns-lawful-spec = tie.close
