@@ -96,7 +96,7 @@ module _ {b : List ℕ} (a : Accepted b) (z s : ℕ) (h : s < nodeCount b) where
 
       module _ (e : row .n ≡ 0 → ⊥) where
         is-there : parentsOf (treeOf b) s < nodeCount b
-        is-there = elim (decLt (parentsOf (treeOf b) s) (nodeCount b)) [ | yes l ↦ l | no l ↦ absurd (e (r .none (omega arith))) ]
+        is-there = elim (decLt (parentsOf (treeOf b) s) (nodeCount b)) [ yes l ↦ l | no l ↦ absurd (e (r .none (omega arith))) ]
 
         pub two-each : row .n ≡ facesIn (treeOf b) z s * 2
         two-each = rw count-is (long is-there)

@@ -41,7 +41,7 @@ restored {faces} {n} {bytes} {now} {after} q few s u = ext-getD 0 after bytes (u
         elim (decLt p faces) [
           | yes l ↦ u .front p (omega arith) ∙ s .signs p ∙ (let h = few p l in omega arith)
           | no l ↦
-            let e : faces + (p - faces) ≡ p = omega arith in
-            u .rest p (omega arith)
-            ∙ (rw (getD-drop faces now (p - faces) 0, getD-drop faces bytes (p - faces) 0, e) at (ap (λ (xs : List ℕ). getD xs (p - faces) 0) (s .beyond)))
+              let e : faces + (p - faces) ≡ p = omega arith in
+              u .rest p (omega arith)
+              ∙ (rw (getD-drop faces now (p - faces) 0, getD-drop faces bytes (p - faces) 0, e) at (ap (λ (xs : List ℕ). getD xs (p - faces) 0) (s .beyond)))
         ]

@@ -181,6 +181,11 @@ module _ (b : List ℕ) (yes : imageCheck b ≡ passed) (z : ℕ) where
   none-yet : Book (faceCount (treeOf b) z) (replicate (faceCount (treeOf b) z) 0)
   none-yet = record { full = length-replicate _ 0; small = zeros (faceCount (treeOf b) z) }
 
+  -- no byte tells more than the two signs
+  pub usage-small : {bytes : List ℕ} → usage (treeOf b) z ≡ answer bytes → (i : ℕ) → getD bytes i 0 < 4
+  unfolding usage treeOf
+  usage-small e = use-nodes (treeOf b) (faceCount (treeOf b) z) z (nodeCount b) 0 none-yet (λ s k l m. entry-below s k (omega arith)) e .0 .small
+
   pub all-uses : {bytes : List ℕ} → usage (treeOf b) z ≡ answer bytes → positiveUses bytes + negativeUses bytes ≡ cellEntries (treeOf b) z
   unfolding usage treeOf cellEntries tally sumBefore
   all-uses e =

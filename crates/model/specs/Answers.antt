@@ -1,4 +1,4 @@
--- For each case of an answer enum document 01's number and values. Contracts go through these definitions.
+-- For each case of an answer enum the documents' number and values. Contracts go through these definitions.
 use Prim.Native.Nat.{ℕ}
 use mathlib.Core.Path.{_≡_}
 use mathlib.Core.Bool.{Bool, true, false}

@@ -255,8 +255,8 @@ unfoldable pub secondParent : Tree → ℕ → ℕ → ℕ
 secondParent t s k = number t (parentsOf t s) (elementCount t s + k)
 
 -- the first is a cell of the zone; the second is one, or 0
-unfoldable pub areCells : Tree → ℕ → ℕ → Bool
-areCells t s k =
+unfoldable pub areParents : Tree → ℕ → ℕ → Bool
+areParents t s k =
     cellOf t (parent t s) (firstParent t s k) && (eqb (secondParent t s k) 0 || cellOf t (parent t s) (secondParent t s k))
 
 -- 39: I4 or I8, dimensions [n, 2], and each face has such parents
@@ -264,7 +264,7 @@ unfoldable pub parentsLawful : Tree → ℕ → Bool
 parentsLawful t s =
     typed t (parentsOf t s) (I4 ∷ I8 ∷ [])
     && shaped t (parentsOf t s) (elementCount t s ∷ 2 ∷ [])
-    && everyFrom (areCells t s) (elementCount t s) 0
+    && everyFrom (areParents t s) (elementCount t s) 0
 
 -- the rule of a section after those of its entries
 unfoldable pub parentRules : Tree → ℕ → List Rule

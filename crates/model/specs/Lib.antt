@@ -17,6 +17,7 @@ pub mod Corner
 pub mod ArrayValue
 pub mod FaceUsage
 pub mod ParentElements
+pub mod ParentLaws
 pub mod Answers
 pub mod Given
 pub mod Reads

@@ -69,6 +69,6 @@ agreementCheck b z =
 unfoldable pub agreementAnswer : List ℕ → ℕ → ℕ → Answer Bool
 agreementAnswer b z room = agreementCheck b z then usageAnswer b z room into λ faces. answer (allAgree (treeOf b) z)
 
--- the bytes of face usage, after yes and after no; unchanged on 54
+-- the bytes of face usage, after yes and after no, and as face usage leaves them on 44 and 45; unchanged on 54
 unfoldable pub agreementMemory : List ℕ → ℕ → List ℕ → List ℕ
 agreementMemory b z out = leaves (agreementCheck b z) out (usageMemory b z out)

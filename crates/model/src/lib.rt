@@ -140,7 +140,8 @@ pub enum Agreement {
     Rejected(Rejection),
 }
 
-// A section entry: where a section's elements stand in the image. Offsets count from the image's start; 0 with width 0 where absent.
+// A section entry: where a section's elements stand in the image, and the parents of its faces. Places count from the image's start; 0 with width 0 where
+// absent, and for parents where the section is not of type 22.
 #[repr(C)]
 pub struct Section {
     pub node: u64,

@@ -13,7 +13,7 @@ use Rattle.model.specs.Given.{Sound, NodesTo}
 use Rattle.model.specs.Records.{product}
 use Rattle.model.specs.Containment.{role, found, validated, validatedAs, Elements}
 use Rattle.model.specs.Values.{typed, shaped, typeLawful, valueLawful, rangeOf, sidsRules}
-use Rattle.model.specs.Elements.{NGON, elementType, elementCount, parentsOf, firstParent, secondParent, areCells, parentsLawful, parentRules}
+use Rattle.model.specs.Elements.{NGON, elementType, elementCount, parentsOf, firstParent, secondParent, areParents, parentsLawful, parentRules}
 use Rattle.model.proofs.Logic.{and-first, and-second, and-false, when}
 use Rattle.model.proofs.Loops.{SeekLeft, seek-start}
 use Rattle.model.proofs.Walks.{seek-before}
@@ -57,7 +57,7 @@ module _ (t : Tree) (s : ℕ) {j n : ℕ} (p : j ≡ parentsOf t s) (q : n ≡ e
 
   pub columns-decide : {z : ℕ} → typed t j (I4 ∷ I8 ∷ []) ≡ true → shaped t j (n ∷ 2 ∷ []) ≡ true → z ≡ parent t s
       → everyFrom (pairAt t z j n) n 0 ≡ parentsLawful t s
-  unfolding parentsLawful areCells firstParent secondParent pairAt isParent
+  unfolding parentsLawful areParents firstParent secondParent pairAt isParent
   columns-decide h i e = rw (e, p, q, rw p at h, rw (p, q) at i)
 
 pub stores-columns : {b : List ℕ} → Sound b → (j n : ℕ) → j < nodeCount b → typed (treeOf b) j (I4 ∷ I8 ∷ []) ≡ true
