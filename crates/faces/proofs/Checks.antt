@@ -17,7 +17,7 @@ use Rattle.model.specs.ParentElements.{storedParents, parentsCheck, parentsAnsw
 use Rattle.model.proofs.Passed.{then-on, then-off}
 use Rattle.model.proofs.Staging.{broken, kept}
 
-no-rules : check 0 [] ≡ passed
+pub no-rules : check 0 [] ≡ passed
 unfolding check
 no-rules = refl
 

@@ -1,22 +1,23 @@
 // The faces of a zone. Face usage (document 01: the face ledger): how often, and with which sign, cells refer to each face. The parents of a face, as its
-// section stores them.
+// section stores them, and whether they agree with the cells.
 ghost use mathlib.Core.Path.{_≡_};
 ghost use Prim.Native.Nat.{_≤_};
 ghost use lib.ListN.{length};
 ghost use Rattle.model.specs.Rules.{passed};
-ghost use Rattle.model.specs.Answers.{stageTells, usageTells, parentsTells};
+ghost use Rattle.model.specs.Answers.{stageTells, usageTells};
 ghost use Rattle.model.specs.FaceUsage.{usageAnswer, usageMemory};
-ghost use Rattle.model.specs.ParentElements.{parentsAnswer};
 ghost use Rattle.model.specs.Validation.{imageCheck};
 ghost use Rattle.index.specs.Index.{Index};
 
+mod parent_calls; // parent_calls.rt: the parents of a face, and whether they agree with the cells
 mod zone; // zone.rt: a zone's usage
+mod zone_agreement; // zone_agreement.rt: whether a zone's parents agree with its cells
 
-use face_parents::parents_of_face;
 use model::FaceUsage;
-use model::ParentPair;
 use model::Rejection;
 use model::Stage;
+pub use parent_calls::parents;
+pub use parent_calls::parents_agree;
 
 // The usage of a zone's faces after the image's check: its rejection, then 40, 44, 45, or F with the first F bytes written. Bytes after them never
 // change; on 45 the first F are 0, and every other rejection leaves them all.
@@ -71,28 +72,4 @@ pub fn face_usage(image: &[u8], zone: u64, out: &mut [u8]) -> FaceUsage
         &mut levels,
         out,
     )
-}
-
-// The parents of a face after the image's check: its rejection, then 40, 41, 54, or the two parents.
-fn parents_after(verdict: Stage, image: &[u8], index: &[u16], zone: u64, face: u64) -> ParentPair
-    requires { ⌜ (stageTells verdict ≡ imageCheck (now image)) × (stageTells verdict ≡ passed → Index (now image) (now index)) ⌝ }
-    ensures { λ r. ⌜ parentsTells r ≡ parentsAnswer (now (image .entry)) zone face ⌝ }
-{
-    let Stage::Pass = verdict else {
-        return ParentPair::Rejected(verdict.rejection());
-    };
-    if !index::is_zone(image, index, zone) {
-        return ParentPair::Rejected(Rejection::at(40, 0));
-    }
-    parents_of_face(image, index, zone as usize, face)
-}
-
-// The parents of a face, as its section stores them: validation's rejection, then 40, 41 for a number that is no face of the zone, 54 where its section
-// stores no parents.
-pub fn parents(image: &[u8], zone: u64, face: u64) -> ParentPair
-    ensures { λ r. ⌜ parentsTells r ≡ parentsAnswer (now (image .entry)) zone face ⌝ }
-{
-    let mut index: [u16; 16384] = [0; 16384];
-    let verdict = validation::image_stage(image, &mut index);
-    parents_after(verdict, image, &index, zone, face)
 }

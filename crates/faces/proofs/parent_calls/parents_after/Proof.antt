@@ -6,8 +6,8 @@ use Rattle.model.specs.Rules.{rejected}
 use Rattle.model.proofs.Staging.{passes, rejects}
 use Rattle.model.proofs.Bounds.{accepted-image}
 use Rattle.faces.proofs.Checks.{parents-refused, parents-no-zone, parents-in-zone}
-use Rattle.faces.proofs.parents_after.Statement.{statement}
-use Rattle.faces.proofs.parents_after.Tie as tie
+use Rattle.faces.proofs.parent_calls.parents_after.Statement.{statement}
+use Rattle.faces.proofs.parent_calls.parents_after.Tie as tie
 
 returns : tie.Need-returns
 returns c =
