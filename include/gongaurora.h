@@ -7,7 +7,6 @@
  *     gongaurora_count found = gongaurora_sections(image, length, zone, sections, verdict.sections);
  *     gongaurora_count size = gongaurora_read_element(image, length, &sections[0], element, corners, room);
  *     gongaurora_corner first = gongaurora_read_corner(image, length, &sections[0], element, 1);
- *     gongaurora_agreement agreement = gongaurora_parents_agree(image, length, zone, use, faces);
  *
  * Every call answers on every input: nothing has to be checked before it. What holds for all calls:
  *
@@ -111,7 +110,7 @@ enum gongaurora_rule {
 
     /* the calls */
     GONGAURORA_RULE_NO_SUCH_NODE = 40,    /* no such node, or none of the kind asked for */
-    GONGAURORA_RULE_ELEMENT_NUMBER = 41,  /* the element is outside the section's range */
+    GONGAURORA_RULE_ELEMENT_NUMBER = 41,  /* the element is outside the section's range, or no face of the zone */
     GONGAURORA_RULE_INDEX = 42,           /* the corner or value is outside 1 to their number */
     GONGAURORA_RULE_UNREADABLE = 43,      /* the section asks for bytes that cannot be read, or for an element that breaks 38 */
     GONGAURORA_RULE_USAGE_ROOM = 44,      /* fewer bytes lent than the zone has faces */
@@ -171,7 +170,7 @@ static inline const char *gongaurora_rule_text(uint64_t rule)
                     "face by face and not column by column, for boundary faces with their cell in the second column, for "
                     "cells counted from 0 or from the first cell and not by element number, and for cells of other types.";
     case 40: return "There is no such node, or it is not of the kind asked for.";
-    case 41: return "The element number is outside the section's range.";
+    case 41: return "The element number is outside the section's range, or it is no face of the zone.";
     case 42: return "The corner or value number is out of range.";
     case 43: return "The section asks for bytes that cannot be read, or for a MIXED element whose type does not fit.";
     case 44: return "The lent memory is shorter than the zone's number of faces.";
@@ -411,11 +410,12 @@ typedef struct gongaurora_parent_pair {
     uint64_t node;
     uint64_t entry;
     uint64_t first;  /* the element number of a cell (type 23) of the zone; 0 where refused */
-    uint64_t second; /* the same, or 0: no second parent */
+    uint64_t second; /* the same, or 0 where there is none */
 } gongaurora_parent_pair;
 
-/* The parents of a face of a zone, asked for by its element number: the two numbers that the section's ParentElements store
- * for it. Whether these are the cells that use the face tells gongaurora_parents_agree.
+/* The parents of a face of a zone, asked for by its element number: the two numbers that its section's ParentElements store for
+ * it. In an accepted image each is a cell of the zone, the second one or 0 (rule 39); whether they are the cells that use the
+ * face tells gongaurora_parents_agree.
  * Refusals: validation's; 40: no validated zone; 41: no face of the zone, that is, no element of a section of type 22; 54: the
  * face's section has no ParentElements.
  * Cost: one validation: the image is validated again. For many faces read the numbers where `parents_at` and `parents_width`
