@@ -26,3 +26,7 @@ module _ {b : List ℕ} {o : Row} {n k : ℕ} (g : Filled b o n) (h : k < n) {pl
       let r = g .rise (place + 1) (omega (arith, next-inside)) in
       let u : k < e = rw (q, add-one) (omega (arith, r, at-end)) in
       (record { inside = next-inside; ends = q; from = omega (arith, at-end); to = omega (arith, u) }, u)
+
+-- the entry after one that a cell holds
+pub at-next : {b : List ℕ} {o : Row} {k : ℕ} {c : Cell} → AtMost b o k c × (k < c .end) → AtMost b o (k + 1) c
+at-next m = record { inside = m .0 .inside; ends = m .0 .ends; from = omega (arith, m .0 .from); to = omega (arith, m .1) }

@@ -48,10 +48,14 @@ module _ {b : List ℕ} {z : ℕ} where
   matched-same d e m =
       record { kept = m .kept; on = λ q x. matching-same e (m .on q (matching-same d x)); off = λ q x. m .off q (matching-same d x) }
 
+  -- an answer false says nothing of the cells to come
+  pub matched-stop : {all left other : ℕ → List ℕ} {bytes after : List ℕ} {r : Bool} → r ≡ false → Matched b z all left bytes r after → Matched b z all other bytes false after
+  matched-stop e m = record { kept = m .kept; on = λ q. untrue q; off = λ q x. m .off e x }
+
 -- in an accepted image
 module _ {b : List ℕ} (a : Accepted b) (z : ℕ) where
   -- a face of a section that has the array
-  has-face : (s f : ℕ) → hasParents (treeOf b) z s ≡ true → inRange (treeOf b) s f ≡ true → hasFace (treeOf b) z f s ≡ true
+  pub has-face : (s f : ℕ) → hasParents (treeOf b) z s ≡ true → inRange (treeOf b) s f ≡ true → hasFace (treeOf b) z f s ≡ true
   unfolding hasParents hasFace
   has-face s f p r = and-both _ _ (and-first (faceSection (treeOf b) z s) _ p) r
 
@@ -69,7 +73,7 @@ module _ {b : List ℕ} (a : Accepted b) (z : ℕ) where
           (when _ _ (every-at (sectionAgrees (treeOf b) z) (nodeCount b) 0 s y (omega arith) (omega arith)) p) l (omega arith)
 
   -- faces with one place are one face
-  inside : (s f : ℕ) → hasFace (treeOf b) z f s ≡ true → (firstElement (treeOf b) s ≤ f) × (f - firstElement (treeOf b) s < facesIn (treeOf b) z s)
+  pub inside : (s f : ℕ) → hasFace (treeOf b) z f s ≡ true → (firstElement (treeOf b) s ≤ f) × (f - firstElement (treeOf b) s < facesIn (treeOf b) z s)
   unfolding hasFace inRange facesIn elementCount
   inside s f x =
       let r = and-second (faceSection (treeOf b) z s) _ x in
@@ -111,7 +115,7 @@ module _ {b : List ℕ} (a : Accepted b) (z : ℕ) where
         other r f l p i =
             elim (ℕ-discrete g f) [
               | yes y ↦
-                let w = one-section s r g h l x (rw y (has-face r f p i)) in untrue (sym e ∙ ap (hasParents (treeOf b) z) (sym w) ∙ p)
+                  let w = one-section s r g h l x (rw y (has-face r f p i)) in untrue (sym e ∙ ap (hasParents (treeOf b) z) (sym w) ∙ p)
               | no n ↦ rw (ne-eqb g f n)
             ]
 
@@ -160,10 +164,10 @@ module _ {b : List ℕ} (a : Accepted b) (z : ℕ) where
                 elim (ℕ-discrete g f) [
                   | yes v ↦ rw (one-section s r g h l x (rw v (has-face r f p i)), ← v) here
                   | no n ↦
-                    let q : withUser g c left f ≡ left f = rw (ne-eqb g f n) in
-                    let d = getD-set-other bytes place (facePlace (treeOf b) z f) (getD bytes place 0 + 4 * more) 0
-                    (λ v. n (one-place s r g f h l x (has-face r f p i) (sym v))) in
-                    m .each r f l p i ∙ ap (settles _ _) q ∙ ap (λ (v : ℕ). settles (storedParents (treeOf b) r f) (v / 4) (left f)) (sym d)
+                      let q : withUser g c left f ≡ left f = rw (ne-eqb g f n) in
+                      let d = getD-set-other bytes place (facePlace (treeOf b) z f) (getD bytes place 0 + 4 * more) 0
+                      (λ v. n (one-place s r g f h l x (has-face r f p i) (sym v))) in
+                      m .each r f l p i ∙ ap (settles _ _) q ∙ ap (λ (v : ℕ). settles (storedParents (treeOf b) r f) (v / 4) (left f)) (sym d)
                 ];
           }
         where

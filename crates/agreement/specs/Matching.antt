@@ -9,6 +9,8 @@ use Rattle.model.specs.Image.{Tree, treeOf, nodeCount}
 use Rattle.model.specs.Elements.{inRange}
 use Rattle.model.specs.FaceUsage.{faceCount, facePlace, usesIn}
 use Rattle.model.specs.ParentElements.{FaceParents, storedParents, usersIn, usersFrom, faceAgrees, hasParents, allAgree}
+use Rattle.model.specs.Corner.{numberAt}
+use Rattle.rows.specs.declared.Row.{Row}
 use Rattle.usage_bytes.specs.ParentMarks.{matched, complete}
 
 -- from these marks on each use by a cell is matched with a parent, and in the end each parent is
@@ -18,6 +20,10 @@ settles p marks (c ∷ cells) =
     let more = matched (eqb (p .first) c) (eqb (p .second) c) marks in
     let rest = settles p (marks + more) cells in
     cond (ltb 0 more) rest false
+
+-- the parents of face d of n, counted from 0, are matched: their bytes begin at `place`
+unfoldable pub completeAt : List ℕ → Row → ℕ → ℕ → List ℕ → ℕ → Bool
+completeAt b row n place bytes d = complete (eqb (numberAt b (row .at) (row .width) (n + d)) 0) (getD bytes (place + d) 0 / 4)
 
 -- bytes whose marks, with the cells that are still to come for each face, settle whether it agrees
 pub record Matching (b : List ℕ) (z : ℕ) (left : ℕ → List ℕ) (bytes : List ℕ) : Type 0 where

@@ -6,9 +6,9 @@ use mathlib.Core.List.{List, [], _∷_}
 use native.Mathlib.Omega.{arith}
 use native.Mathlib.Nat.{suc-mul}
 use lib.Dec.{T, eqb, ltb}
-use lib.ListN.{length}
+use lib.ListN.{length, getD}
 use borrow.Author.Tests.{ltb-true}
-use Rattle.model.specs.Image.{treeOf, nodeCount, wordCount, node, width, I4, I8}
+use Rattle.model.specs.Image.{treeOf, nodeCount, wordCount, node, dimensions, width, I4, I8}
 use Rattle.model.specs.Given.{Sound, Accepted}
 use Rattle.model.specs.Records.{product}
 use Rattle.model.specs.Containment.{sectionOf, found}
@@ -55,6 +55,10 @@ module _ {b : List ℕ} (a : Accepted b) (z s : ℕ) (h : s < nodeCount b) where
         sizes = d;
         stores = stores-by (a .sound) j (ltb-true j (nodeCount b) f) (whole-wide t j (and-first (typed t j (I4 ∷ I8 ∷ [])) _ l)) (n ∷ 2 ∷ []) d;
       }
+
+-- n is the first dimension
+pub columns-long : {b : List ℕ} {a n : ℕ} → Columns b a n → getD (dimensions (treeOf b) a) 0 0 ≡ n
+columns-long c = ap (λ (l : List ℕ). getD l 0 0) (c .sizes)
 
 -- no more numbers than bytes
 few : (w n : ℕ) → T (isWidth w) → n ≤ w * n

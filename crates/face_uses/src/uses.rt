@@ -34,7 +34,7 @@ pub struct Faces {
 }
 
 // The place of face f, which entry j holds.
-fn place_of(firsts: &[u64], places: &[u64], j: usize, f: u64) -> usize
+pub fn place_of(firsts: &[u64], places: &[u64], j: usize, f: u64) -> usize
     requires { ⌜ (j < length (now firsts)) × (j < length (now places)) ⌝ }
     requires { ⌜ (getD (now firsts) j 0 ≤ f) × (getD (now places) j 0 + (f - getD (now firsts) j 0) < 18446744073709551616) ⌝ }
     ensures { λ r. ⌜ r ≡ getD (now (places .entry)) j 0 + (f - getD (now (firsts .entry)) j 0) ⌝ }
@@ -62,7 +62,7 @@ fn guess_block(
 }
 
 // The entry that holds the face of reference k of a row: `last`, that of the reference before, is asked first, then the one guessed.
-fn entry_of(
+pub fn entry_of(
     image: &[u8],
     faces: Faces,
     row: Row,

@@ -1,16 +1,20 @@
-// Face usage of a zone (document 01: the face ledger): how often, and with which sign, cells refer to each face.
+// The faces of a zone. Face usage (document 01: the face ledger): how often, and with which sign, cells refer to each face. The parents of a face, as its
+// section stores them.
 ghost use mathlib.Core.Path.{_≡_};
 ghost use Prim.Native.Nat.{_≤_};
 ghost use lib.ListN.{length};
 ghost use Rattle.model.specs.Rules.{passed};
-ghost use Rattle.model.specs.Answers.{stageTells, usageTells};
+ghost use Rattle.model.specs.Answers.{stageTells, usageTells, parentsTells};
 ghost use Rattle.model.specs.FaceUsage.{usageAnswer, usageMemory};
+ghost use Rattle.model.specs.ParentElements.{parentsAnswer};
 ghost use Rattle.model.specs.Validation.{imageCheck};
 ghost use Rattle.index.specs.Index.{Index};
 
 mod zone; // zone.rt: a zone's usage
 
+use face_parents::parents_of_face;
 use model::FaceUsage;
+use model::ParentPair;
 use model::Rejection;
 use model::Stage;
 
@@ -67,4 +71,28 @@ pub fn face_usage(image: &[u8], zone: u64, out: &mut [u8]) -> FaceUsage
         &mut levels,
         out,
     )
+}
+
+// The parents of a face after the image's check: its rejection, then 40, 41, 54, or the two parents.
+fn parents_after(verdict: Stage, image: &[u8], index: &[u16], zone: u64, face: u64) -> ParentPair
+    requires { ⌜ (stageTells verdict ≡ imageCheck (now image)) × (stageTells verdict ≡ passed → Index (now image) (now index)) ⌝ }
+    ensures { λ r. ⌜ parentsTells r ≡ parentsAnswer (now (image .entry)) zone face ⌝ }
+{
+    let Stage::Pass = verdict else {
+        return ParentPair::Rejected(verdict.rejection());
+    };
+    if !index::is_zone(image, index, zone) {
+        return ParentPair::Rejected(Rejection::at(40, 0));
+    }
+    parents_of_face(image, index, zone as usize, face)
+}
+
+// The parents of a face, as its section stores them: validation's rejection, then 40, 41 for a number that is no face of the zone, 54 where its section
+// stores no parents.
+pub fn parents(image: &[u8], zone: u64, face: u64) -> ParentPair
+    ensures { λ r. ⌜ parentsTells r ≡ parentsAnswer (now (image .entry)) zone face ⌝ }
+{
+    let mut index: [u16; 16384] = [0; 16384];
+    let verdict = validation::image_stage(image, &mut index);
+    parents_after(verdict, image, &index, zone, face)
 }

@@ -111,7 +111,7 @@ module _ {b : List ℕ} (g : Sound b) (k s : ℕ) (e : isRanged (treeOf b) k s �
   unfolding isRanged
   is-section = and-first _ _ (and-first _ (found (treeOf b) (rangeOf (treeOf b) s)) e)
 
-  range-found : found (treeOf b) (rangeOf (treeOf b) s) ≡ true
+  pub range-found : found (treeOf b) (rangeOf (treeOf b) s) ≡ true
   unfolding isRanged
   range-found = and-second (validatedAs (treeOf b) Elements s && isWanted (treeOf b) k s) _ e
 

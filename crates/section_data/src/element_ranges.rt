@@ -8,7 +8,7 @@ ghost use Rattle.model.specs.Image.{treeOf, nodeCount, parent};
 ghost use Rattle.model.specs.Given.{Sound};
 ghost use Rattle.model.specs.Containment.{role, found, Elements};
 ghost use Rattle.model.specs.Values.{typeLawful, valueLawful, rangeOf};
-ghost use Rattle.model.specs.Elements.{inRange, hasElement, elementOf};
+ghost use Rattle.model.specs.Elements.{elementCount, inRange, hasElement, elementOf};
 ghost use Rattle.index.specs.Index.{Index, kind};
 ghost use Rattle.ranges.specs.Tables.{Gathered};
 ghost use Rattle.section_data.specs.Given.{Ranged};
@@ -183,6 +183,16 @@ pub fn gather_cells(image: &[u8], index: &[u16], firsts: &mut [u64], reach: &mut
     ensures { λ r. ⌜ Cells (treeOf (now (image .entry))) (now (firsts .exit)) (now (reach .exit)) r ⌝ }
 {
     gather(image, index, NFACE, firsts, reach)
+}
+
+// How many elements section i has, one of those that count.
+pub fn element_count(image: &[u8], range: usize, i: usize) -> u64
+    requires { ⌜ Sound (now image) × ((range ≡ rangeOf (treeOf (now image)) i) × Ranged (now image) i) ⌝ }
+    ensures { λ r. ⌜ (r ≡ elementCount (treeOf (now (image .entry))) i) × (r ≤ 2147483647) ⌝ }
+{
+    let first = types::whole(image, range, 0);
+    let last = types::whole(image, range, 1);
+    last - first + 1
 }
 
 // Does the range of section i, one of those that count, hold element e?

@@ -1,0 +1,64 @@
+// A column of parents: its numbers are cells of a zone, or 0 where that is allowed.
+ghost use mathlib.Core.Path.{_≡_};
+ghost use mathlib.Core.Bool.{_&&_};
+ghost use Prim.Native.Nat.{_+_, _≤_, _<_};
+ghost use lib.Dec.{ltb, leb};
+ghost use Rattle.model.specs.Lists.{everyFrom};
+ghost use Rattle.model.specs.Image.{treeOf};
+ghost use Rattle.model.specs.Values.{maxNumber};
+ghost use Rattle.rows.specs.Rows.{Numbers};
+ghost use Rattle.ranges.specs.Tables.{key, inRanges, Ordered, Covered};
+ghost use Rattle.section_data.specs.Ranges.{Cells};
+ghost use Rattle.parents.specs.Parents.{isKnown, parentAt};
+use ranges::Interval;
+use rows::Row;
+
+// Is x 0 where that is allowed, or in an interval?
+fn is_known(interval: Interval, none: bool, x: u64) -> bool
+    requires { ⌜ interval .low + interval .size ≤ 4294967296 ⌝ }
+    ensures { λ r. ⌜ r ≡ isKnown interval none x ⌝ }
+{
+    (none && x == 0) || ranges::within(interval, x)
+}
+
+// The numbers of zone z around x that one of n entries holds; none where x is in no range or above 2,147,483,647.
+fn interval_of(firsts: &[u64], reach: &[u64], n: usize, z: usize, x: u64) -> Interval
+    requires { ⌜ Ordered (now firsts) (now reach) n × (z < 4096) ⌝ }
+    ensures { λ r. ⌜ Covered (now (firsts .entry)) (now (reach .entry)) n z r ⌝ }
+    ensures { λ r. ⌜ ltb 0 (r .size) ≡ (leb x maxNumber && inRanges (now (firsts .entry)) (now (reach .entry)) n (key z x)) ⌝ }
+{
+    if types::MAX_NUMBER < x {
+        return Interval { low: 0, size: 0 };
+    }
+    ranges::interval_around(firsts, reach, n, z, x)
+}
+
+// Is each number of a row a cell of zone z, or 0 where that is allowed? The numbers around the last one that was looked up are known.
+pub fn are_cells(
+    image: &[u8],
+    z: usize,
+    row: Row,
+    none: bool,
+    firsts: &[u64],
+    reach: &[u64],
+    cells: usize,
+) -> bool
+    requires { ⌜ Numbers (now image) (row .at) (row .width) (row .n) × (z < 4096) ⌝ }
+    requires { ⌜ Cells (treeOf (now image)) (now firsts) (now reach) cells ⌝ }
+    ensures { λ r. ⌜ r ≡ everyFrom (parentAt (treeOf (now (image .entry))) z none (now (image .entry)) row) (row .n) 0 ⌝ }
+{
+    let n = row.n;
+    let mut known = Interval { low: 0, size: 0 };
+    let mut k: usize = 0;
+    while k < n {
+        let x = rows::number_at(image, row, k);
+        if !is_known(known, none, x) {
+            known = interval_of(firsts, reach, cells, z, x);
+            if known.size == 0 {
+                return false;
+            }
+        }
+        k += 1;
+    }
+    true
+}
