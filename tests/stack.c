@@ -34,6 +34,8 @@ static uint64_t read_element(void)
 }
 static uint64_t element_type(void) { return gongaurora_element_type(image, length, sections, sections->first).rule; }
 static uint64_t face_usage(void) { return gongaurora_face_usage(image, length, zone, bytes, sizeof bytes).rule; }
+static uint64_t parents(void) { return gongaurora_parents(image, length, zone, sections->first).rule; }
+static uint64_t parents_agree(void) { return gongaurora_parents_agree(image, length, zone, bytes, sizeof bytes).rule; }
 static uint64_t path(void) { return gongaurora_path(image, length, array, bytes, sizeof bytes).rule; }
 static uint64_t name_bytes(void) { return gongaurora_name_bytes(image, length).rule; }
 static uint64_t data_size(void) { return gongaurora_data_size(image, length, array).rule; }
@@ -51,6 +53,8 @@ static const struct {
     {"read_element", read_element, READ},
     {"element_type", element_type, READ},
     {"face_usage", face_usage, VALIDATION},
+    {"parents", parents, VALIDATION},
+    {"parents_agree", parents_agree, VALIDATION},
     {"path", path, TABLE},
     {"name_bytes", name_bytes, TABLE},
     {"data_size", data_size, VALIDATION},

@@ -53,6 +53,21 @@ fn usage_into(image: &[u8], zone: u64, room: u64) {
     memory(&out, room as usize);
 }
 
+// Whether parents agree, with the first n bytes of a buffer lent.
+fn agreement_on(image: &[u8], zone: u64, out: &mut [u8], n: usize) {
+    if out.len() < n {
+        return;
+    }
+    print::agreement(faces::parents_agree(image, zone, &mut out[..n]));
+}
+
+// Whether parents agree, with room for so many bytes, each 170 before; the memory afterwards.
+fn agreement_into(image: &[u8], zone: u64, room: u64) {
+    let mut out = [170u8; 1024];
+    agreement_on(image, zone, &mut out, room as usize);
+    memory(&out, room as usize);
+}
+
 // The section entries with the first n numbers of a buffer lent.
 fn entries_on(image: &[u8], zone: u64, out: &mut [u64], n: usize) {
     if out.len() < n {
@@ -229,6 +244,12 @@ fn one_call(image: &[u8]) -> bool {
             corners::element_type(image, section, word(&call, 12)),
             b"type ",
         );
+    }
+    if kind == 14 {
+        print::parents(faces::parents(image, node, number));
+    }
+    if kind == 15 {
+        agreement_into(image, node, number);
     }
     io::write_all(1, b"\n");
     true
