@@ -1,6 +1,6 @@
 -- Numbers of a column that are parents: known ones, and those looked up. The two columns of a node as rows of the image's bytes.
 use Prim.Native.Nat.{ℕ, _+_, _*_, _<_}
-use mathlib.Core.Path.{_≡_, sym, _∙_}
+use mathlib.Core.Path.{_≡_, refl, sym, _∙_}
 use mathlib.Core.Bool.{Bool, true, false, _&&_, _||_}
 use mathlib.Core.List.{List}
 use native.Mathlib.Omega.{arith}
@@ -20,10 +20,11 @@ use Rattle.rows.specs.Rows.{Numbers}
 use Rattle.ranges.specs.declared.Interval.{Interval}
 use Rattle.ranges.specs.Tables.{key, inRanges, isWithin, Covered}
 use Rattle.section_data.specs.Given.{Stores}
+use Rattle.section_data.specs.Passing.{Passed}
 use Rattle.section_data.specs.Ranges.{TableOf, Cells}
 use Rattle.section_data.proofs.Stored.{dataFrom, stores-row, stores-number}
 use Rattle.section_data.proofs.TableLaws.{covered-is}
-use Rattle.parents.specs.Parents.{isParent, isKnown, parentAt, pairAt}
+use Rattle.parents.specs.Parents.{isParent, isKnown, knownAt, parentAt, pairAt}
 
 -- a number that was looked up, whatever it is
 looked-up : {p : ℕ → ℕ → Bool} {firsts reach : List ℕ} {n : ℕ} → TableOf p firsts reach n → (z x : ℕ)
@@ -34,27 +35,41 @@ looked-up g z x =
       | no h ↦ rw (le-leb x maxNumber (omega arith)) (g .in-ranges z x (omega arith))
     ]
 
--- neither of two tests holds
-neither : (a b : Bool) → (a || b) ≡ false → a ≡ false
-neither true b e = e
-neither false b e = sym e ∙ e
+-- number k of a row is an allowed 0; it is none where it is not known
+abbrev pub noneAt : Bool → List ℕ → Row → ℕ → Bool
+noneAt none b row k = none && eqb (numberAt b (row .at) (row .width) k) 0
 
--- number k of a row is x
-module _ (t : Tree) {firsts reach : List ℕ} {n : ℕ} (g : Cells t firsts reach n) (z : ℕ) (none : Bool) (b : List ℕ) (row : Row) (k : ℕ) {x : ℕ}
-    (e : x ≡ numberAt b (row .at) (row .width) k) where
-  pub known-parent : {r : Interval} → Covered firsts reach n z r → isKnown r none x ≡ true → parentAt t z none b row k ≡ true
-  unfolding isKnown parentAt isParent
-  known-parent {r} c h =
-      rw (← e) (or-cases (none && eqb x 0) (isWithin r x) h (or-left _ _) (λ w. or-right (none && eqb x 0) _ (covered-is g z c x w)))
+pub not-none : (none : Bool) (b : List ℕ) (row : Row) (k : ℕ) (r : Interval) → knownAt b row r none k ≡ false → noneAt none b row k ≡ false
+unfolding knownAt isKnown
+not-none none b row k r e = neither (noneAt none b row k) (isWithin r _) e
+  where
+    neither : (a c : Bool) → (a || c) ≡ false → a ≡ false
+    neither true c h = h
+    neither false c h = refl
 
-  module _ {s : ℕ} (h : ltb 0 s ≡ (leb x maxNumber && inRanges firsts reach n (key z x))) where
+-- the numbers of a row in zone z
+module _ (t : Tree) {firsts reach : List ℕ} {n : ℕ} (g : Cells t firsts reach n) (z : ℕ) (none : Bool) (b : List ℕ) (row : Row) where
+  -- known numbers are parents
+  pub known-parents : {r : Interval} {k j : ℕ} → Covered firsts reach n z r → Passed (knownAt b row r none) (row .n) k j
+      → Passed (parentAt t z none b row) (row .n) k j
+  unfolding knownAt isKnown parentAt isParent
+  known-parents {r} c s =
+      record {
+        from = s .from;
+        to = s .to;
+        each = λ i x y. let v = numberAt b (row .at) (row .width) i in
+            or-cases (none && eqb v 0) (isWithin r v) (s .each i x y) (or-left _ _) (λ w. or-right (none && eqb v 0) _ (covered-is g z c v w));
+      }
+
+  -- number k is x, which is looked up
+  module _ (k : ℕ) {x s : ℕ} (e : x ≡ numberAt b (row .at) (row .width) k) (h : ltb 0 s ≡ (leb x maxNumber && inRanges firsts reach n (key z x))) where
     pub found-parent : (s ≡ 0 → ⊥) → parentAt t z none b row k ≡ true
     unfolding parentAt isParent
     found-parent u = rw (← e) (or-right (none && eqb x 0) _ (sym (h ∙ looked-up g z x) ∙ lt-ltb 0 s (omega (arith, u))))
 
-    pub no-parent : (r : Interval) → isKnown r none x ≡ false → s ≡ 0 → parentAt t z none b row k ≡ false
-    unfolding isKnown parentAt isParent
-    no-parent r v u = rw (← e, neither (none && eqb x 0) (isWithin r x) v) (sym (h ∙ looked-up g z x) ∙ le-ltb 0 s (omega arith))
+    pub no-parent : noneAt none b row k ≡ false → s ≡ 0 → parentAt t z none b row k ≡ false
+    unfolding parentAt isParent
+    no-parent v u = rw (v, ← e) (sym (h ∙ looked-up g z x) ∙ le-ltb 0 s (omega arith))
 
 -- node j stores two columns of n numbers, from `at` on
 module _ {b : List ℕ} (g : Sound b) {j : ℕ} (n : ℕ) (o : Stores b j (n * 2)) {at w : ℕ} (p : at ≡ dataFrom b j) (q : w ≡ width (treeOf b) j) where

@@ -1,6 +1,6 @@
 // A column of parents: its numbers are cells of a zone, or 0 where that is allowed.
 ghost use mathlib.Core.Path.{_≡_};
-ghost use mathlib.Core.Bool.{_&&_};
+ghost use mathlib.Core.Bool.{false, _&&_};
 ghost use Prim.Native.Nat.{_+_, _≤_, _<_};
 ghost use lib.Dec.{ltb, leb};
 ghost use Rattle.model.specs.Lists.{everyFrom};
@@ -8,8 +8,9 @@ ghost use Rattle.model.specs.Image.{treeOf};
 ghost use Rattle.model.specs.Values.{maxNumber};
 ghost use Rattle.rows.specs.Rows.{Numbers};
 ghost use Rattle.ranges.specs.Tables.{key, inRanges, Ordered, Covered};
+ghost use Rattle.section_data.specs.Passing.{Passed};
 ghost use Rattle.section_data.specs.Ranges.{Cells};
-ghost use Rattle.parents.specs.Parents.{isKnown, parentAt};
+ghost use Rattle.parents.specs.Parents.{isKnown, knownAt, parentAt};
 use ranges::Interval;
 use rows::Row;
 
@@ -19,6 +20,24 @@ fn is_known(interval: Interval, none: bool, x: u64) -> bool
     ensures { λ r. ⌜ r ≡ isKnown interval none x ⌝ }
 {
     (none && x == 0) || ranges::within(interval, x)
+}
+
+// The first number of a row, from k on, that is no allowed 0 and in no interval; how many there are where each is one.
+fn first_unknown(image: &[u8], row: Row, k: usize, interval: Interval, none: bool) -> usize
+    requires { ⌜ Numbers (now image) (row .at) (row .width) (row .n) × (k ≤ row .n) ⌝ }
+    requires { ⌜ interval .low + interval .size ≤ 4294967296 ⌝ }
+    ensures { λ r. ⌜ Passed (knownAt (now (image .entry)) row interval none) (row .n) k r ⌝ }
+    ensures { λ r. ⌜ (r < row .n → knownAt (now (image .entry)) row interval none r ≡ false) ⌝ }
+{
+    let n = row.n;
+    let mut j = k;
+    while j < n {
+        if !is_known(interval, none, rows::number_at(image, row, j)) {
+            return j;
+        }
+        j += 1;
+    }
+    j
 }
 
 // The numbers of zone z around x that one of n entries holds; none where x is in no range or above 2,147,483,647.
@@ -48,17 +67,14 @@ pub fn are_cells(
     ensures { λ r. ⌜ r ≡ everyFrom (parentAt (treeOf (now (image .entry))) z none (now (image .entry)) row) (row .n) 0 ⌝ }
 {
     let n = row.n;
-    let mut known = Interval { low: 0, size: 0 };
-    let mut k: usize = 0;
+    let mut k = first_unknown(image, row, 0, Interval { low: 0, size: 0 }, none);
     while k < n {
         let x = rows::number_at(image, row, k);
-        if !is_known(known, none, x) {
-            known = interval_of(firsts, reach, cells, z, x);
-            if known.size == 0 {
-                return false;
-            }
+        let known = interval_of(firsts, reach, cells, z, x);
+        if known.size == 0 {
+            return false;
         }
-        k += 1;
+        k = first_unknown(image, row, k + 1, known, none);
     }
     true
 }

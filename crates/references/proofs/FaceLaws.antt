@@ -11,7 +11,8 @@ use Rattle.model.proofs.Logic.{or-cases}
 use Rattle.ranges.specs.Tables.{isWithin, Covered}
 use Rattle.ranges.specs.declared.Interval.{Interval}
 use Rattle.rows.specs.declared.Row.{Row}
-use Rattle.references.specs.Arrays.{knownAt, Passed}
+use Rattle.section_data.specs.Passing.{Passed}
+use Rattle.references.specs.Arrays.{knownAt}
 use Rattle.references.specs.Arrays.{refersFace}
 use Rattle.section_data.specs.Ranges.{Faces}
 use Rattle.section_data.proofs.TableLaws.{covered-is}

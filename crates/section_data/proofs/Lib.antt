@@ -3,3 +3,4 @@ pub mod ArrayLaws
 pub mod SectionContext
 pub mod RangeLaws
 pub mod TableLaws
+pub mod Passing

@@ -3,10 +3,11 @@ use Prim.Native.Nat.{_-_}
 use Rattle.model.specs.Image.{treeOf}
 use Rattle.ranges.specs.Tables.{Covered}
 use Rattle.ranges.proofs.Intervals.{none-covered}
-use Rattle.references.specs.Arrays.{Passed}
+use Rattle.section_data.specs.Passing.{Passed}
 use Rattle.references.specs.Arrays.{refersFace}
 use Rattle.section_data.proofs.TableLaws.{found-is, missed-is}
-use Rattle.references.proofs.Failing.{passed-none, passed-more, passed-on, failing-here, failing-none}
+use Rattle.section_data.proofs.Passing.{passed-none, passed-more, passed-on}
+use Rattle.references.proofs.Failing.{failing-here, failing-none}
 use Rattle.references.proofs.FaceLaws.{refers-by, known-faces}
 use native.Mathlib.Omega.{arith}
 use borrow.Author.Needs.{needs}
