@@ -24,9 +24,9 @@
  *   Pointers   A pointer to `length` bytes, or to `room` items, that can be read or written; with 0 of them any, also NULL.
  *   Alignment  None is needed: the image and a buffer of bytes may start at any address. Sections and lists of 64-bit numbers
  *              have the alignment of their C type.
- *   Stack      Measured, and the same for every image: every call takes under 96,000 bytes; gongaurora_path,
- *              gongaurora_name_bytes and gongaurora_array_value under 40,000; gongaurora_read_corner,
- *              gongaurora_read_element and gongaurora_element_type under 1,000.
+ *   Stack      Measured, and the same for every image: gongaurora_parents_agree takes under 112,000 bytes, every other call
+ *              under 96,000; gongaurora_path, gongaurora_name_bytes and gongaurora_array_value under 40,000;
+ *              gongaurora_read_corner, gongaurora_read_element and gongaurora_element_type under 1,000.
  *   Threads    There is no state: any calls may run at the same time, as long as no other thread writes what they read.
  *   Cost       Measured, not proved. One validation of a usual mesh costs about one pass over the image's bytes, with MIXED
  *              sections up to 1.6; of an image with 1,000 face sections and references at random among them 17. No image
