@@ -24,9 +24,9 @@
  *   Pointers   A pointer to `length` bytes, or to `room` items, that can be read or written; with 0 of them any, also NULL.
  *   Alignment  None is needed: the image and a buffer of bytes may start at any address. Sections and lists of 64-bit numbers
  *              have the alignment of their C type.
- *   Stack      Measured, and the same for every image: every call takes under 96,000 bytes; gongaurora_path,
- *              gongaurora_name_bytes and gongaurora_array_value under 40,000; gongaurora_read_corner,
- *              gongaurora_read_element and gongaurora_element_type under 1,000.
+ *   Stack      Measured, and the same for every image: gongaurora_parents_agree takes under 112,000 bytes, every other call
+ *              under 96,000; gongaurora_path, gongaurora_name_bytes and gongaurora_array_value under 40,000;
+ *              gongaurora_read_corner, gongaurora_read_element and gongaurora_element_type under 1,000.
  *   Threads    There is no state: any calls may run at the same time, as long as no other thread writes what they read.
  *   Cost       Measured, not proved. One validation of a usual mesh costs about one pass over the image's bytes, with MIXED
  *              sections up to 1.6; of an image with 1,000 face sections and references at random among them 17. No image
@@ -419,7 +419,10 @@ typedef struct gongaurora_parent_pair {
  * Refusals: validation's; 40: no validated zone; 41: no face of the zone, that is, no element of a section of type 22; 54: the
  * face's section has no ParentElements.
  * Cost: one validation: the image is validated again. For many faces read the numbers where `parents_at` and `parents_width`
- * of the section say that they stand. */
+ * of the section say that they stand.
+ *
+ * Proved: with an accepted image and the sections that gongaurora_sections gave for one of its zones, image and sections
+ * unchanged since, all these numbers lie in the image and are the parents that the section stores. */
 static inline gongaurora_parent_pair gongaurora_parents(const uint8_t *image, size_t length, uint64_t zone, uint64_t face)
 {
     gongaurora_parent_pair result;
@@ -443,7 +446,10 @@ typedef struct gongaurora_agreement {
  * agree and where they do not. Bytes past these never change.
  * Refusals: validation's; 40: no validated zone; 54: no face section of the zone has ParentElements: then `out` is as it was;
  * 44: `room` is less than the zone's number of faces; 45: a face used twice with one sign: then the bytes are 0.
- * Cost: that of gongaurora_face_usage; then the zone's cells and the parents are read once more. */
+ * Cost: that of gongaurora_face_usage; then the zone's cells and the parents are read once more.
+ *
+ * Proved: where it answers 1, the parents that gongaurora_parents answers for a face are exactly the cells that use it, as
+ * often as they use it, and the second is 0 where there is one use. */
 static inline gongaurora_agreement gongaurora_parents_agree(const uint8_t *image, size_t length, uint64_t zone, uint8_t *out,
                                                             size_t room)
 {

@@ -12,9 +12,9 @@
 #include <sys/wait.h>
 #include <unistd.h>
 
-/* The limits in bytes: of a call that validates, of one that checks rules 1 to 18 alone, of one that reads by a section; and of
- * the whole stack of a thread that every call has to do with. */
-enum { VALIDATION = 96000, TABLE = 40000, READ = 1000, SMALL = 112 * 1024 };
+/* The limits in bytes: of agreement, of another call that validates, of one that checks rules 1 to 18 alone, of one that reads
+ * by a section; and of the whole stack of a thread that every call has to do with. */
+enum { AGREEMENT = 112000, VALIDATION = 96000, TABLE = 40000, READ = 1000, SMALL = 112 * 1024 };
 
 enum { LARGE = 1 << 20, GUARD = 1 << 20, PATTERN = 0x5a, ROOM = 4096 };
 
@@ -54,7 +54,7 @@ static const struct {
     {"element_type", element_type, READ},
     {"face_usage", face_usage, VALIDATION},
     {"parents", parents, VALIDATION},
-    {"parents_agree", parents_agree, VALIDATION},
+    {"parents_agree", parents_agree, AGREEMENT},
     {"path", path, TABLE},
     {"name_bytes", name_bytes, TABLE},
     {"data_size", data_size, VALIDATION},
