@@ -24,18 +24,31 @@ use Rattle.faces.proofs.Whole.{usage-long}
 pub refused-too : {A B C : Type 0} (w : Answer A) (x : B) (y : C) {r : Rejection} → rejected r ≡ (w into λ v. answer x) → rejected r ≡ (w into λ v. answer y)
 unfolding _into_
 refused-too (rejected q) x y {r} e = ap rejected (let o : r ≡ q = cc in o)
-refused-too (answer u) x y e = refused (sym e)
+refused-too (answer u) x y e = refused e
 
 pub answered-too : {A B : Type 0} (w : Answer A) (x : B) {v : B} → answer v ≡ (w into λ u. answer x) → (u : A) × (w ≡ answer u)
 unfolding _into_
-answered-too (rejected q) x e = refused e
+answered-too (rejected q) x e = refused (sym e)
 answered-too (answer u) x e = (u, refl)
 
+pub handed-on : {A B : Type 0} {w : Answer A} (y : B) {u : A} → w ≡ answer u → answer y ≡ (w into λ v. answer y)
+unfolding _into_
+handed-on y e = rw e
+
+pub refusal-on : {A B : Type 0} {a : Answer A} (f : A → Answer B) {r : Rejection} → rejected r ≡ a → rejected r ≡ (a into f)
+unfolding _into_
+refusal-on f e = rw (← e)
+
+pub twice : {A B C : Type 0} (w : Answer A) (x : B) (y : C) → ((w into λ v. answer x) into λ u. answer y) ≡ (w into λ v. answer y)
+unfolding _into_
+twice (rejected q) x y = refl
+twice (answer u) x y = refl
+
 -- the bytes of a usage that is an answer
-pub two-signs : {b : List ℕ} (a : Accepted b) (z : ℕ) {out after bytes : List ℕ} → usage (treeOf b) z ≡ answer bytes
+pub two-signs : {b : List ℕ} (a : Accepted b) (z : ℕ) (out : List ℕ) {after bytes : List ℕ} → usage (treeOf b) z ≡ answer bytes
     → after ≡ over out (usageBytes (faceCount (treeOf b) z) (usage (treeOf b) z)) → (p : ℕ) → p < faceCount (treeOf b) z → getD after p 0 < 4
 unfolding over usageBytes
-two-signs {b} a z {out} {after} {bytes} e q p h =
+two-signs {b} a z out {after} {bytes} e q p h =
     rw (q, e, List·getD-append bytes (drop (length bytes) out) 0 p (rw (usage-long a z e) h)) (usage-small b (a .image) z e p)
 
 module _ (b : List ℕ) (z : ℕ) (out : List ℕ) where
