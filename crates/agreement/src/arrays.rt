@@ -21,7 +21,7 @@ fn put_array(
     firsts: &[u64],
     reach: &[u64],
     n: usize,
-    arrays: &mut [u64],
+    arrays: &mut [u16],
 )
     requires { ⌜ Accepted (now image) × (Index (now image) (now index) × (s < nodeCount (now image))) ⌝ }
     requires { ⌜ InTables (now image) z (now firsts) (now reach) n ⌝ }
@@ -33,7 +33,7 @@ fn put_array(
     }
     let span = span_of(image, index, s);
     let j = ranges::find(firsts, reach, n, n, span.first);
-    arrays[j] = sids::parents_of(image, index, s, NGON) as u64;
+    arrays[j] = sids::parents_of(image, index, s, NGON) as u16;
 }
 
 // Gathers the arrays of the zone's face sections.
@@ -44,7 +44,7 @@ pub fn gather_arrays(
     firsts: &[u64],
     reach: &[u64],
     n: usize,
-    arrays: &mut [u64],
+    arrays: &mut [u16],
 )
     requires { ⌜ (Accepted (now image) × Index (now image) (now index)) × (n ≤ length (now arrays)) ⌝ }
     requires { ⌜ InTables (now image) z (now firsts) (now reach) n ⌝ }
@@ -59,7 +59,7 @@ pub fn gather_arrays(
 }
 
 // The parents beside entry j; `row` has them already where j is the last entry that was asked for.
-pub fn array_at(image: &[u8], arrays: &[u64], j: usize, last: usize, row: Row) -> Row
+pub fn array_at(image: &[u8], arrays: &[u16], j: usize, last: usize, row: Row) -> Row
     requires { ⌜ (Sound (now image) × (j < length (now arrays))) × (getD (now arrays) j 0 ≤ nodeCount (now image)) ⌝ }
     requires { ⌜ StoresColumns (now image) (getD (now arrays) j 0) × (j ≡ last → ArrayRow (now image) (getD (now arrays) j 0) row) ⌝ }
     ensures { λ r. ⌜ ArrayRow (now (image .entry)) (getD (now (arrays .entry)) j 0) r ⌝ }

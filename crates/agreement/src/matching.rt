@@ -73,7 +73,7 @@ fn match_entries(
     reach: &[u64],
     places: &[u64],
     levels: &[u32],
-    arrays: &[u64],
+    arrays: &[u16],
     out: &mut [u8],
 ) -> bool
     requires { ⌜ (Index (now image) (now index) × (s < nodeCount (now image))) × (2048 ≤ length (now levels)) ⌝ }
@@ -142,7 +142,7 @@ pub fn match_nodes(
     reach: &[u64],
     places: &[u64],
     levels: &[u32],
-    arrays: &[u64],
+    arrays: &[u16],
     out: &mut [u8],
 ) -> bool
     requires { ⌜ Index (now image) (now index) × (2048 ≤ length (now levels)) ⌝ }

@@ -24,7 +24,7 @@ fn all_agree(
     reach: &[u64],
     places: &[u64],
     levels: &[u32],
-    arrays: &[u64],
+    arrays: &[u16],
     out: &mut [u8],
 ) -> bool
     requires { ⌜ Index (now image) (now index) × (2048 ≤ length (now levels)) ⌝ }
@@ -67,7 +67,7 @@ pub fn zone_agrees(
     ensures { λ r. ⌜ (r ≡ allAgree (treeOf (now (image .entry))) (faces .zone)) × (now (out .exit) ≡ now (out .entry)) ⌝ }
 {
     let count = faces.count;
-    let mut arrays: [u64; 2048] = [0; 2048];
+    let mut arrays: [u16; 2048] = [0; 2048];
     gather_arrays(image, index, faces.zone, firsts, reach, count, &mut arrays);
     let agrees = all_agree(
         image,

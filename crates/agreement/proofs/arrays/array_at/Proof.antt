@@ -12,4 +12,4 @@ parents-row-requires c κs = let p = c .before .before .before .before .pre in (
 
 pub array-at-spec : {M : Type 1} → statement M
 array-at-spec =
-    tie.close (tie.spec returns (search needs) (search needs) parents-row-requires (λ c. c .parents-row .ensures))
+    tie.close (tie.spec returns (search needs) (search needs) (search needs) parents-row-requires (λ c. c .parents-row .ensures))

@@ -58,6 +58,9 @@ slice-write-arrays : tie.Need-slice-write-arrays
 slice-write-arrays c =
     omega (arith, c .before .before .before .before .before .before .before .before .before .before .pre .1 .1 .room, entry (c .before))
 
+cast-arrays : tie.Need-cast-arrays
+cast-arrays c = omega (arith, c .parents-of .ensures .1, c .before .before .before .before .before .before .before .before .before .before .pre .0 .0 .sound .laid .few)
+
 mul-arrays : tie.Need-mul-arrays
 mul-arrays c =
     let p = c .before .before .before .before .before .before .before .before .before .before .pre in
@@ -71,4 +74,4 @@ returns-2 c =
 
 pub put-array-spec : {M : Type 1} → statement M
 put-array-spec =
-    tie.close (tie.spec (λ c κs. search needs) returns span-of-requires find-requires parents-of-requires mul-arrays slice-write-arrays (search needs) returns-2)
+    tie.close (tie.spec (λ c κs. search needs) returns span-of-requires find-requires parents-of-requires cast-arrays mul-arrays slice-write-arrays (search needs) returns-2)
