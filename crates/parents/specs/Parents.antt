@@ -21,7 +21,7 @@ isParent t z none x = (none && eqb x 0) || cellOf t z x
 unfoldable pub isKnown : Interval → Bool → ℕ → Bool
 isKnown r none x = (none && eqb x 0) || isWithin r x
 
--- number k of a row is; number k is a parent
+-- number k of a row is one of these; number k is a parent
 unfoldable pub knownAt : List ℕ → Row → Interval → Bool → ℕ → Bool
 knownAt b row r none k = isKnown r none (numberAt b (row .at) (row .width) k)
 

@@ -43,18 +43,23 @@ returns-2 : tie.Need-returns-2
 returns-2 c =
     ap rejected (c .at2 .ensures)
     ∙ overlap-broken _ _ (type-read _ _ (c .before .before .before .before .whole .ensures)) (c .before .before .before .is-supported .ensures)
-    (not-false _ (c .before .before .if1 .left)) (overlap (c .before .before .before .before .before .before .before .before .before .before)) _ (eq-eqb _ _ (c .before .if2 .taken))
+    (not-false _ (c .before .before .if1 .left)) (overlap (c .before .before .before .before .before .before .before .before .before .before)) _
+    (eq-eqb _ _ (c .before .if2 .taken))
 
 range-of-requires : tie.Need-range-of-requires
-range-of-requires c κs = let p = c .before .before .before .before .before .before .before .before .before in ((p .pre .0 .1, p .pre .0 .0 .inside), ready p .kind-is)
+range-of-requires c κs =
+    let p = c .before .before .before .before .before .before .before .before .before in ((p .pre .0 .1, p .pre .0 .0 .inside), ready p .kind-is)
 
 element-count-requires : tie.Need-element-count-requires
-element-count-requires c κs = let p = c .before .before .before .before .before .before .before .before .before .before in (p .pre .0 .0 .sound, (c .range-of .ensures .0, ready p .ranged))
+element-count-requires c κs =
+    let p = c .before .before .before .before .before .before .before .before .before .before in
+    (p .pre .0 .0 .sound, (c .range-of .ensures .0, ready p .ranged))
 
 array-stage-requires : tie.Need-array-stage-requires
 array-stage-requires c κs =
     let p = c .before .before .before .before .before .before .before .before .before .before .before .before in
-    ((p .pre .0 .1, ready p), ((type-read _ _ (c .before .before .before .before .before .before .whole .ensures), c .before .element-count .ensures .0), p .pre .1 .1 .1 .1))
+    let e = type-read _ _ (c .before .before .before .before .before .before .whole .ensures) in
+    ((p .pre .0 .1, ready p), ((e, c .before .element-count .ensures .0), p .pre .1 .1 .1 .1))
 
 -- rules 27 and 28 hold, and the others are left
 module _ (c : tie.After-array-stage) where
@@ -70,7 +75,8 @@ module _ (c : tie.After-array-stage) where
   left : {x : Check} (rest : Check) → x ≡ ((check s (shapeRules t s) then connectivityCheck t s) then rest)
       → x ≡ (check s (elementRules t s) then referenceCheck t s then rest)
   left rest e =
-      arrays-left t s (type-read t s (c .before .before .before .before .before .before .before .whole .ensures)) (c .before .before .before .before .before .before .is-supported .ensures) (not-false _ (c .before .before .before .before .before .if1 .left)) (overlap start) rest
+      let i = c .before .before .before .before .before in
+      arrays-left t s (type-read t s (i .before .before .whole .ensures)) (i .before .is-supported .ensures) (not-false _ (i .if1 .left)) (overlap start) rest
       (ne-eqb _ _ (c .before .before .before .before .if2 .left)) e
 
   parents : eqb s (start .args .parents) ≡ not (found t (parentsOf t s) ⊃ parentsLawful t s)

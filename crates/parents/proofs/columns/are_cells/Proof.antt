@@ -34,11 +34,13 @@ returns c =
     let l = m .before .before in
     let h = m .before .loop-test .taken in
     failed-every _ _ _ h
-    (no-parent _ (l .before .before .before .before .before .pre .1) _ _ _ _ _ (m .number-at .ensures) (c .before .before .interval-of .ensures .1) (l .loop .inv .1 h) (c .if1 .taken))
+    (no-parent _ (l .before .before .before .before .before .pre .1) _ _ _ _ _ (m .number-at .ensures) (c .before .before .interval-of .ensures .1) (l .loop .inv .1 h)
+    (c .if1 .taken))
 
 first-unknown-requires-2 : tie.Need-first-unknown-requires-2 Inv-loop μ-loop
 first-unknown-requires-2 c κs =
-    ((c .before .before .before .before .before .before .before .before .before .before .pre .0 .0, omega (arith, c .before .before .before .before .loop-test .taken)), c .before .before .interval-of .ensures .0 .small)
+    let i = c .before .before .before .before in
+    ((i .before .before .before .before .before .before .pre .0 .0, omega (arith, i .loop-test .taken)), c .before .before .interval-of .ensures .0 .small)
 
 loop-again : tie.Need-loop-again Inv-loop μ-loop
 loop-again c =
@@ -55,6 +57,6 @@ loop-again c =
 pub are-cells-spec : {M : Type 1} → statement M
 are-cells-spec = tie.close
     (tie.spec Inv-loop μ-loop (λ c κs. search needs) loop-holds (λ c κs. search needs) interval-of-requires returns
-    (λ c. omega (arith, c .before .before .before .before .loop-test .taken, c .before .before .before .before .before .before .before .before .before .before .good .1 .1 .0)) first-unknown-requires-2
+    (λ c. let i = c .before .before .before .before in omega (arith, i .loop-test .taken, i .before .before .before .before .before .before .good .1 .1 .0)) first-unknown-requires-2
     (λ c. omega (arith, c .before .before .before .before .before .loop-test .taken, c .first-unknown2 .ensures .0 .from)) loop-again
     (λ c. passed-every (c .before .loop .inv .0) (omega arith)))

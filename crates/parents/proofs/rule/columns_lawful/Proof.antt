@@ -23,8 +23,8 @@ returns c =
     ∙ sym (columns-are (p .0) _ (p .1) (w .before .data-start .ensures .0) (w .width-at .ensures .0) _)
 
 -- the second column lies in the image
-second : (c : tie.Else1) → let w = c .before .before in let p = w .before .data-start .result in
-    Numbers (now (w .before .before .before .before .before .args .image)) (p + w .width-at .result * w .before .before .before .before .before .args .n) (w .width-at .result) (w .before .before .before .before .before .args .n)
+second : (c : tie.Else1) → let w = c .before .before in let a = w .before .before .before .before .before .args in
+    Numbers (now (a .image)) (w .before .data-start .result + w .width-at .result * a .n) (w .width-at .result) (a .n)
 second c =
     let w = c .before .before in
     let p = w .before .before .before .before .before .pre .0 .0 in
@@ -43,6 +43,7 @@ returns-2 c =
 
 pub columns-lawful-spec : {M : Type 1} → statement M
 columns-lawful-spec = tie.close
-    (tie.spec (λ c κs. let p = c .before .before .before .pre .0 .0 in (p .0, p .1 .inside)) (λ c κs. let p = c .before .before .before .before .pre .0 .0 in (p .0 .laid, p .1 .inside))
-    are-cells-requires returns (λ c. omega (arith, second c .inside, c .before .before .before .before .before .before .before .good .0 .0)) (λ c. omega (arith, second c .inside, c .before .before .before .before .before .before .before .good .0 .0))
-    are-cells-requires-2 returns-2)
+    (tie.spec (λ c κs. let p = c .before .before .before .pre .0 .0 in (p .0, p .1 .inside))
+    (λ c κs. let p = c .before .before .before .before .pre .0 .0 in (p .0 .laid, p .1 .inside))
+    are-cells-requires returns (λ c. omega (arith, second c .inside, c .before .before .before .before .before .before .before .good .0 .0))
+    (λ c. omega (arith, second c .inside, c .before .before .before .before .before .before .before .good .0 .0)) are-cells-requires-2 returns-2)

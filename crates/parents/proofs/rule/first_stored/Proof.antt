@@ -37,4 +37,5 @@ returns-2 : tie.Need-returns-2 Inv-loop μ-loop
 returns-2 c = let l = c .before in rw (← l .before .node-count .ensures .0) (seek-done (l .loop .inv) (omega arith))
 
 pub first-stored-spec : {M : Type 1} → statement M
-first-stored-spec = tie.close (tie.spec Inv-loop μ-loop (λ c κs. search needs) loop-holds parents-if-requires returns (search needs) (search needs) loop-again returns-2)
+first-stored-spec = tie.close
+    (tie.spec Inv-loop μ-loop (λ c κs. search needs) loop-holds parents-if-requires returns (search needs) (search needs) loop-again returns-2)

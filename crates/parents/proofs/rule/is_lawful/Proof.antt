@@ -18,13 +18,15 @@ element-count-requires c κs =
 returns : tie.Need-returns
 returns c =
     let n = c .before .before in
-    not-typed _ _ (n .before .before .before .before .before .before .pre .1 .0 .0) (n .element-count .ensures .0) (sym (c .before .typed-either .ensures) ∙ not-true _ (c .if1 .taken))
+    not-typed _ _ (n .before .before .before .before .before .before .pre .1 .0 .0) (n .element-count .ensures .0)
+    (sym (c .before .typed-either .ensures) ∙ not-true _ (c .if1 .taken))
 
 returns-2 : tie.Need-returns-2
 returns-2 c =
     let i = c .before .before in
     let n = i .before .before in
-    not-shaped _ _ (n .before .before .before .before .before .before .pre .1 .0 .0) (n .element-count .ensures .0) (sym (i .before .typed-either .ensures) ∙ not-false _ (i .if1 .left))
+    not-shaped _ _ (n .before .before .before .before .before .before .pre .1 .0 .0) (n .element-count .ensures .0)
+    (sym (i .before .typed-either .ensures) ∙ not-false _ (i .if1 .left))
     (sym (c .before .shaped .ensures) ∙ not-true _ (c .if2 .taken))
 
 columns-lawful-requires : tie.Need-columns-lawful-requires
@@ -51,7 +53,8 @@ returns-3 c =
     let i = d .before .before in
     let n = i .before .before in
     c .columns-lawful .ensures
-    ∙ columns-decide _ _ (n .before .before .before .before .before .before .pre .1 .0 .0) (n .element-count .ensures .0) (sym (i .before .typed-either .ensures) ∙ not-false _ (i .if1 .left))
+    ∙ columns-decide _ _ (n .before .before .before .before .before .before .pre .1 .0 .0) (n .element-count .ensures .0)
+    (sym (i .before .typed-either .ensures) ∙ not-false _ (i .if1 .left))
     (sym (d .before .shaped .ensures) ∙ not-false _ (d .if2 .left)) (c .before .parent-of .ensures .0)
 
 pub is-lawful-spec : {M : Type 1} → statement M
