@@ -24,7 +24,7 @@
  *   Pointers   A pointer to `length` bytes, or to `room` items, that can be read or written; with 0 of them any, also NULL.
  *   Alignment  None is needed: the image and a buffer of bytes may start at any address. Sections and lists of 64-bit numbers
  *              have the alignment of their C type.
- *   Stack      Measured, and the same for every image: gongaurora_parents_agree takes under 112,000 bytes, every other call
+ *   Stack      Measured, and the same for every image: gongaurora_parents_agree takes under 98,000 bytes, every other call
  *              under 96,000; gongaurora_path, gongaurora_name_bytes and gongaurora_array_value under 40,000;
  *              gongaurora_read_corner, gongaurora_read_element and gongaurora_element_type under 1,000.
  *   Threads    There is no state: any calls may run at the same time, as long as no other thread writes what they read.

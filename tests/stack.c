@@ -14,7 +14,7 @@
 
 /* The limits in bytes: of agreement, of another call that validates, of one that checks rules 1 to 18 alone, of one that reads
  * by a section; and of the whole stack of a thread that every call has to do with. */
-enum { AGREEMENT = 112000, VALIDATION = 96000, TABLE = 40000, READ = 1000, SMALL = 112 * 1024 };
+enum { AGREEMENT = 98000, VALIDATION = 96000, TABLE = 40000, READ = 1000, SMALL = 112 * 1024 };
 
 enum { LARGE = 1 << 20, GUARD = 1 << 20, PATTERN = 0x5a, ROOM = 4096 };
 

@@ -13,6 +13,7 @@ ghost use Rattle.section_data.specs.Ranges.{isRanged, Cells};
 ghost use Rattle.parents.specs.Parents.{pairAt, storesParents, parentsBroken, ParentsOf};
 use super::columns::are_cells;
 use element_types::NGON;
+use labels::roles::ELEMENTS;
 use records::data_types::I4;
 use records::data_types::I8;
 use rows::Row;
@@ -81,6 +82,9 @@ fn parents_if(image: &[u8], index: &[u16], i: usize) -> usize
     ensures { λ r. ⌜ ParentsOf (now (image .entry)) i r ⌝ }
 {
     let nodes = labels::node_count(image);
+    if index::kind_of(image, index, i) != ELEMENTS {
+        return nodes;
+    }
     if nodes <= range_if(image, index, NGON, i) {
         return nodes;
     }
