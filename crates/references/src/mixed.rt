@@ -83,8 +83,7 @@ fn rows_stage(image: &[u8], s: usize, offsets: Row, connectivity: Row, limit: u6
     Stage::Rejected(Rejection::at_entry(34, s as u64, place as u64))
 }
 
-// Rules 38 and 34 at the MIXED section s, where rules 29 to 33 hold; its connectivity is the row. The pass is called in two places, so that it is compiled
-// as a function of its own.
+// Rules 38 and 34 at the MIXED section s, where rules 29 to 33 hold; its connectivity is the row.
 pub fn mixed_stage(image: &[u8], index: &[u16], s: usize, row: Row) -> Stage
     requires { ⌜ Index (now image) (now index) × SectionContext (now image) s ⌝ }
     requires { ⌜ RowOf (now image) (connectivityOf (treeOf (now image)) s) row × (elementType (treeOf (now image)) s ≡ MIXED) ⌝ }
@@ -93,13 +92,5 @@ pub fn mixed_stage(image: &[u8], index: &[u16], s: usize, row: Row) -> Stage
 {
     let offsets = row_of(image, offsets_of(image, index, s));
     let vertices = vertex_size(image, s);
-    if row.width == 4 {
-        let narrow = Row {
-            at: row.at,
-            width: 4,
-            n: row.n,
-        };
-        return rows_stage(image, s, offsets, narrow, vertices);
-    }
     rows_stage(image, s, offsets, row, vertices)
 }

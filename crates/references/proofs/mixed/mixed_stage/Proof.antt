@@ -1,5 +1,5 @@
 -- The two arrays are rows of the bytes, and rules 29 to 33 hold.
-use mathlib.Core.Path.{refl, sym, ap, _∙_}
+use mathlib.Core.Path.{refl, ap, _∙_}
 use Rattle.model.specs.Image.{treeOf}
 use Rattle.model.specs.Values.{size}
 use borrow.Author.Needs.{needs}
@@ -20,31 +20,16 @@ row-of-requires c κs =
 
 rows-stage-requires : tie.Need-rows-stage-requires
 rows-stage-requires c κs =
-    let r = c .before .before .before in
-    let p = c .before .before .before .before .before .before .before .pre in
-    record {
-      sound = p .0 .0 .sound;
-      mixed = p .1 .0 .1;
-      shaped = p .1 .1;
-      offsets = row-is (r .before .offsets-of .ensures .0) (r .row-of .ensures);
-      connectivity = let w = p .1 .0 .0 in record { indexed = w .indexed; starts = w .starts; wide = sym (c .if1 .taken) ∙ w .wide; long = w .long };
-      vertices = c .before .before .vertex-size .ensures;
-    }
-
-rows-stage-requires-2 : tie.Need-rows-stage-requires-2
-rows-stage-requires-2 c κs =
-    let r = c .before .before .before in
-    let p = c .before .before .before .before .before .before .before .pre in
+    let r = c .before in
+    let p = r .before .before .before .before .pre in
     record {
       sound = p .0 .0 .sound;
       mixed = p .1 .0 .1;
       shaped = p .1 .1;
       offsets = row-is (r .before .offsets-of .ensures .0) (r .row-of .ensures);
       connectivity = p .1 .0 .0;
-      vertices = c .before .before .vertex-size .ensures;
+      vertices = c .vertex-size .ensures;
     }
 
 pub mixed-stage-spec : {M : Type 1} → statement M
-mixed-stage-spec =
-    tie.close (tie.spec (λ c κs. search needs) row-of-requires (λ c κs. search needs) rows-stage-requires (λ c. c .rows-stage .ensures) rows-stage-requires-2
-    (λ c. c .rows-stage2 .ensures))
+mixed-stage-spec = tie.close (tie.spec (λ c κs. search needs) row-of-requires (λ c κs. search needs) rows-stage-requires (λ c. c .rows-stage .ensures))
