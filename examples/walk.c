@@ -1,5 +1,5 @@
-/* walk IMAGE: validates an image, then walks every cell to its faces to its nodes and prints what it found; or says in words
- * what is wrong, and where. Exit status 0 for an accepted image, 1 otherwise.
+/* walk IMAGE: validates an image, then walks every cell to its faces to its nodes and prints what it found, with the parents of
+ * some faces where they are stored; or says in words what is wrong, and where. Exit status 0 for an accepted image, 1 otherwise.
  *
  *     cc -I dist examples/walk.c dist/libgongaurora.a -o walk
  */
@@ -149,13 +149,19 @@ static void print_findings(const findings_t *found)
     if (found->greatest_node > 0) printf("  nodes used: %" PRId64 " to %" PRId64 "\n", found->least_node, found->greatest_node);
 }
 
+static uint64_t faces_of(const gongaurora_section *sections, uint64_t count)
+{
+    uint64_t faces = 0;
+    for (uint64_t k = 0; k < count; k++)
+        if (sections[k].type == NGON_N) faces += sections[k].last - sections[k].first + 1;
+    return faces;
+}
+
 /* How the zone's cells use its faces: inner faces are used from both sides. */
 static void print_usage(image_t image, uint64_t zone, const gongaurora_section *sections, uint64_t count)
 {
     static const char *const uses[] = {"unused", "used forward", "used reversed", "used from both sides"};
-    uint64_t faces = 0, seen[4] = {0};
-    for (uint64_t k = 0; k < count; k++)
-        if (sections[k].type == NGON_N) faces += sections[k].last - sections[k].first + 1;
+    uint64_t faces = faces_of(sections, count), seen[4] = {0};
     if (faces == 0) return;
     uint8_t *usage = (uint8_t *)malloc(faces);
     if (usage == NULL) return;
@@ -170,6 +176,49 @@ static void print_usage(image_t image, uint64_t zone, const gongaurora_section *
             if (seen[use] > 0) printf("  faces %s: %" PRIu64 "\n", uses[use], seen[use]);
     }
     free(usage);
+}
+
+/* A number of 4 or 8 bytes that is not negative; in an accepted image no parent is. */
+static uint64_t number_at(image_t image, uint64_t at, uint64_t width)
+{
+    uint64_t number = 0;
+    for (uint64_t k = width; k > 0; k--) number = number << 8 | image.bytes[at + k - 1];
+    return number;
+}
+
+/* The parents of a face, read in place: the first parents of all faces of the section stand there, then the second ones. The
+ * call tells the same, but validates the image again each time: it is made for comparison alone. */
+static void print_parents_of_face(image_t image, uint64_t zone, const gongaurora_section *section, uint64_t face)
+{
+    uint64_t width = section->parents_width, faces = section->last - section->first + 1;
+    uint64_t at = section->parents_at + width * (face - section->first);
+    uint64_t first = number_at(image, at, width), second = number_at(image, at + width * faces, width);
+    gongaurora_parent_pair told = gongaurora_parents(image.bytes, image.length, zone, face);
+    printf("  face %" PRIu64 ": cell %" PRIu64, face, first);
+    if (second != 0) printf(" and cell %" PRIu64, second);
+    if (told.rule != 0 || told.first != first || told.second != second) printf(", which is not what the call tells");
+    printf("\n");
+}
+
+/* Whether the parents of the zone's faces are the cells that use them, and those of the first and the last face of each
+ * section that stores them. */
+static void print_parents(image_t image, uint64_t zone, const gongaurora_section *sections, uint64_t count)
+{
+    uint64_t faces = faces_of(sections, count), stored = 0;
+    for (uint64_t k = 0; k < count; k++)
+        if (sections[k].parents_width != 0) stored++;
+    if (stored == 0) return;
+    uint8_t *usage = (uint8_t *)malloc(faces);
+    if (usage == NULL) return;
+    gongaurora_agreement answer = gongaurora_parents_agree(image.bytes, image.length, zone, usage, faces);
+    if (answer.rule != 0) printf("  parents: %s\n", gongaurora_rule_text(answer.rule));
+    else printf("  parents %s with the cells\n", answer.agrees ? "agree" : "do not agree");
+    free(usage);
+    for (uint64_t k = 0; k < count; k++) {
+        if (sections[k].parents_width == 0) continue;
+        print_parents_of_face(image, zone, &sections[k], sections[k].first);
+        if (sections[k].first < sections[k].last) print_parents_of_face(image, zone, &sections[k], sections[k].last);
+    }
 }
 
 static double as_double(gongaurora_value value)
@@ -216,6 +265,7 @@ static void print_zone(image_t image, uint64_t zone, const gongaurora_section *s
     walk_zone(image, sections, count, &found);
     print_findings(&found);
     print_usage(image, zone, sections, count);
+    print_parents(image, zone, sections, count);
 }
 
 /* ---- The whole image ---- */

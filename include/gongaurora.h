@@ -18,15 +18,15 @@
  *              places too. gongaurora_array_value with the array's node and this place tells the number itself. In every
  *              other answer `entry` is 0.
  *   Memory     Lent memory is written by a call that succeeded, and there only as far as its answer says; a refused call
- *              leaves it as it was. The one exception is rule 45 of gongaurora_face_usage. No call writes the image or a
- *              section it is given, keeps a pointer, or allocates.
+ *              leaves it as it was. The one exception is rule 45 of gongaurora_face_usage and gongaurora_parents_agree. No
+ *              call writes the image or a section it is given, keeps a pointer, or allocates.
  *   Aliasing   The memory that a call writes must not overlap the image or the section that it reads.
  *   Pointers   A pointer to `length` bytes, or to `room` items, that can be read or written; with 0 of them any, also NULL.
  *   Alignment  None is needed: the image and a buffer of bytes may start at any address. Sections and lists of 64-bit numbers
  *              have the alignment of their C type.
- *   Stack      Measured, and the same for every image: every call takes under 96,000 bytes; gongaurora_path,
- *              gongaurora_name_bytes and gongaurora_array_value under 40,000; gongaurora_read_corner,
- *              gongaurora_read_element and gongaurora_element_type under 1,000.
+ *   Stack      Measured, and the same for every image: gongaurora_parents_agree takes under 98,000 bytes, every other call
+ *              under 96,000; gongaurora_path, gongaurora_name_bytes and gongaurora_array_value under 40,000;
+ *              gongaurora_read_corner, gongaurora_read_element and gongaurora_element_type under 1,000.
  *   Threads    There is no state: any calls may run at the same time, as long as no other thread writes what they read.
  *   Cost       Measured, not proved. One validation of a usual mesh costs about one pass over the image's bytes, with MIXED
  *              sections up to 1.6; of an image with 1,000 face sections and references at random among them 17. No image
@@ -45,9 +45,9 @@
 
 /* The version of this header and of the archive beside it. */
 #define GONGAURORA_VERSION_MAJOR 0
-#define GONGAURORA_VERSION_MINOR 8
+#define GONGAURORA_VERSION_MINOR 9
 #define GONGAURORA_VERSION_PATCH 0
-#define GONGAURORA_VERSION "0.8.0"
+#define GONGAURORA_VERSION "0.9.0"
 
 #ifdef __cplusplus
 extern "C" {
@@ -56,7 +56,7 @@ extern "C" {
 /* ---- Rules ------------------------------------------------------------------------------------------------------ */
 
 /* Why a call was refused. An image is judged header first (1 to 6), then its records (7 to 17), then what is left over (18),
- * then node by node the meaning (20 to 38), at a node the lowest rule first, but 38 between 33 and 34, and 34 to 37 entry by
+ * then node by node the meaning (20 to 39), at a node the lowest rule first, but 38 between 33 and 34, and 34 to 37 entry by
  * entry; the first broken rule is the answer. They stand here in this order. 19 and 22 are no rules. */
 enum gongaurora_rule {
     GONGAURORA_RULE_NONE = 0,             /* nothing is wrong */
@@ -105,16 +105,19 @@ enum gongaurora_rule {
     GONGAURORA_RULE_ZERO_FACE = 35,       /* a face number that is 0 */
     GONGAURORA_RULE_NO_ELEMENT = 36,      /* a face number that, without its sign, is no element of the zone */
     GONGAURORA_RULE_NO_FACE = 37,         /* a face number that, without its sign, is an element of the zone but no face */
+    /* the parents of its faces, in a section of type 22 */
+    GONGAURORA_RULE_PARENT_ELEMENTS = 39, /* ParentElements not n by 2 integers, or a parent that is no cell of the zone */
 
     /* the calls */
     GONGAURORA_RULE_NO_SUCH_NODE = 40,    /* no such node, or none of the kind asked for */
-    GONGAURORA_RULE_ELEMENT_NUMBER = 41,  /* the element is outside the section's range */
+    GONGAURORA_RULE_ELEMENT_NUMBER = 41,  /* the element is outside the section's range, or no face of the zone */
     GONGAURORA_RULE_INDEX = 42,           /* the corner or value is outside 1 to their number */
     GONGAURORA_RULE_UNREADABLE = 43,      /* the section asks for bytes that cannot be read, or for an element that breaks 38 */
     GONGAURORA_RULE_USAGE_ROOM = 44,      /* fewer bytes lent than the zone has faces */
     GONGAURORA_RULE_FACE_REPEATED = 45,   /* a face used twice with one sign; node and element tell where */
     GONGAURORA_RULE_ROOM = 46,            /* too little memory lent */
-    GONGAURORA_RULE_VALUE_TYPE = 47       /* a data type whose values are not handed out */
+    GONGAURORA_RULE_VALUE_TYPE = 47,      /* a data type whose values are not handed out */
+    GONGAURORA_RULE_NO_PARENTS = 54       /* the face's section, or every face section of the zone, has no ParentElements */
 };
 
 /* The rule in a sentence or two for an error message. Static text; never NULL. */
@@ -162,14 +165,20 @@ static inline const char *gongaurora_rule_text(uint64_t rule)
                     "or whose own data or range do not conform.";
     case 37: return "The section refers to an element of the zone that is no face: its section is not of type 22. Look for "
                     "cells or boundary elements numbered into the faces, and for faces written as a fixed type.";
+    case 39: return "The section's ParentElements are not I4 or I8 with dimensions [faces, 2], or a parent is no cell of the "
+                    "zone: no element of a section of type 23; 0 may stand in the second column alone. Look for pairs written "
+                    "face by face and not column by column, for boundary faces with their cell in the second column, for "
+                    "cells counted from 0 or from the first cell and not by element number, and for cells of other types.";
     case 40: return "There is no such node, or it is not of the kind asked for.";
-    case 41: return "The element number is outside the section's range.";
+    case 41: return "The element number is outside the section's range, or it is no face of the zone.";
     case 42: return "The corner or value number is out of range.";
     case 43: return "The section asks for bytes that cannot be read, or for a MIXED element whose type does not fit.";
     case 44: return "The lent memory is shorter than the zone's number of faces.";
     case 45: return "A face is used twice with the same sign.";
     case 46: return "The lent memory is too short.";
     case 47: return "Values of the node's data type are not handed out.";
+    case 54: return "No parents are stored: the face's section, or every face section of the zone, has no ParentElements. Look "
+                    "for an array of another name or label, and for one in a section that is not of type 22.";
     default: return "There is no rule of this number.";
     }
 }
@@ -178,25 +187,31 @@ static inline const char *gongaurora_rule_text(uint64_t rule)
 
 /* Use the calls further below; they are thin over these. Each returns the rule. `answer` receives the words named, 8 bytes
  * each and little-endian, in a refusal too; where it has fewer bytes than that, the rule is 46 and nothing at all is written.
- * `section` is a gongaurora_section, as its 72 bytes or as its nine numbers; fewer are 46. */
+ * `section` is a gongaurora_section, as its 88 bytes or as its eleven numbers; fewer are 46. */
 
 /* answer, 48 bytes: node, entry, validated, skipped, zones, sections */
 uint64_t gongaurora_export_validate(const uint8_t *image, size_t length, uint8_t *answer, size_t room);
-/* out: nine numbers a section; answer, 24 bytes: node, entry, count */
+/* out: eleven numbers a section; answer, 24 bytes: node, entry, count */
 uint64_t gongaurora_export_sections(const uint8_t *image, size_t length, uint64_t zone, uint64_t *out, size_t numbers,
                                     uint8_t *answer, size_t room);
 /* number: 8 bytes, two's complement, written where the rule is 0; fewer are 46 */
 uint64_t gongaurora_export_read_corner(const uint8_t *image, size_t length, const uint8_t *section, size_t bytes,
                                        uint64_t element, uint64_t corner, uint8_t *number, size_t room);
 /* out: the corners; answer, 8 bytes: count */
-uint64_t gongaurora_export_read_element(const uint8_t *image, size_t length, const uint64_t *section, size_t nine,
+uint64_t gongaurora_export_read_element(const uint8_t *image, size_t length, const uint64_t *section, size_t eleven,
                                         uint64_t element, int64_t *out, size_t numbers, uint8_t *answer, size_t room);
 /* answer, 8 bytes: type */
-uint64_t gongaurora_export_element_type(const uint8_t *image, size_t length, const uint64_t *section, size_t nine,
+uint64_t gongaurora_export_element_type(const uint8_t *image, size_t length, const uint64_t *section, size_t eleven,
                                         uint64_t element, uint8_t *answer, size_t room);
 /* out: a byte a face; answer, 32 bytes: node, entry, element, count */
 uint64_t gongaurora_export_face_usage(const uint8_t *image, size_t length, uint64_t zone, uint8_t *out, size_t bytes,
                                       uint8_t *answer, size_t room);
+/* answer, 32 bytes: node, entry, first, second */
+uint64_t gongaurora_export_parents(const uint8_t *image, size_t length, uint64_t zone, uint64_t face, uint8_t *answer,
+                                   size_t room);
+/* out: a byte a face; answer, 32 bytes: node, entry, element, agrees */
+uint64_t gongaurora_export_parents_agree(const uint8_t *image, size_t length, uint64_t zone, uint8_t *out, size_t bytes,
+                                         uint8_t *answer, size_t room);
 /* out: the path; answer, 24 bytes: node, entry, count */
 uint64_t gongaurora_export_path(const uint8_t *image, size_t length, uint64_t node, uint8_t *out, size_t bytes,
                                 uint8_t *answer, size_t room);
@@ -224,7 +239,7 @@ typedef struct gongaurora_validation {
 } gongaurora_validation;
 
 /* Validates the whole image.
- * Refusals: 1 to 38, the first in the order told above.
+ * Refusals: 1 to 39, the first in the order told above.
  * Cost: one validation. */
 static inline gongaurora_validation gongaurora_validate(const uint8_t *image, size_t length)
 {
@@ -235,6 +250,9 @@ static inline gongaurora_validation gongaurora_validate(const uint8_t *image, si
 }
 
 /* ---- Sections and corners --------------------------------------------------------------------------------------- */
+
+/* How many numbers of 8 bytes a section is. */
+#define GONGAURORA_SECTION_NUMBERS 11
 
 /* Where a section's elements stand in the image. Byte offsets count from the image's start; offset and width are 0 where
  * there is no such array. */
@@ -249,6 +267,11 @@ typedef struct gongaurora_section {
     uint64_t connectivity_at;     /* ElementConnectivity: byte offset, bytes a number (4 or 8), how many numbers */
     uint64_t connectivity_width;
     uint64_t connectivity_length;
+    uint64_t parents_at;          /* ParentElements: byte offset, bytes a number (4 or 8); 0 where it is absent, and where the
+                                     section is not of type 22. The first parent of face f stands at byte
+                                     parents_at + parents_width * (f - first), the second parents_width * (last - first + 1)
+                                     bytes after it */
+    uint64_t parents_width;
 } gongaurora_section;
 
 typedef struct gongaurora_count {
@@ -266,7 +289,7 @@ static inline gongaurora_count gongaurora_sections(const uint8_t *image, size_t 
                                                    size_t room)
 {
     gongaurora_count result;
-    result.rule = gongaurora_export_sections(image, length, zone, (uint64_t *)(void *)out, room * 9,
+    result.rule = gongaurora_export_sections(image, length, zone, (uint64_t *)(void *)out, room * GONGAURORA_SECTION_NUMBERS,
                                              (uint8_t *)&result + sizeof result.rule, sizeof result - sizeof result.rule);
     return result;
 }
@@ -318,8 +341,9 @@ static inline gongaurora_count gongaurora_read_element(const uint8_t *image, siz
     gongaurora_count result;
     result.node = 0;
     result.entry = 0;
-    result.rule = gongaurora_export_read_element(image, length, (const uint64_t *)(const void *)section, 9, element, out, room,
-                                                 (uint8_t *)&result.count, sizeof result.count);
+    result.rule = gongaurora_export_read_element(image, length, (const uint64_t *)(const void *)section,
+                                                 GONGAURORA_SECTION_NUMBERS, element, out, room, (uint8_t *)&result.count,
+                                                 sizeof result.count);
     return result;
 }
 
@@ -342,8 +366,9 @@ static inline gongaurora_type gongaurora_element_type(const uint8_t *image, size
 {
     gongaurora_type result;
     result.node = 0;
-    result.rule = gongaurora_export_element_type(image, length, (const uint64_t *)(const void *)section, 9, element,
-                                                 (uint8_t *)&result.type, sizeof result.type);
+    result.rule = gongaurora_export_element_type(image, length, (const uint64_t *)(const void *)section,
+                                                 GONGAURORA_SECTION_NUMBERS, element, (uint8_t *)&result.type,
+                                                 sizeof result.type);
     return result;
 }
 
@@ -375,6 +400,62 @@ static inline gongaurora_usage gongaurora_face_usage(const uint8_t *image, size_
     gongaurora_usage result;
     result.rule = gongaurora_export_face_usage(image, length, zone, out, room, (uint8_t *)&result + sizeof result.rule,
                                                sizeof result - sizeof result.rule);
+    return result;
+}
+
+/* ---- Parents ---------------------------------------------------------------------------------------------------- */
+
+typedef struct gongaurora_parent_pair {
+    uint64_t rule;
+    uint64_t node;
+    uint64_t entry;
+    uint64_t first;  /* the element number of a cell (type 23) of the zone; 0 where refused */
+    uint64_t second; /* the same, or 0 where there is none */
+} gongaurora_parent_pair;
+
+/* The parents of a face of a zone, asked for by its element number: the two numbers that its section's ParentElements store for
+ * it. In an accepted image each is a cell of the zone, the second one or 0 (rule 39); whether they are the cells that use the
+ * face tells gongaurora_parents_agree.
+ * Refusals: validation's; 40: no validated zone; 41: no face of the zone, that is, no element of a section of type 22; 54: the
+ * face's section has no ParentElements.
+ * Cost: one validation: the image is validated again. For many faces read the numbers where `parents_at` and `parents_width`
+ * of the section say that they stand.
+ *
+ * Proved: with an accepted image and the sections that gongaurora_sections gave for one of its zones, image and sections
+ * unchanged since, all these numbers lie in the image and are the parents that the section stores. */
+static inline gongaurora_parent_pair gongaurora_parents(const uint8_t *image, size_t length, uint64_t zone, uint64_t face)
+{
+    gongaurora_parent_pair result;
+    result.rule = gongaurora_export_parents(image, length, zone, face, (uint8_t *)&result + sizeof result.rule,
+                                            sizeof result - sizeof result.rule);
+    return result;
+}
+
+typedef struct gongaurora_agreement {
+    uint64_t rule;
+    uint64_t node;    /* for 45 the section of cells */
+    uint64_t entry;
+    uint64_t element; /* for 45 the cell that uses a face again, else 0 */
+    uint64_t agrees;  /* 1: all parents agree with the cells; 0: some do not, or the call was refused */
+} gongaurora_agreement;
+
+/* Tells whether the parents stored for the faces of a zone are the cells (type 23) that use them, for every face of the
+ * sections with ParentElements. They agree where a face used once has its cell as first parent and 0 as second, and a face
+ * used twice has both cells, in either order; a cell that uses a face from both sides is both parents. A face that no cell
+ * uses never agrees. Writes the bytes of gongaurora_face_usage to the front of `out`, one for each face of the zone, where they
+ * agree and where they do not. Bytes past these never change.
+ * Refusals: validation's; 40: no validated zone; 54: no face section of the zone has ParentElements: then `out` is as it was;
+ * 44: `room` is less than the zone's number of faces; 45: a face used twice with one sign: then the bytes are 0.
+ * Cost: that of gongaurora_face_usage; then the zone's cells and the parents are read once more.
+ *
+ * Proved: where it answers 1, the parents that gongaurora_parents answers for a face are exactly the cells that use it, as
+ * often as they use it, and the second is 0 where there is one use. */
+static inline gongaurora_agreement gongaurora_parents_agree(const uint8_t *image, size_t length, uint64_t zone, uint8_t *out,
+                                                            size_t room)
+{
+    gongaurora_agreement result;
+    result.rule = gongaurora_export_parents_agree(image, length, zone, out, room, (uint8_t *)&result + sizeof result.rule,
+                                                  sizeof result - sizeof result.rule);
     return result;
 }
 
@@ -460,9 +541,11 @@ static inline gongaurora_value gongaurora_array_value(const uint8_t *image, size
 }
 
 /* The structs are words with nothing between them, as the exports write and read them. */
-typedef char gongaurora_structs_are_words[sizeof(gongaurora_validation) == 56 && sizeof(gongaurora_section) == 72 &&
+typedef char gongaurora_structs_are_words[sizeof(gongaurora_validation) == 56 &&
+                                          sizeof(gongaurora_section) == 8 * GONGAURORA_SECTION_NUMBERS &&
                                           sizeof(gongaurora_count) == 32 && sizeof(gongaurora_corner) == 24 &&
                                           sizeof(gongaurora_type) == 24 && sizeof(gongaurora_usage) == 40 &&
+                                          sizeof(gongaurora_parent_pair) == 40 && sizeof(gongaurora_agreement) == 40 &&
                                           sizeof(gongaurora_sizes) == 56 && sizeof(gongaurora_value) == 40 ? 1 : -1];
 
 #ifdef __cplusplus

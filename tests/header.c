@@ -44,6 +44,12 @@ static void set_word(size_t at, uint32_t word)
     for (k = 0; k < 4; k++) image[at + k] = (uint8_t)(word >> 8 * k);
 }
 
+/* A number of 4 or 8 bytes in the image. */
+static uint64_t number_at(uint64_t at, uint64_t width)
+{
+    return word_at((size_t)at) | (width == 8 ? (uint64_t)word_at((size_t)at + 4) << 32 : 0);
+}
+
 static void check_validation(const char *folder)
 {
     gongaurora_validation verdict;
@@ -78,7 +84,8 @@ static void check_refusals(const char *folder)
                  {"near_35.img", GONGAURORA_RULE_ZERO_FACE, 13, 4},
                  {"near_36.img", GONGAURORA_RULE_NO_ELEMENT, 13, 4},
                  {"near_37.img", GONGAURORA_RULE_NO_FACE, 13, 4},
-                 {"near_38.img", GONGAURORA_RULE_MIXED_TYPE, 9, 0}};
+                 {"near_38.img", GONGAURORA_RULE_MIXED_TYPE, 9, 0},
+                 {"near_39.img", GONGAURORA_RULE_PARENT_ELEMENTS, 9, 0}};
     size_t k;
     for (k = 0; k < sizeof known / sizeof *known; k++) {
         uint64_t rule = known[k].rule, node = known[k].node, entry = known[k].entry;
@@ -88,6 +95,8 @@ static void check_refusals(const char *folder)
         gongaurora_count found;
         gongaurora_usage usage;
         gongaurora_sizes sizes;
+        gongaurora_parent_pair parents;
+        gongaurora_agreement agreement;
         load(folder, known[k].name);
         verdict = gongaurora_validate(image, length);
         CHECK(verdict.rule == rule && verdict.node == node && verdict.entry == entry);
@@ -101,6 +110,12 @@ static void check_refusals(const char *folder)
         if (rule == 0) continue;
         CHECK(verdict.validated == 0 && verdict.skipped == 0 && verdict.zones == 0 && verdict.sections == 0);
         CHECK(found.count == 0 && usage.count == 0);
+        parents = gongaurora_parents(image, length, 3, 1);
+        CHECK(parents.rule == rule && parents.node == node && parents.entry == entry && parents.first == 0 && parents.second == 0);
+        memset(use, 9, sizeof use);
+        agreement = gongaurora_parents_agree(image, length, 3, use, sizeof use);
+        CHECK(agreement.rule == rule && agreement.node == node && agreement.entry == entry);
+        CHECK(agreement.element == 0 && agreement.agrees == 0 && use[0] == 9 && use[35] == 9);
         CHECK(sizes.directions == 0 && sizes.size[0] == 0 && sizes.size[1] == 0 && sizes.size[2] == 0);
     }
 }
@@ -193,13 +208,17 @@ static void check_words(const char *folder)
     CHECK(sizeof(gongaurora_usage) == 8 + 32 && offsetof(gongaurora_usage, entry) == 16);
     CHECK(sizeof(gongaurora_sizes) == 8 + 48 && offsetof(gongaurora_sizes, entry) == 16);
     CHECK(sizeof(gongaurora_value) == 8 + 32 && offsetof(gongaurora_value, entry) == 16);
-    CHECK(sizeof(gongaurora_corner) == 24 && sizeof(gongaurora_type) == 24 && sizeof(gongaurora_section) == 72);
+    CHECK(sizeof(gongaurora_parent_pair) == 8 + 32 && offsetof(gongaurora_parent_pair, entry) == 16);
+    CHECK(sizeof(gongaurora_agreement) == 8 + 32 && offsetof(gongaurora_agreement, entry) == 16);
+    CHECK(sizeof(gongaurora_corner) == 24 && sizeof(gongaurora_type) == 24);
+    CHECK(GONGAURORA_SECTION_NUMBERS == 11 && sizeof(gongaurora_section) == 88);
+    CHECK(offsetof(gongaurora_section, parents_at) == 72 && offsetof(gongaurora_section, parents_width) == 80);
 }
 
 static void check_sections(const char *folder)
 {
-    static const uint64_t known[27] = {9, 22, 1, 4, 1736, 4, 1756, 4, 12, 13, 23, 5, 5, 1820, 4, 1828, 4, 4,
-                                       7, 7,  7, 7, 7,    7, 7,    7, 7};
+    static const uint64_t known[33] = {9, 22, 1, 4, 1736, 4, 1756, 4, 12, 0, 0, 13, 23, 5, 5, 1820, 4,
+                                       1828, 4, 4, 0, 0, 7, 7, 7, 7, 7, 7, 7, 7, 7, 7, 7};
     gongaurora_section sections[3];
     gongaurora_section *faces = &sections[0], *cells = &sections[1];
     gongaurora_count found;
@@ -207,7 +226,7 @@ static void check_sections(const char *folder)
     int64_t corners[4] = {9, 9, 9, 9};
     int k;
     load(folder, "tetrahedron.img");
-    for (k = 0; k < 27; k++) ((uint64_t *)(void *)sections)[k] = 7;
+    for (k = 0; k < 33; k++) ((uint64_t *)(void *)sections)[k] = 7;
     found = gongaurora_sections(image, length, 3, sections, 1);
     CHECK(found.rule == GONGAURORA_RULE_ROOM && found.node == 0 && found.entry == 0 && found.count == 0);
     CHECK(faces->node == 7);
@@ -221,6 +240,7 @@ static void check_sections(const char *folder)
     CHECK(faces->node == 9 && faces->type == 22 && faces->first == 1 && faces->last == 4);
     CHECK(faces->offsets_at == 1736 && faces->offsets_width == 4);
     CHECK(faces->connectivity_at == 1756 && faces->connectivity_width == 4 && faces->connectivity_length == 12);
+    CHECK(faces->parents_at == 0 && faces->parents_width == 0 && cells->parents_at == 0 && cells->parents_width == 0);
     read = gongaurora_read_corner(image, length, faces, 4, 3);
     CHECK(read.rule == 0 && read.node == 0 && read.number == 4);
     read = gongaurora_read_corner(image, length, cells, 5, 2);
@@ -244,6 +264,8 @@ static void check_sections(const char *folder)
     load(folder, "polyhedra.img");
     found = gongaurora_sections(image, length, 3, sections, 3);
     CHECK(found.rule == 0 && found.count == 3);
+    CHECK(faces->parents_at == 3100 && faces->parents_width == 4 && cells->parents_at == 0 && cells->parents_width == 0);
+    CHECK(sections[2].parents_at == 3940 && sections[2].parents_width == 4);
     read = gongaurora_read_corner(image, length, cells, cells->first, 1);
     CHECK(read.rule == 0 && read.number == -13);
 }
@@ -262,7 +284,7 @@ static gongaurora_section load_mixed(const char *folder)
 
 static void check_mixed(const char *folder)
 {
-    static const uint64_t known[9] = {9, 20, 1, 45, 2808, 4, 2992, 4, 333};
+    static const uint64_t known[11] = {9, 20, 1, 45, 2808, 4, 2992, 4, 333, 0, 0};
     static const int64_t hexahedron[9] = {17, 18, 22, 21, 33, 34, 38, 37, 9}, prism[7] = {11, 31, 27, 12, 32, 28, 9};
     gongaurora_section cells = load_mixed(folder);
     gongaurora_count found;
@@ -349,22 +371,23 @@ static void check_element_type_refused(const char *folder)
 {
     gongaurora_section cells = load_mixed(folder);
     const uint64_t *numbers = (const uint64_t *)(const void *)&cells;
+    const size_t all = GONGAURORA_SECTION_NUMBERS;
     uint8_t words[9], known[9];
     gongaurora_type type;
     memset(words, 9, sizeof words);
     memset(known, 9, sizeof known);
-    CHECK(gongaurora_export_element_type(image, length, numbers, 8, 19, words, 8) == GONGAURORA_RULE_ROOM);
+    CHECK(gongaurora_export_element_type(image, length, numbers, all - 1, 19, words, 8) == GONGAURORA_RULE_ROOM);
     CHECK(gongaurora_export_element_type(image, length, NULL, 0, 19, words, 8) == GONGAURORA_RULE_ROOM);
-    CHECK(gongaurora_export_element_type(image, length, numbers, 9, 19, words, 7) == GONGAURORA_RULE_ROOM);
-    CHECK(gongaurora_export_element_type(image, length, numbers, 9, 0, words, 7) == GONGAURORA_RULE_ROOM);
-    CHECK(gongaurora_export_element_type(image, length, numbers, 9, 19, NULL, 0) == GONGAURORA_RULE_ROOM);
+    CHECK(gongaurora_export_element_type(image, length, numbers, all, 19, words, 7) == GONGAURORA_RULE_ROOM);
+    CHECK(gongaurora_export_element_type(image, length, numbers, all, 0, words, 7) == GONGAURORA_RULE_ROOM);
+    CHECK(gongaurora_export_element_type(image, length, numbers, all, 19, NULL, 0) == GONGAURORA_RULE_ROOM);
     CHECK(memcmp(words, known, sizeof words) == 0);
     memset(known, 0, 8);
     known[0] = 17;
-    CHECK(gongaurora_export_element_type(image, length, numbers, 9, 19, words, 9) == 0);
+    CHECK(gongaurora_export_element_type(image, length, numbers, all, 19, words, 9) == 0);
     CHECK(memcmp(words, known, sizeof words) == 0);
     known[0] = 0;
-    CHECK(gongaurora_export_element_type(image, length, numbers, 9, 0, words, 9) == GONGAURORA_RULE_ELEMENT_NUMBER);
+    CHECK(gongaurora_export_element_type(image, length, numbers, all, 0, words, 9) == GONGAURORA_RULE_ELEMENT_NUMBER);
     CHECK(memcmp(words, known, sizeof words) == 0);
     type = gongaurora_element_type(image, length, &cells, 46);
     CHECK(type.rule == GONGAURORA_RULE_ELEMENT_NUMBER && type.node == 0 && type.type == 0);
@@ -393,6 +416,176 @@ static void check_face_usage(const char *folder)
     CHECK(answer.rule == GONGAURORA_RULE_FACE_REPEATED && answer.node == 13 && answer.entry == 0 && answer.element == 5);
     CHECK(answer.count == 0);
     CHECK(use[0] == GONGAURORA_USE_NONE && use[3] == 0 && use[4] == 9);
+}
+
+/* The parents of every face of the sample that has them: by the call, and in place by the entry of the face's section. */
+static void check_parents(const char *folder)
+{
+    static const struct {
+        uint64_t face, first, second;
+    } known[] = {{1, 37, 38}, {4, 43, 44}, {12, 40, 44}, {13, 37, 0}, {23, 41, 0}, {36, 44, 0}};
+    static const uint64_t none[] = {0, 37, 44, 45, (uint64_t)1 << 32 | 1, (uint64_t)-1};
+    gongaurora_section sections[3];
+    gongaurora_parent_pair parents;
+    uint64_t face, faces = 0;
+    size_t k;
+    load(folder, "polyhedra.img");
+    CHECK(gongaurora_sections(image, length, 3, sections, 3).count == 3);
+    for (k = 0; k < 3; k++) {
+        gongaurora_section s = sections[k];
+        if (s.type != 22) continue;
+        for (face = s.first; face <= s.last; face++, faces++) {
+            uint64_t at = s.parents_at + s.parents_width * (face - s.first);
+            parents = gongaurora_parents(image, length, 3, face);
+            CHECK(parents.rule == 0 && parents.node == 0 && parents.entry == 0);
+            CHECK(parents.first == number_at(at, s.parents_width));
+            CHECK(parents.second == number_at(at + s.parents_width * (s.last - s.first + 1), s.parents_width));
+        }
+    }
+    CHECK(faces == 36);
+    for (k = 0; k < sizeof known / sizeof *known; k++) {
+        parents = gongaurora_parents(image, length, 3, known[k].face);
+        CHECK(parents.rule == 0 && parents.first == known[k].first && parents.second == known[k].second);
+    }
+    for (k = 0; k < sizeof none / sizeof *none; k++) {
+        parents = gongaurora_parents(image, length, 3, none[k]);
+        CHECK(parents.rule == GONGAURORA_RULE_ELEMENT_NUMBER && parents.node == 0 && parents.entry == 0);
+        CHECK(parents.first == 0 && parents.second == 0);
+    }
+    parents = gongaurora_parents(image, length, 2, 1);
+    CHECK(parents.rule == GONGAURORA_RULE_NO_SUCH_NODE && parents.node == 0 && parents.first == 0);
+}
+
+/* Images with no parents, and answers that have no room. */
+static void check_parents_refused(const char *folder)
+{
+    uint8_t words[33], known[33], use[4] = {9, 9, 9, 9};
+    gongaurora_parent_pair parents;
+    gongaurora_agreement agreement;
+    uint64_t face;
+    load(folder, "tetrahedron.img");
+    for (face = 0; face <= 5; face++) {
+        uint64_t rule = 1 <= face && face <= 4 ? GONGAURORA_RULE_NO_PARENTS : GONGAURORA_RULE_ELEMENT_NUMBER;
+        parents = gongaurora_parents(image, length, 3, face);
+        CHECK(parents.rule == rule && parents.node == 0 && parents.entry == 0 && parents.first == 0 && parents.second == 0);
+    }
+    agreement = gongaurora_parents_agree(image, length, 3, use, 4);
+    CHECK(agreement.rule == GONGAURORA_RULE_NO_PARENTS && agreement.node == 0 && agreement.entry == 0);
+    CHECK(agreement.element == 0 && agreement.agrees == 0 && use[0] == 9 && use[3] == 9);
+    agreement = gongaurora_parents_agree(image, length, 3, NULL, 0);
+    CHECK(agreement.rule == GONGAURORA_RULE_NO_PARENTS);
+    agreement = gongaurora_parents_agree(image, length, 2, use, 4);
+    CHECK(agreement.rule == GONGAURORA_RULE_NO_SUCH_NODE && agreement.agrees == 0 && use[0] == 9);
+    load(folder, "hexahedra.img");
+    CHECK(gongaurora_parents(image, length, 3, 1).rule == GONGAURORA_RULE_ELEMENT_NUMBER);
+    CHECK(gongaurora_parents_agree(image, length, 3, use, 4).rule == GONGAURORA_RULE_NO_PARENTS);
+    CHECK(gongaurora_parents(NULL, 0, 3, 1).rule == GONGAURORA_RULE_IMAGE_LENGTH);
+    CHECK(gongaurora_parents_agree(NULL, 0, 3, use, 4).rule == GONGAURORA_RULE_IMAGE_LENGTH);
+    load(folder, "polyhedra.img");
+    memset(words, 9, sizeof words);
+    memset(known, 9, sizeof known);
+    CHECK(gongaurora_export_parents(image, length, 3, 1, words, 31) == GONGAURORA_RULE_ROOM);
+    CHECK(gongaurora_export_parents(image, length, 3, 0, words, 31) == GONGAURORA_RULE_ROOM);
+    CHECK(gongaurora_export_parents(image, length, 3, 1, NULL, 0) == GONGAURORA_RULE_ROOM);
+    CHECK(memcmp(words, known, sizeof words) == 0);
+    memset(known, 0, 32);
+    known[16] = 37;
+    known[24] = 38;
+    CHECK(gongaurora_export_parents(image, length, 3, 1, words, 33) == 0);
+    CHECK(memcmp(words, known, sizeof words) == 0);
+    known[16] = known[24] = 0;
+    CHECK(gongaurora_export_parents(image, length, 3, 0, words, 33) == GONGAURORA_RULE_ELEMENT_NUMBER);
+    CHECK(memcmp(words, known, sizeof words) == 0);
+}
+
+/* Whether the parents of the image at hand agree, and what is left in memory: a byte in front of the room and three behind it
+ * stay; the others are those of face usage. */
+static void check_agreement(uint64_t agrees)
+{
+    uint8_t memory[40], use[40];
+    gongaurora_agreement answer;
+    memset(memory, 9, sizeof memory);
+    memset(use, 9, sizeof use);
+    CHECK(gongaurora_face_usage(image, length, 3, use + 1, 36).count == 36);
+    answer = gongaurora_parents_agree(image, length, 3, memory + 1, 36);
+    CHECK(answer.rule == 0 && answer.node == 0 && answer.entry == 0 && answer.element == 0 && answer.agrees == agrees);
+    CHECK(memcmp(memory, use, sizeof use) == 0);
+    memset(memory, 9, sizeof memory);
+    answer = gongaurora_parents_agree(image, length, 3, memory + 1, 38);
+    CHECK(answer.rule == 0 && answer.agrees == agrees && memcmp(memory, use, sizeof use) == 0);
+}
+
+/* The sample with parents, and with others in their place. Faces 1 to 12 and 13 to 36 have their parents at these places. */
+static void check_agreements(const char *folder)
+{
+    enum { INNER = 3100, INNER_SECOND = INNER + 4 * 12, OUTER = 3940, OUTER_SECOND = OUTER + 4 * 24 };
+    load(folder, "polyhedra.img");
+    check_agreement(1);
+    set_word(INNER, 38); /* the parents of face 1 in the other order */
+    set_word(INNER_SECOND, 37);
+    check_agreement(1);
+    set_word(INNER_SECOND, 38); /* one of its cells twice */
+    check_agreement(0);
+    set_word(INNER_SECOND, 39); /* one of its cells, and one that does not use it */
+    check_agreement(0);
+    set_word(INNER_SECOND, 0); /* one of its cells alone */
+    check_agreement(0);
+    set_word(INNER_SECOND, 37);
+    set_word(OUTER_SECOND - 4, 43); /* face 36, used once, with another cell */
+    check_agreement(0);
+    set_word(OUTER_SECOND - 4, 44);
+    set_word(OUTER_SECOND + 4 * 23, 44); /* with its cell twice */
+    check_agreement(0);
+    set_word(OUTER_SECOND + 4 * 23, 0);
+    check_agreement(1);
+    set_word(OUTER, 0);
+    check_refusal(GONGAURORA_RULE_PARENT_ELEMENTS, 18, 0);
+    set_word(OUTER, 36);
+    check_refusal(GONGAURORA_RULE_PARENT_ELEMENTS, 18, 0);
+    set_word(OUTER, 0xffffffdb); /* -37 */
+    check_refusal(GONGAURORA_RULE_PARENT_ELEMENTS, 18, 0);
+    set_word(OUTER_SECOND, 45);
+    set_word(OUTER, 37);
+    check_refusal(GONGAURORA_RULE_PARENT_ELEMENTS, 18, 0);
+}
+
+/* Too little room, and a face used twice with one sign. */
+static void check_agreement_refused(const char *folder)
+{
+    enum { CELLS = 3248 };
+    uint8_t use[38], same[38], words[33], known[33];
+    gongaurora_agreement answer;
+    size_t room;
+    load(folder, "polyhedra.img");
+    memset(use, 9, sizeof use);
+    memset(same, 9, sizeof same);
+    for (room = 0; room < 36; room++) {
+        answer = gongaurora_parents_agree(image, length, 3, use + 1, room);
+        CHECK(answer.rule == GONGAURORA_RULE_USAGE_ROOM && answer.node == 0 && answer.element == 0 && answer.agrees == 0);
+    }
+    CHECK(gongaurora_parents_agree(image, length, 3, NULL, 0).rule == GONGAURORA_RULE_USAGE_ROOM);
+    CHECK(memcmp(use, same, sizeof use) == 0);
+    memset(words, 9, sizeof words);
+    memset(known, 9, sizeof known);
+    CHECK(gongaurora_export_parents_agree(image, length, 3, use + 1, 36, words, 31) == GONGAURORA_RULE_ROOM);
+    CHECK(gongaurora_export_parents_agree(image, length, 3, use + 1, 36, NULL, 0) == GONGAURORA_RULE_ROOM);
+    CHECK(gongaurora_export_parents_agree(image, length, 2, use + 1, 0, words, 31) == GONGAURORA_RULE_ROOM);
+    CHECK(memcmp(use, same, sizeof use) == 0 && memcmp(words, known, sizeof words) == 0);
+    memset(known, 0, 32);
+    known[24] = 1;
+    CHECK(gongaurora_export_parents_agree(image, length, 3, use + 1, 36, words, 33) == 0);
+    CHECK(memcmp(words, known, sizeof words) == 0);
+    set_word(CELLS + 4, word_at(CELLS)); /* cell 37 uses its first face twice */
+    answer = gongaurora_parents_agree(image, length, 3, use + 1, 36);
+    CHECK(answer.rule == GONGAURORA_RULE_FACE_REPEATED && answer.node == 14 && answer.entry == 0 && answer.element == 37);
+    CHECK(answer.agrees == 0);
+    memset(same + 1, 0, 36);
+    CHECK(memcmp(use, same, sizeof use) == 0);
+    known[0] = 14;
+    known[16] = 37;
+    known[24] = 0;
+    CHECK(gongaurora_export_parents_agree(image, length, 3, use + 1, 36, words, 33) == GONGAURORA_RULE_FACE_REPEATED);
+    CHECK(memcmp(words, known, sizeof words) == 0);
 }
 
 static void check_path(const char *folder)
@@ -448,10 +641,11 @@ static void check_name_bytes(const char *folder)
     static const struct {
         const char *name;
         uint64_t count;
-    } known[] = {{"tetrahedron.img", 88}, {"polyhedra.img", 116}, {"hexahedra.img", 45}, {"structured_rind.img", 41},
+    } known[] = {{"tetrahedron.img", 88}, {"polyhedra.img", 122}, {"hexahedra.img", 45}, {"structured_rind.img", 41},
                  {"wall.img", 43},        {"near_29.img", 88},    {"near_30.img", 88},   {"near_31.img", 88},
                  {"near_32.img", 88},     {"near_33.img", 88},    {"near_34.img", 88},   {"near_35.img", 88},
-                 {"near_36.img", 88},     {"near_37.img", 88},    {"near_38.img", 61},   {"mixed.img", 61}};
+                 {"near_36.img", 88},     {"near_37.img", 88},    {"near_38.img", 61},   {"near_39.img", 91},
+                 {"mixed.img", 61}};
     gongaurora_count answer;
     size_t k;
     for (k = 0; k < sizeof known / sizeof *known; k++) {
@@ -542,8 +736,8 @@ static void check_rule_texts(void)
 {
     const char *none = gongaurora_rule_text(48);
     uint64_t rule, other;
-    for (rule = 0; rule <= 47; rule++) {
-        int known = rule != 19 && rule != 22 && rule != 39;
+    for (rule = 0; rule <= 55; rule++) {
+        int known = rule <= 47 ? rule != 19 && rule != 22 : rule == 54;
         CHECK((strcmp(gongaurora_rule_text(rule), none) != 0) == known);
         for (other = 0; known && other < rule; other++)
             CHECK(strcmp(gongaurora_rule_text(rule), gongaurora_rule_text(other)) != 0);
@@ -552,6 +746,8 @@ static void check_rule_texts(void)
     CHECK(strstr(gongaurora_rule_text(GONGAURORA_RULE_NO_ELEMENT), "ElementRange of no section of the zone") != NULL);
     CHECK(strstr(gongaurora_rule_text(GONGAURORA_RULE_NO_ELEMENT), "count from 0") != NULL);
     CHECK(strstr(gongaurora_rule_text(GONGAURORA_RULE_NO_FACE), "not of type 22") != NULL);
+    CHECK(strstr(gongaurora_rule_text(GONGAURORA_RULE_PARENT_ELEMENTS), "column by column") != NULL);
+    CHECK(strstr(gongaurora_rule_text(GONGAURORA_RULE_NO_PARENTS), "has no ParentElements") != NULL);
     CHECK(strcmp(gongaurora_rule_text((uint64_t)1 << 32), none) == 0);
     CHECK(GONGAURORA_RULE_NONE == 0 && GONGAURORA_RULE_TRAILING == 18 && GONGAURORA_RULE_CONTAINMENT == 20);
 }
@@ -578,6 +774,10 @@ int main(int argc, char **argv)
     check_section_types(argv[1]);
     check_element_type_refused(argv[1]);
     check_face_usage(argv[1]);
+    check_parents(argv[1]);
+    check_parents_refused(argv[1]);
+    check_agreements(argv[1]);
+    check_agreement_refused(argv[1]);
     check_path(argv[1]);
     check_name_bytes(argv[1]);
     check_changed_names(argv[1]);

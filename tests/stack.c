@@ -12,9 +12,9 @@
 #include <sys/wait.h>
 #include <unistd.h>
 
-/* The limits in bytes: of a call that validates, of one that checks rules 1 to 18 alone, of one that reads by a section; and of
- * the whole stack of a thread that every call has to do with. */
-enum { VALIDATION = 96000, TABLE = 40000, READ = 1000, SMALL = 112 * 1024 };
+/* The limits in bytes: of agreement, of another call that validates, of one that checks rules 1 to 18 alone, of one that reads
+ * by a section; and of the whole stack of a thread that every call has to do with. */
+enum { AGREEMENT = 98000, VALIDATION = 96000, TABLE = 40000, READ = 1000, SMALL = 112 * 1024 };
 
 enum { LARGE = 1 << 20, GUARD = 1 << 20, PATTERN = 0x5a, ROOM = 4096 };
 
@@ -34,6 +34,8 @@ static uint64_t read_element(void)
 }
 static uint64_t element_type(void) { return gongaurora_element_type(image, length, sections, sections->first).rule; }
 static uint64_t face_usage(void) { return gongaurora_face_usage(image, length, zone, bytes, sizeof bytes).rule; }
+static uint64_t parents(void) { return gongaurora_parents(image, length, zone, sections->first).rule; }
+static uint64_t parents_agree(void) { return gongaurora_parents_agree(image, length, zone, bytes, sizeof bytes).rule; }
 static uint64_t path(void) { return gongaurora_path(image, length, array, bytes, sizeof bytes).rule; }
 static uint64_t name_bytes(void) { return gongaurora_name_bytes(image, length).rule; }
 static uint64_t data_size(void) { return gongaurora_data_size(image, length, array).rule; }
@@ -51,6 +53,8 @@ static const struct {
     {"read_element", read_element, READ},
     {"element_type", element_type, READ},
     {"face_usage", face_usage, VALIDATION},
+    {"parents", parents, VALIDATION},
+    {"parents_agree", parents_agree, AGREEMENT},
     {"path", path, TABLE},
     {"name_bytes", name_bytes, TABLE},
     {"data_size", data_size, VALIDATION},

@@ -1,6 +1,7 @@
 //! `bench [REPETITIONS]`: prints tables of times and ratios, all from one run: validation against the reference and against
 //! one pass over the bytes, rules 1 to 18 alone against the same, name bytes against the reference and plain C, the walk and the types of
-//! MIXED elements against C with no check and with the same checks, face usage against the reference, peak memory.
+//! MIXED elements against C with no check and with the same checks, face usage against the reference, the parents of faces in place
+//! and by calls, agreement against face usage, peak memory.
 //!
 //! `bench images FOLDER`: writes the odd images of the tables as files.
 
@@ -9,6 +10,7 @@ mod measure;
 mod mixed;
 mod names;
 mod odd;
+mod parents;
 mod parts;
 mod siblings;
 
@@ -16,11 +18,12 @@ use std::path::Path;
 use std::process::Command;
 use std::{env, fs};
 
-use calls::{element_count, face_usage, sections, sum, types, types_checked, types_plain, validate};
+use calls::{element_count, face_usage, parents_agree, sections, sum, types, types_checked, types_plain, validate};
 use calls::{walk_checked, walk_corners, walk_elements, walk_plain};
 use measure::{medians, peak_growth, processor, TURN};
 use names::{name_bytes_table, rules_table};
 use odd::Odd;
+use parents::{agreement_table, reading_table, with_parents_table};
 use reference::elements::{MIXED, NGON_N};
 use reference::mesh::mesh;
 use reference::{Counts, Rejection};
@@ -35,6 +38,8 @@ struct Subject {
     /// Whether it is one zone, whose cells are walked, and whether they are made of faces.
     walked: bool,
     faces: bool,
+    /// Whether the faces have parents.
+    parents: bool,
     /// The rule that it breaks; 0 where it is lawful.
     rule: u64,
     /// Whether it has many siblings, whose names are compared.
@@ -45,12 +50,22 @@ struct Subject {
 fn meshes() -> Vec<Subject> {
     let subject = |name, kind, n, width| {
         let image = mesh(kind, n, width).expect("a lawful mesh");
-        let zones = kind == "zones";
-        Subject { name, image, walked: !zones, faces: kind == "poly", rule: 0, siblings: zones }
+        let (zones, parents) = (kind == "zones", kind == "parents");
+        Subject {
+            name,
+            image,
+            walked: !zones && !parents,
+            faces: kind == "poly" || parents,
+            parents,
+            rule: 0,
+            siblings: zones,
+        }
     };
     vec![
         subject("polyhedra I4, 52 x 52 x 52", "poly", 52, 4),
         subject("polyhedra I8, 43 x 43 x 43", "poly", 43, 8),
+        subject("polyhedra with parents I4, 52 x 52 x 52, no coordinates", "parents", 52, 4),
+        subject("polyhedra with parents I8, 41 x 41 x 41, no coordinates", "parents", 41, 8),
         subject("hexahedra I4, 60 x 60 x 60", "hex", 60, 4),
         subject("hexahedra between layers of prisms I4, 61 x 61 x 61", "mixed", 61, 4),
         subject("hexahedra between layers of prisms I8, 52 x 52 x 52", "mixed", 52, 8),
@@ -61,8 +76,8 @@ fn meshes() -> Vec<Subject> {
 /// The odd images.
 fn odd_images() -> Vec<Subject> {
     let subject = |odd| {
-        let Odd { name, image, usage: faces, rule, siblings, .. } = odd;
-        Subject { name, image, walked: false, faces, rule, siblings }
+        let Odd { name, image, usage: faces, parents, rule, siblings, .. } = odd;
+        Subject { name, image, walked: false, faces, parents, rule, siblings }
     };
     odd::images().into_iter().map(subject).collect()
 }
@@ -99,6 +114,9 @@ fn tables(repetitions: usize) {
     walk_table(&meshes, repetitions);
     types_table(&meshes, repetitions);
     usage_table(&all, repetitions);
+    with_parents_table(repetitions);
+    reading_table(&all, repetitions);
+    agreement_table(&all, repetitions);
     memory_table(&meshes);
 }
 
@@ -217,9 +235,14 @@ fn memory_table(subjects: &[Subject]) {
     println!("| peak memory above image, buffers and stack, kB | library | reference |");
     println!("|---|---|---|");
     let file = env::temp_dir().join(format!("bench-{}.img", std::process::id()));
-    for Subject { name, image, faces, .. } in subjects {
+    for Subject { name, image, faces, parents, .. } in subjects {
         fs::write(&file, image).expect("a temporary file");
-        for call in ["validation", "face usage"].into_iter().filter(|&call| *faces || call == "validation") {
+        let asked = |call: &&str| match *call {
+            "face usage" => *faces,
+            "agreement" => *parents,
+            _ => true,
+        };
+        for call in ["validation", "face usage", "agreement"].into_iter().filter(asked) {
             let of = |what| child(what, call, &file);
             println!("| {call}, {name} | {} | {} |", of("library"), of("reference"));
         }
@@ -237,12 +260,14 @@ fn child(what: &str, call: &str, file: &Path) -> String {
 /// Peak growth in kilobytes while a call runs on an image, after a run on a small one that brings code and stack into memory.
 fn memory_of(what: &str, call: &str, file: &str) -> u64 {
     let image = fs::read(file).expect("the image");
-    let small = mesh("poly", 2, 4).expect("a lawful mesh");
+    let small = mesh("parents", 2, 4).expect("a lawful mesh");
     let mut usage = vec![9; 1_000_000];
     let mut run = |image: &[u8]| match (what, call) {
         ("library", "validation") => validate(image).rule,
+        ("library", "agreement") => parents_agree(image, ZONE, &mut usage).agrees,
         ("library", _) => face_usage(image, ZONE, &mut usage).count,
         (_, "validation") => u64::from(reference::validate(image).is_ok()),
+        (_, "agreement") => u64::from(reference::parents_agree(image, ZONE, &mut usage).is_ok()),
         _ => u64::from(reference::face_usage(image, ZONE, &mut usage).is_ok()),
     };
     run(&small);

@@ -9,7 +9,7 @@ use crate::parts::{
     add_bare_zone, add_faces, add_triangles, add_zone, add_zone_type, at_random, children_last, falling, in_turn,
     rising, with_base, with_zone, Section, APART, MAX_NODES, NFACE_N, NGON_N, TRI_3,
 };
-use crate::{mixed, siblings};
+use crate::{mixed, parents, siblings};
 
 /// Face references of an image with one cell section, and of each cell section where there are many.
 const REFERENCES: usize = 3_000_000;
@@ -20,8 +20,9 @@ pub struct Odd {
     pub name: &'static str,
     pub file: &'static str,
     pub image: Vec<u8>,
-    /// Whether it is one zone that uses no face twice with one sign.
+    /// Whether it is one zone that uses no face twice with one sign, and whether its faces have parents.
     pub usage: bool,
+    pub parents: bool,
     /// The rule that it breaks; 0 where it is lawful.
     pub rule: u64,
     /// Whether nearly all its nodes are siblings.
@@ -29,13 +30,14 @@ pub struct Odd {
 }
 
 pub fn odd(name: &'static str, file: &'static str, image: Image) -> Odd {
-    Odd { name, file, image: image.to_bytes(), usage: false, rule: 0, siblings: false }
+    Odd { name, file, image: image.to_bytes(), usage: false, parents: false, rule: 0, siblings: false }
 }
 
-/// All odd images: many references to faces in many sections, then MIXED sections, then many nodes with few data, then many
-/// siblings.
+/// All odd images: many references to faces in many sections, then parents of faces, then MIXED sections, then many nodes with
+/// few data, then many siblings.
 pub fn images() -> Vec<Odd> {
     let mut images = of_faces();
+    images.extend(parents::images());
     images.extend(mixed::images());
     images.extend(of_nodes());
     images.extend(siblings::images());

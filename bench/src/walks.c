@@ -40,6 +40,16 @@ gongaurora_usage bench_face_usage(const uint8_t *image, size_t length, uint64_t 
     return gongaurora_face_usage(image, length, zone, out, room);
 }
 
+gongaurora_parent_pair bench_parents(const uint8_t *image, size_t length, uint64_t zone, uint64_t face)
+{
+    return gongaurora_parents(image, length, zone, face);
+}
+
+gongaurora_agreement bench_parents_agree(const uint8_t *image, size_t length, uint64_t zone, uint8_t *out, size_t room)
+{
+    return gongaurora_parents_agree(image, length, zone, out, room);
+}
+
 /* Rules 1 to 18 alone, by the call that asks nothing else: the root's path is one byte. */
 gongaurora_count bench_table(const uint8_t *image, size_t length)
 {
@@ -251,6 +261,23 @@ uint64_t bench_types_plain(const uint8_t *image, size_t length, const gongaurora
         else
             for (uint64_t e = 0; e < elements; e++)
                 sum += (uint64_t)plain_walk_8_at(image, connectivity, (uint64_t)plain_walk_8_at(image, offsets, e));
+    }
+    return sum;
+}
+
+/* The parents of all faces of sections that store them, both of each face, in place; the sum of first + 3 second. */
+uint64_t bench_parents_in_place(const uint8_t *image, size_t length, const gongaurora_section *sections, size_t count)
+{
+    uint64_t sum = 0;
+    (void)length;
+    for (size_t k = 0; k < count; k++) {
+        uint64_t faces = sections[k].last - sections[k].first + 1, at = sections[k].parents_at;
+        if (sections[k].parents_width == 4)
+            for (uint64_t f = 0; f < faces; f++)
+                sum += (uint64_t)plain_walk_4_at(image, at, f) + 3 * (uint64_t)plain_walk_4_at(image, at, faces + f);
+        if (sections[k].parents_width == 8)
+            for (uint64_t f = 0; f < faces; f++)
+                sum += (uint64_t)plain_walk_8_at(image, at, f) + 3 * (uint64_t)plain_walk_8_at(image, at, faces + f);
     }
     return sum;
 }

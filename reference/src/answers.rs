@@ -2,6 +2,7 @@
 
 use crate::faces::{face_count, face_usage};
 use crate::name_bytes::name_bytes;
+use crate::parents::{parents, parents_agree};
 use crate::path::{path, path_into};
 use crate::reader::{array_value, corner, corner_reads_into, data_size, element_corners, element_type};
 use crate::reader::{section_entries, section_entries_into, Section, Value, ENTRY_LENGTH};
@@ -65,7 +66,7 @@ pub fn sizes_line(image: &[u8], node: u64) -> String {
     line(data_size(image, node), |size| format!("sizes {}{}", size.directions, numbers(size.dimensions())))
 }
 
-/// `entries COUNT` and nine numbers for each.
+/// `entries COUNT` and eleven numbers for each.
 pub fn entries_line(image: &[u8], zone: u64) -> String {
     line(section_entries(image, zone), |entries| {
         let all = entries.iter().flat_map(Section::numbers);
@@ -97,6 +98,30 @@ pub fn usage_line(image: &[u8], zone: u64) -> String {
     let room = face_count(image, zone).unwrap_or(0) as usize;
     let mut out = vec![FILLING; room];
     line(face_usage(image, zone, &mut out), |count| format!("usage {count}{}", numbers(&out)))
+}
+
+/// `parents FIRST SECOND`.
+pub fn parents_line(image: &[u8], zone: u64, face: u64) -> String {
+    line(parents(image, zone, face), |pair| format!("parents{}", numbers(pair)))
+}
+
+/// `agrees 1` or `agrees 0`.
+fn agreement(agrees: bool) -> String {
+    format!("agrees {}", u8::from(agrees))
+}
+
+/// `agrees 1` or `agrees 0`, with memory enough.
+pub fn agree_line(image: &[u8], zone: u64) -> String {
+    let room = face_count(image, zone).unwrap_or(0) as usize;
+    line(parents_agree(image, zone, &mut vec![FILLING; room]), agreement)
+}
+
+/// `agrees A room b1 .. bR` or the rejection and `room b1 .. bR`: whether parents agree, with memory of `room` bytes.
+pub fn agree_into_line(image: &[u8], zone: u64, room: usize) -> String {
+    let mut out = vec![FILLING; room];
+    let answer = parents_agree(image, zone, &mut out);
+    let answered = line(answer, agreement);
+    format!("{answered} room{}", numbers(&out))
 }
 
 /// `length L room b1 .. bR` or the rejection and `room b1 .. bR`: the path into memory of `room` bytes.
@@ -139,7 +164,7 @@ pub fn element_into_line(image: &[u8], entry: &[u64; ENTRY_LENGTH], element: u64
     format!("{answered} room{}", numbers(&out))
 }
 
-/// `entries C room n1 .. n9R` or the rejection and `room n1 .. n9R`: the entries into memory of `room` entries, each of
+/// `entries C room n1 .. n11R` or the rejection and `room n1 .. n11R`: the entries into memory of `room` entries, each of
 /// whose numbers was 170.
 pub fn entries_into_line(image: &[u8], zone: u64, room: usize) -> String {
     let filling = Section::of_numbers(&[u64::from(FILLING); ENTRY_LENGTH]);

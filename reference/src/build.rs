@@ -82,6 +82,12 @@ impl Node {
         Node::list("ElementStartOffset", width, &offsets)
     }
 
+    /// A ParentElements from the two parents of each face, column by column.
+    pub fn parent_elements(width: usize, pairs: &[[i64; 2]]) -> Node {
+        let numbers: Vec<i64> = (0..2).flat_map(|column| pairs.iter().map(move |pair| pair[column])).collect();
+        Node::integers("ParentElements", "DataArray_t", width, &[pairs.len() as u64, 2], &numbers)
+    }
+
     /// Bytes of one value of its data type; 0 for a type that is none.
     pub fn width(&self) -> usize {
         DataType::named(self.data_type).map_or(0, DataType::width)

@@ -6,6 +6,7 @@ use crate::flat_cases::flat_cases;
 use crate::mixed_cases::mixed_cases;
 use crate::name_cases::name_cases;
 use crate::once_cases::once_cases;
+use crate::parent_cases::parent_cases;
 use crate::point_cases::point_cases;
 use crate::reference_cases::reference_cases;
 
@@ -98,7 +99,7 @@ pub const RIND_ARRAY: u64 = 7;
 
 /// All cases, each with its name; (j) has three, those of points begin with `p1_`, those of flat faces and cells with
 /// `f2_`, those of name bytes with `n3_`, those of MIXED sections with `m4_`, those of labels allowed once with `o5_`,
-/// those of references with `r6_`.
+/// those of references with `r6_`, those of parents with `q7_`.
 pub fn cases() -> Vec<(&'static str, Vec<u8>)> {
     let a = tetrahedron().to_bytes();
     let b = a[..31].to_vec();
@@ -126,6 +127,7 @@ pub fn cases() -> Vec<(&'static str, Vec<u8>)> {
     cases.extend(mixed_cases());
     cases.extend(once_cases());
     cases.extend(reference_cases());
+    cases.extend(parent_cases());
     cases
 }
 

@@ -1,6 +1,6 @@
 //! Element sections (document 01, "Sections"; document 02, §2, §4 and §6): their element types, ranges, start offsets and
 //! connectivity; rules 27 to 33 and 38, each as one test that says whether it holds at a validated node; and rules 34 to
-//! 37, which are answered together, by the first reference that breaks one of them.
+//! 37, which are answered together, by the first reference that breaks one of them. For rule 39 see `parents.rs`.
 
 use crate::bytes::Integers;
 use crate::face_ranges::{is_element, Faces};
@@ -137,7 +137,7 @@ impl<'a> SectionData<'a> {
 
     /// Whether `test` holds for the start and the end of each element, a start offset and the one behind it, asked in
     /// order up to the first that fails.
-    fn all_elements(&self, mut test: impl FnMut(i64, i64) -> bool) -> bool {
+    pub fn all_elements(&self, mut test: impl FnMut(i64, i64) -> bool) -> bool {
         let mut start = None;
         self.offsets.all(|end| start.replace(end).is_none_or(|start| test(start, end)))
     }

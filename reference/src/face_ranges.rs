@@ -1,7 +1,7 @@
-//! The elements of a zone as rules 36 and 37 have them, and those of them that are faces: ranges of element numbers, and
-//! the index of a face among them.
+//! The elements of a zone as rules 36, 37 and 39 have them, and those of them that are faces or cells: ranges of element
+//! numbers, and the index of a face among them.
 
-use crate::elements::{element_range, element_type_of, NGON_N};
+use crate::elements::{element_range, element_type_of, NFACE_N, NGON_N};
 use crate::labels::Label;
 use crate::tree::Tree;
 
@@ -75,5 +75,38 @@ impl Faces {
         let place = not_after.checked_sub(1)?;
         let range = self.ranges[place];
         (magnitude <= self.reach[place]).then(|| range.before + (magnitude - range.first))
+    }
+}
+
+/// The cells of a zone: the element numbers in the ranges of those of these sections that have type 23.
+#[derive(Clone, Debug)]
+pub struct Cells {
+    /// Ascending; where ranges meet, as they cannot in an accepted image, they are one.
+    ranges: Vec<(u64, u64)>,
+}
+
+impl Cells {
+    /// The cells of a validated zone.
+    pub fn of_zone(tree: &Tree, zone: usize) -> Cells {
+        let of_cells = sections(tree, zone).filter(|(element_type, _)| *element_type == NFACE_N);
+        let mut all: Vec<(u64, u64)> = of_cells.map(|(_, range)| range).collect();
+        all.sort_unstable();
+        let mut ranges: Vec<(u64, u64)> = Vec::new();
+        for (first, last) in all {
+            match ranges.last_mut() {
+                Some(before) if first <= before.1 => before.1 = last.max(before.1),
+                _ => ranges.push((first, last)),
+            }
+        }
+        Cells { ranges }
+    }
+
+    /// Whether a number is that of a cell.
+    pub fn has(&self, number: i64) -> bool {
+        let Ok(number) = u64::try_from(number) else {
+            return false;
+        };
+        let not_after = self.ranges.partition_point(|&(first, _)| first <= number);
+        not_after.checked_sub(1).is_some_and(|place| number <= self.ranges[place].1)
     }
 }

@@ -19,12 +19,17 @@ pub const REVERSED: u8 = 2;
 pub fn face_usage(image: &[u8], zone: u64, out: &mut [u8]) -> Result<usize, Rejection> {
     let tree = validated_tree(image)?;
     let zone = zone_asked_for(&tree, zone)?;
-    let faces = Faces::of_zone(&tree, zone);
+    write_usage(&tree, zone, out)
+}
+
+/// The same of a zone of an accepted image.
+pub fn write_usage(tree: &Tree, zone: usize, out: &mut [u8]) -> Result<usize, Rejection> {
+    let faces = Faces::of_zone(tree, zone);
     let count = usize::try_from(faces.count()).map_err(|_| Rejection::of_call(44))?;
     let usage = out.get_mut(..count).ok_or(Rejection::of_call(44))?;
     usage.fill(0);
     for node in tree.children_labelled(zone, Label::Elements) {
-        if let Err(rejection) = add_section(&tree, node, &faces, usage) {
+        if let Err(rejection) = add_section(tree, node, &faces, usage) {
             usage.fill(0);
             return Err(rejection);
         }

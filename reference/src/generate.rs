@@ -5,7 +5,7 @@ use std::collections::BTreeMap;
 
 use crate::build::Image;
 use crate::damage::{damages_of, flips, Answer, Damage, DAMAGES};
-use crate::damage::{flat_case, mixed_case, name_case, point_case, reference_case};
+use crate::damage::{flat_case, mixed_case, name_case, parent_case, point_case, reference_case};
 use crate::lawful::{chain, lawful, SizeClass};
 use crate::random::Random;
 use crate::validation::validate;
@@ -31,32 +31,35 @@ enum Target {
     Mixed(usize),
     /// A case of references (document 02, §6) of this number.
     References(usize),
+    /// A case of parents (document 02, §7) of this number.
+    Parents(usize),
 }
 
-/// How many indices make a round: each rule once, a lawful image before every second one, six others; twelve cases of each
-/// of the five kinds, which go round their lists.
-const ROUND: u64 = 36 + 18 + 6 + 5 * CASES;
+/// How many indices make a round: each rule once, a lawful image before every second one, four others; twelve cases of each
+/// of the six kinds, which go round their lists.
+const ROUND: u64 = 37 + 19 + 4 + 6 * CASES;
 const CASES: u64 = 12;
 
-/// The target of an index: of every ten the last five are cases, each case in its turn.
+/// The target of an index: of every eleven the last six are cases, each case in its turn.
 fn target(index: u64) -> Target {
     let (round, place) = (index / ROUND, index % ROUND);
-    let (ten, within) = (place / 10, place % 10);
-    let case = (round * CASES + ten) as usize;
+    let (eleven, within) = (place / 11, place % 11);
+    let case = (round * CASES + eleven) as usize;
     match within {
         5 => return Target::Points(case),
         6 => return Target::Flat(case),
         7 => return Target::Names(case),
         8 => return Target::Mixed(case),
         9 => return Target::References(case),
+        10 => return Target::Parents(case),
         _ => (),
     }
-    let place = (5 * ten + within) as usize;
+    let place = (5 * eleven + within) as usize;
     match place {
-        0..54 if place.is_multiple_of(3) => Target::Lawful,
-        0..54 => Target::Rule(DAMAGES[place - place / 3 - 1].0),
-        54..57 => Target::Flips,
-        57..59 => Target::Several,
+        0..56 if place.is_multiple_of(3) => Target::Lawful,
+        0..56 => Target::Rule(DAMAGES[place - place / 3 - 1].0),
+        56..58 => Target::Flips,
+        58 => Target::Several,
         _ if round.is_multiple_of(4) => Target::Deep,
         _ => Target::Several,
     }
@@ -93,6 +96,9 @@ pub fn image(seed: u64, index: u64, class: SizeClass) -> Vec<u8> {
         Target::References(number) => with_case(&mut random, class, SizeClass::holds, |image, random| {
             reference_case(image, random, class, number)
         }),
+        Target::Parents(number) => {
+            with_case(&mut random, class, SizeClass::holds, |image, random| parent_case(image, random, class, number))
+        }
     }
 }
 

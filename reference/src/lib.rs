@@ -1,5 +1,5 @@
 //! The independent reference program: a validator and reader of CGNS node-table images, written from document 01 and
-//! §1 to §6 of document 02 alone.
+//! §1 to §7 of document 02 alone.
 //! Every public call answers on every input; a refusal is a [`Rejection`].
 //!
 //! Data flow one way: bytes → header → records → table → tree → rules → calls.
@@ -23,6 +23,8 @@ pub mod mixed_cases;
 pub mod name_bytes;
 pub mod name_cases;
 pub mod once_cases;
+pub mod parent_cases;
+pub mod parents;
 pub mod path;
 pub mod point_cases;
 pub mod points;
@@ -42,6 +44,7 @@ pub mod validation;
 
 pub use faces::{face_count, face_usage};
 pub use name_bytes::name_bytes;
+pub use parents::{parents, parents_agree};
 pub use path::{path, path_into};
 pub use reader::{array_value, corner, corner_reads, corner_reads_into, data_size, element_corners, element_type};
 pub use reader::{section_entries, section_entries_into};

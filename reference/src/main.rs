@@ -21,20 +21,23 @@ reference name-bytes FILE
 reference path FILE NODE
 reference sizes FILE NODE
 reference entries FILE ZONE
-reference corner FILE E1 .. E9 ELEMENT CORNER
-reference element-type FILE E1 .. E9 ELEMENT
+reference corner FILE E1 .. E11 ELEMENT CORNER
+reference element-type FILE E1 .. E11 ELEMENT
 reference value FILE NODE K
 reference usage FILE ZONE
+reference parents FILE ZONE FACE
+reference agree FILE ZONE
 reference path-into FILE NODE ROOM
 reference entries-into FILE ZONE ROOM
 reference usage-into FILE ZONE ROOM
+reference agree-into FILE ZONE ROOM
 reference list-into FILE ZONE ROOM
 reference reads FILE ZONE ROOM W1 E1 C1 W2 E2 C2 W3 E3 C3
-reference element-into FILE E1 .. E9 ELEMENT ROOM
+reference element-into FILE E1 .. E11 ELEMENT ROOM
 reference generate SEED COUNT DIR [small|medium|large]
 reference cases DIR
 reference samples DIR
-reference mesh poly|hex|mixed|zones N 4|8 FILE
+reference mesh poly|parents|hex|mixed|zones N 4|8 FILE
 reference answers DIR
 reference queries SEED FILE";
 
@@ -83,19 +86,22 @@ fn answer(call: &str, file: &str, numbers: &[u64]) -> Result<String, String> {
         ("entries", [zone]) => entries_line(&image()?, *zone),
         ("value", [node, k]) => value_line(&image()?, *node, *k),
         ("usage", [zone]) => usage_line(&image()?, *zone),
+        ("parents", [zone, face]) => parents_line(&image()?, *zone, *face),
+        ("agree", [zone]) => agree_line(&image()?, *zone),
         ("path-into", [node, room]) => path_into_line(&image()?, *node, length(*room)?),
         ("entries-into", [zone, room]) => entries_into_line(&image()?, *zone, length(*room)?),
         ("usage-into", [zone, room]) => usage_into_line(&image()?, *zone, length(*room)?),
+        ("agree-into", [zone, room]) => agree_into_line(&image()?, *zone, length(*room)?),
         ("list-into", [zone, room]) => entries_into_line(&image()?, *zone, length(*room)?),
         ("reads", &[zone, room, w1, e1, c1, w2, e2, c2, w3, e3, c3]) => {
             let reads = [[w1, e1, c1], [w2, e2, c2], [w3, e3, c3]];
             reads_line(&image()?, zone, length(room)?, &reads)
         }
         ("element-into", [entry @ .., element, room]) => {
-            element_into_line(&image()?, &nine(entry)?, *element, length(*room)?)
+            element_into_line(&image()?, &entry_of(entry)?, *element, length(*room)?)
         }
-        ("corner", [entry @ .., element, corner]) => corner_line(&image()?, &nine(entry)?, *element, *corner),
-        ("element-type", [entry @ .., element]) => element_type_line(&image()?, &nine(entry)?, *element),
+        ("corner", [entry @ .., element, corner]) => corner_line(&image()?, &entry_of(entry)?, *element, *corner),
+        ("element-type", [entry @ .., element]) => element_type_line(&image()?, &entry_of(entry)?, *element),
         _ => return Err(USAGE.to_string()),
     })
 }
@@ -110,8 +116,8 @@ fn number(word: &str) -> Result<u64, String> {
     word.parse().map_err(|_| format!("{word}: not a number of 64 bits"))
 }
 
-/// The nine numbers of a section entry.
-fn nine(entry: &[u64]) -> Result<[u64; ENTRY_LENGTH], String> {
+/// The numbers of a section entry.
+fn entry_of(entry: &[u64]) -> Result<[u64; ENTRY_LENGTH], String> {
     entry.try_into().map_err(|_| USAGE.to_string())
 }
 

@@ -1,5 +1,5 @@
-//! Block meshes: a cube of n×n×n cells as hexahedra, as hexahedra between layers of prisms or as polyhedra, and many
-//! small zones. Lawful images of any size up to the limits, for examples and benchmarks.
+//! Block meshes: a cube of n×n×n cells as hexahedra, as hexahedra between layers of prisms or as polyhedra, with or without
+//! the parents of their faces, and many small zones. Lawful images of any size up to the limits, for examples and benchmarks.
 
 use crate::build::{Image, Node};
 use crate::cases::beginning;
@@ -145,6 +145,17 @@ struct FaceNumbers {
     outer: Vec<i64>,
 }
 
+/// The two parents of each of so many faces: the cells that use it, the one with the lower number first, or one cell and
+/// 0. The cells have six faces each, and their numbers follow those of the faces.
+fn parents(faces: usize, cells: &[i64]) -> Vec<[i64; 2]> {
+    let mut pairs = vec![[0; 2]; faces];
+    for (k, face) in cells.iter().enumerate() {
+        let (pair, cell) = (&mut pairs[face.unsigned_abs() as usize - 1], (faces + 1 + k / 6) as i64);
+        pair[usize::from(pair[0] != 0)] = cell;
+    }
+    pairs
+}
+
 /// A section to be added.
 struct Elements<'a> {
     name: &'a str,
@@ -154,6 +165,8 @@ struct Elements<'a> {
     /// How many connectivity entries each element has.
     sizes: Vec<i64>,
     connectivity: &'a [i64],
+    /// The parents of faces; none where there are no pairs.
+    parents: &'a [[i64; 2]],
 }
 
 /// The sizes of elements of so many entries each, all of a connectivity together.
@@ -174,6 +187,9 @@ impl Elements<'_> {
             image.add(section, Node::start_offsets(width, &self.sizes));
         }
         image.add(section, Node::list("ElementConnectivity", width, self.connectivity));
+        if !self.parents.is_empty() {
+            image.add(section, Node::parent_elements(width, self.parents));
+        }
         next
     }
 }
@@ -191,26 +207,52 @@ fn add_zone(image: &mut Image, base: usize, name: &str, block: Block, cells: i64
     zone
 }
 
+/// What a mesh of polyhedra has beside its faces and cells: coordinates, and the parents of its faces.
+#[derive(Clone, Copy, Debug)]
+struct Beside {
+    coordinates: bool,
+    parents: bool,
+}
+
 /// n×n×n cells as polyhedra: inner faces, cells, outer faces. Cells use a face with either sign.
 pub fn polyhedra(n: i64, width: usize) -> Image {
+    polyhedra_with(n, width, Beside { coordinates: true, parents: false })
+}
+
+/// The same with the parents of all faces.
+pub fn polyhedra_and_parents(n: i64, width: usize) -> Image {
+    polyhedra_with(n, width, Beside { coordinates: true, parents: true })
+}
+
+/// The same with the parents of all faces, and without coordinates.
+pub fn parents_alone(n: i64, width: usize) -> Image {
+    polyhedra_with(n, width, Beside { coordinates: false, parents: true })
+}
+
+/// n×n×n cells as polyhedra, and what stands beside them.
+fn polyhedra_with(n: i64, width: usize, beside: Beside) -> Image {
     let block = Block { n };
     let mut image = beginning();
     let base = add_base(&mut image);
     let zone = add_zone(&mut image, base, "Polyhedra", block, block.cells(), width);
-    block.add_coordinates(&mut image, zone);
+    if beside.coordinates {
+        block.add_coordinates(&mut image, zone);
+    }
     let faces = block.faces();
     let cells: Vec<i64> = block.cell_points().flat_map(|point| block.cell_faces(point, &faces)).collect();
-    let mut add = |name, element_type, first, size, connectivity: &[i64]| {
+    let (inner, all) = (faces.inner.len() / 4, faces.numbers.len());
+    let parents = if beside.parents { parents(all, &cells) } else { Vec::new() };
+    let (of_inner, of_outer) = parents.split_at(inner.min(parents.len()));
+    let mut add = |name, element_type, first, size, connectivity: &[i64], parents: &[[i64; 2]]| {
         let sizes = equal_sizes(size, connectivity);
-        Elements { name, element_type, first, sizes, connectivity }.add(&mut image, zone, width)
+        Elements { name, element_type, first, sizes, connectivity, parents }.add(&mut image, zone, width)
     };
     let mut next = 1;
-    if !faces.inner.is_empty() {
-        next = add("InnerFaces", NGON_N, next, 4, &faces.inner);
+    if inner > 0 {
+        next = add("InnerFaces", NGON_N, next, 4, &faces.inner, of_inner);
     }
-    let after_outer = next + (faces.outer.len() / 4) as i64;
-    add("Cells", NFACE_N, after_outer, 6, &cells);
-    add("OuterFaces", NGON_N, next, 4, &faces.outer);
+    add("Cells", NFACE_N, all as i64 + 1, 6, &cells, &[]);
+    add("OuterFaces", NGON_N, next, 4, &faces.outer, of_outer);
     image
 }
 
@@ -218,7 +260,8 @@ pub fn polyhedra(n: i64, width: usize) -> Image {
 fn add_hexahedra(image: &mut Image, zone: usize, block: Block, width: usize) {
     let cells: Vec<i64> = block.cell_points().flat_map(|point| block.hexahedron(point)).collect();
     let sizes = equal_sizes(8, &cells);
-    Elements { name: "Hexahedra", element_type: HEXA_8, first: 1, sizes, connectivity: &cells }.add(image, zone, width);
+    Elements { name: "Hexahedra", element_type: HEXA_8, first: 1, sizes, connectivity: &cells, parents: &[] }
+        .add(image, zone, width);
 }
 
 /// n×n×n cells as hexahedra.
@@ -253,7 +296,7 @@ pub fn mixed(n: i64, width: usize) -> Image {
     let base = add_base(&mut image);
     let zone = add_zone(&mut image, base, "Mixed", block, sizes.len() as i64, width);
     block.add_coordinates(&mut image, zone);
-    Elements { name: "Cells", element_type: MIXED, first: 1, sizes, connectivity: &connectivity }
+    Elements { name: "Cells", element_type: MIXED, first: 1, sizes, connectivity: &connectivity, parents: &[] }
         .add(&mut image, zone, width);
     image
 }
@@ -325,10 +368,11 @@ pub fn zones(count: i64, width: usize) -> Image {
 pub fn mesh(kind: &str, n: u64, width: u64) -> Result<Vec<u8>, String> {
     let make = match kind {
         "poly" => polyhedra,
+        "parents" => parents_alone,
         "hex" => hexahedra,
         "mixed" => mixed,
         "zones" => zones,
-        _ => return Err(format!("{kind}: not poly, hex, mixed or zones")),
+        _ => return Err(format!("{kind}: not poly, parents, hex, mixed or zones")),
     };
     if !matches!(width, 4 | 8) {
         return Err(format!("{width}: not a width of 4 or 8"));

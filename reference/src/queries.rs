@@ -1,5 +1,6 @@
 //! A list of queries of an image with their answers, for programs that compare another reader with this one.
 
+mod parents;
 mod types;
 
 use crate::answers::*;
@@ -88,6 +89,8 @@ impl Asker<'_> {
         self.note(format!("usage {node}"), usage_line(image, node));
         if let Ok(entries) = section_entries(image, node) {
             self.about_zone(node, &entries);
+        } else if self.random.one_in(3) {
+            self.parents_of_no_zone(node);
         }
     }
 
@@ -134,6 +137,7 @@ impl Asker<'_> {
                 self.note(format!("usage-into {zone} {room}"), answer);
             }
         }
+        self.parents_of_zone(zone, entries, faces);
         for entry in entries {
             self.corners(entry);
         }

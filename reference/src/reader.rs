@@ -1,10 +1,11 @@
-//! What is read from an image (document 01, "Handing out"; document 02, §4): sizes of arrays, section entries, corners and
+//! What is read from an image (document 01, "Handing out"; document 02, §4 and §7): sizes of arrays, section entries, corners and
 //! types of elements, and array values.
 
 use crate::bytes::{signed_at, u32_at, u64_at};
 use crate::data_type::DataType;
 use crate::elements::{nodes_of, shape_of, SectionData, Shape};
 use crate::labels::Label;
+use crate::parents::parents_node;
 use crate::rejection::Rejection;
 use crate::sizes::{data_size_of, DataSize};
 use crate::table::Table;
@@ -20,7 +21,7 @@ pub fn data_size(image: &[u8], node: u64) -> Result<DataSize, Rejection> {
 }
 
 /// How many numbers a section entry has.
-pub const ENTRY_LENGTH: usize = 9;
+pub const ENTRY_LENGTH: usize = 11;
 
 /// A section entry. Byte offsets count from the image's start; offset and width are 0 where there is no array.
 #[derive(Clone, Copy, Debug, Default, PartialEq, Eq)]
@@ -34,10 +35,12 @@ pub struct Section {
     pub connectivity_at: u64,
     pub connectivity_width: u64,
     pub connectivity_length: u64,
+    pub parents_at: u64,
+    pub parents_width: u64,
 }
 
 impl Section {
-    /// The entry as its nine numbers, in order.
+    /// The entry as its numbers, in order.
     pub fn numbers(&self) -> [u64; ENTRY_LENGTH] {
         [
             self.node,
@@ -49,12 +52,14 @@ impl Section {
             self.connectivity_at,
             self.connectivity_width,
             self.connectivity_length,
+            self.parents_at,
+            self.parents_width,
         ]
     }
 
-    /// The entry that nine numbers make.
+    /// The entry that so many numbers make.
     pub fn of_numbers(numbers: &[u64; ENTRY_LENGTH]) -> Section {
-        let [node, element_type, first, last, offsets_at, offsets_width, connectivity_at, connectivity_width, connectivity_length] =
+        let [node, element_type, first, last, offsets_at, offsets_width, connectivity_at, connectivity_width, connectivity_length, parents_at, parents_width] =
             *numbers;
         Section {
             node,
@@ -66,6 +71,8 @@ impl Section {
             connectivity_at,
             connectivity_width,
             connectivity_length,
+            parents_at,
+            parents_width,
         }
     }
 
@@ -73,6 +80,7 @@ impl Section {
     fn of(tree: &Tree, node: usize) -> Option<Section> {
         let data = SectionData::read(tree, node)?;
         let place = |n: usize| tree.table.nodes[n].data_at as u64;
+        let parents = parents_node(tree, node);
         Some(Section {
             node: node as u64,
             element_type: data.element_type as u64,
@@ -83,6 +91,8 @@ impl Section {
             connectivity_at: place(data.connectivity_node),
             connectivity_width: data.connectivity.width() as u64,
             connectivity_length: data.connectivity.len() as u64,
+            parents_at: parents.map_or(0, place),
+            parents_width: parents.map_or(0, |n| tree.table.integers(n).width() as u64),
         })
     }
 }
@@ -103,7 +113,7 @@ pub fn section_entries_into(image: &[u8], zone: u64, out: &mut [Section]) -> Res
     Ok(entries.len())
 }
 
-/// The signed number at a corner of an element, by any nine numbers and any bytes; or 41, 43, 42, in that order.
+/// The signed number at a corner of an element, by any numbers of an entry and any bytes; or 41, 43, 42, in that order.
 pub fn corner(image: &[u8], section: &[u64; ENTRY_LENGTH], element: u64, corner: u64) -> Result<i64, Rejection> {
     let section = Section::of_numbers(section);
     let read = read_element(image, &section, element)?;
@@ -115,7 +125,7 @@ pub fn corner(image: &[u8], section: &[u64; ENTRY_LENGTH], element: u64, corner:
     connectivity_entry(image, &section, index).ok_or(Rejection::of_call(43))
 }
 
-/// The type of an element, by any nine numbers and any bytes: the stored one in a section of type 20, else the
+/// The type of an element, by any numbers of an entry and any bytes: the stored one in a section of type 20, else the
 /// section's; or 41, 43, in that order.
 pub fn element_type(image: &[u8], section: &[u64; ENTRY_LENGTH], element: u64) -> Result<u64, Rejection> {
     read_element(image, &Section::of_numbers(section), element).map(|read| read.element_type)

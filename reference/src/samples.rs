@@ -1,15 +1,15 @@
-//! The sample images: small lawful meshes, flow data at points, and one near miss for each of rules 29 to 38.
+//! The sample images: small lawful meshes, flow data at points, and one near miss for each of rules 29 to 39.
 
 use crate::build::{Image, Node};
 use crate::cases::{beginning, case};
-use crate::mesh::{hexahedra, mixed, polyhedra, structured, HEXA_8};
+use crate::mesh::{hexahedra, mixed, polyhedra_and_parents, structured, HEXA_8};
 
 /// All samples, each with its name.
 pub fn samples() -> Vec<(&'static str, Vec<u8>)> {
     vec![
         ("tetrahedron", case("a")),
         ("structured_rind", structured(4, 4).to_bytes()),
-        ("polyhedra", polyhedra(2, 4).to_bytes()),
+        ("polyhedra", polyhedra_and_parents(2, 4).to_bytes()),
         ("hexahedra", hexahedra(3, 8).to_bytes()),
         ("mixed", mixed(3, 4).to_bytes()),
         ("wall", wall().to_bytes()),
@@ -23,6 +23,7 @@ pub fn samples() -> Vec<(&'static str, Vec<u8>)> {
         ("near_36", case("r6_none")),
         ("near_37", case("j5")),
         ("near_38", prism_as_hexahedron().to_bytes()),
+        ("near_39", case("q7_face")),
     ]
 }
 

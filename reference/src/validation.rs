@@ -1,11 +1,12 @@
 //! The whole verdict (document 01, "Rule numbers"): header, records, trailing words or bytes, then the nodes in order, at
 //! a node the lowest rule first, but for 38, which comes before 34 (document 02, §4), and for 34 to 37, of which the first
-//! failing entry decides (document 02, §6). There is no rule 22 (document 02, §5).
+//! failing entry decides (document 02, §6). Rule 39 comes last (document 02, §7). There is no rule 22 (document 02, §5).
 
 use crate::elements::{bad_reference, none_flat, stored_types_fit};
 use crate::elements::{first_offset_zero, last_offset_is_length, offsets_rise};
 use crate::elements::{lengths_fit, range_free, type_taken};
 use crate::labels::Label;
+use crate::parents::parents_lawful;
 use crate::rejection::Rejection;
 use crate::sids::{array_sized, contained, fixed_name_used};
 use crate::sids::{required_children, type_lawful, values_lawful};
@@ -24,8 +25,8 @@ pub struct Counts {
 /// A rule of validated nodes: its number, and whether it holds at a node.
 pub type NodeRule = (u32, fn(&Tree, usize) -> bool);
 
-/// The rules of a validated node in the order in which they are asked, but for 34 to 37, which come behind all of them.
-/// This list alone knows it.
+/// The rules of a validated node in the order in which they are asked, but for 34 to 37, which come behind all of them,
+/// and 39, which comes behind those. This list alone knows it.
 pub const NODE_RULES: [NodeRule; 14] = [
     (20, contained),
     (21, fixed_name_used),
@@ -55,8 +56,8 @@ pub fn validated_tree(image: &[u8]) -> Result<Tree<'_>, Rejection> {
     Ok(tree)
 }
 
-/// The first broken of these rules and of 34 to 37: at the lowest validated node, there the first of the list, and behind
-/// the list the rule of the first bad reference.
+/// The first broken of these rules and of 34 to 37 and 39: at the lowest validated node, there the first of the list,
+/// behind the list the rule of the first bad reference, and behind that 39.
 pub fn check_nodes(tree: &Tree, rules: &[NodeRule]) -> Result<(), Rejection> {
     for node in (0..tree.count()).filter(|&node| tree.is_validated(node)) {
         for &(rule, holds) in rules {
@@ -66,6 +67,9 @@ pub fn check_nodes(tree: &Tree, rules: &[NodeRule]) -> Result<(), Rejection> {
         }
         if let Some(bad) = bad_reference(tree, node) {
             return Err(Rejection::at_entry(bad.rule, node, bad.entry));
+        }
+        if !parents_lawful(tree, node) {
+            return Err(Rejection::at_node(39, node));
         }
     }
     Ok(())

@@ -3,7 +3,7 @@
 use reference::build::{Image, Node};
 use reference::cases::{case, tetrahedron};
 use reference::{array_value, data_size, face_usage, path, path_into};
-use reference::{section_entries, section_entries_into, Rejection, Section, Value};
+use reference::{section_entries, section_entries_into, Rejection, Section, Value, ENTRY_LENGTH};
 
 /// The rule of a refusal; 0 for an answer.
 fn rule<T>(answer: Result<T, Rejection>) -> u32 {
@@ -64,8 +64,8 @@ fn sizes() {
 fn entries() {
     let image = case("a");
     let entries = section_entries(&image, 3).unwrap();
-    assert_eq!(entries[0].numbers(), [9, 22, 1, 4, 1736, 4, 1756, 4, 12]);
-    assert_eq!(entries[1].numbers(), [13, 23, 5, 5, 1820, 4, 1828, 4, 4]);
+    assert_eq!(entries[0].numbers(), [9, 22, 1, 4, 1736, 4, 1756, 4, 12, 0, 0]);
+    assert_eq!(entries[1].numbers(), [13, 23, 5, 5, 1820, 4, 1828, 4, 4, 0, 0]);
     assert_eq!(entries.len(), 2);
     for node in [0, 2, 4, 9].into_iter().chain(NO_NODES) {
         assert_eq!(rule(section_entries(&image, node)), 40);
@@ -77,7 +77,7 @@ fn entries() {
 #[test]
 fn entries_into_memory() {
     let image = case("a");
-    let filling = Section::of_numbers(&[7; 9]);
+    let filling = Section::of_numbers(&[7; ENTRY_LENGTH]);
     let mut out = [filling; 3];
     assert_eq!(section_entries_into(&image, 3, &mut out), Ok(2));
     assert_eq!(out[..2], section_entries(&image, 3).unwrap());

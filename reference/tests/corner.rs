@@ -2,7 +2,9 @@
 
 use reference::cases::case;
 use reference::random::Random;
-use reference::{corner, corner_reads, corner_reads_into, element_corners, section_entries, CornerRead, Rejection};
+use reference::{
+    corner, corner_reads, corner_reads_into, element_corners, section_entries, CornerRead, Rejection, ENTRY_LENGTH,
+};
 
 /// The rule of a refusal; 0 for an answer.
 fn rule(answer: Result<i64, Rejection>) -> u32 {
@@ -61,7 +63,7 @@ fn a_list_of_reads() {
 #[test]
 fn a_list_of_reads_into_memory() {
     let image = case("a");
-    let mut entries = [[170; 9]; 4];
+    let mut entries = [[170; ENTRY_LENGTH]; 4];
     for (k, entry) in section_entries(&image, 3).unwrap().iter().enumerate() {
         entries[k] = entry.numbers();
     }
@@ -88,7 +90,7 @@ fn bytes() -> Vec<u8> {
 
 #[test]
 fn starts_and_ends() {
-    let entry = [0, 22, 1, 5, 0, 4, 24, 4, 4];
+    let entry = [0, 22, 1, 5, 0, 4, 24, 4, 4, 0, 0];
     assert_eq!(corner(&bytes(), &entry, 1, 2), Ok(20));
     assert_eq!(rule(corner(&bytes(), &entry, 1, 3)), 42);
     for element in 2..=5 {
@@ -101,7 +103,7 @@ fn starts_and_ends() {
 
 #[test]
 fn fixed_types_need_no_offsets() {
-    let entry = [0, 3, 8, 9, u64::MAX, 77, 24, 4, 4];
+    let entry = [0, 3, 8, 9, u64::MAX, 77, 24, 4, 4, 0, 0];
     assert_eq!(corner(&bytes(), &entry, 8, 1), Ok(10));
     assert_eq!(corner(&bytes(), &entry, 9, 2), Ok(40));
     assert_eq!(rule(corner(&bytes(), &entry, 9, 3)), 42);
@@ -112,7 +114,7 @@ fn fixed_types_need_no_offsets() {
 
 #[test]
 fn unreadable_entries() {
-    let entry = [0, 22, 1, 1, 0, 4, 24, 4, 4];
+    let entry = [0, 22, 1, 1, 0, 4, 24, 4, 4, 0, 0];
     for (place, number) in [(1, 24), (1, 0), (1, u64::MAX), (5, 0), (5, 3), (5, 16), (7, 0), (7, 5), (7, u64::MAX)] {
         let mut other = entry;
         other[place] = number;
@@ -133,7 +135,7 @@ fn any_numbers_end_properly() {
     let ends = [0, 1, 4, 8, 22, 23, 1844, 1 << 32, (1 << 61) - 1, 1 << 61, 1 << 63, u64::MAX - 1, u64::MAX];
     let mut random = Random::new(5, 5);
     for _ in 0..200_000 {
-        let mut entry = [0; 9];
+        let mut entry = [0; ENTRY_LENGTH];
         for number in entry.iter_mut() {
             *number = *random.pick(&ends);
         }
@@ -146,10 +148,10 @@ fn any_numbers_end_properly() {
 
 #[test]
 fn products_do_not_wrap() {
-    let mut entry = [0, 17, 0, u64::MAX, 0, 0, 0, 8, 1 << 61];
+    let mut entry = [0, 17, 0, u64::MAX, 0, 0, 0, 8, 1 << 61, 0, 0];
     assert_eq!(rule(corner(&bytes(), &entry, 1 << 61, 1)), 43);
-    entry = [0, 22, 0, u64::MAX, 0, 8, 0, 8, 4];
+    entry = [0, 22, 0, u64::MAX, 0, 8, 0, 8, 4, 0, 0];
     assert_eq!(rule(corner(&bytes(), &entry, 1 << 61, 1)), 43);
-    entry = [0, 22, 0, u64::MAX, u64::MAX, u64::MAX, 0, 8, 4];
+    entry = [0, 22, 0, u64::MAX, u64::MAX, u64::MAX, 0, 8, 4, 0, 0];
     assert_eq!(rule(corner(&bytes(), &entry, u64::MAX, 1)), 43);
 }

@@ -4,8 +4,8 @@
 use std::collections::BTreeMap;
 
 use reference::build::Image;
-use reference::damage::{flat_case, mixed_case, name_case, point_case, reference_case, Answer, DAMAGES};
-use reference::damage::{FLAT_CASES, MIXED_CASES, NAME_CASES, POINT_CASES, REFERENCE_CASES};
+use reference::damage::{flat_case, mixed_case, name_case, parent_case, point_case, reference_case, Answer, DAMAGES};
+use reference::damage::{FLAT_CASES, MIXED_CASES, NAME_CASES, PARENT_CASES, POINT_CASES, REFERENCE_CASES};
 use reference::elements::{shape_of, Shape};
 use reference::generate::{image, Summary};
 use reference::lawful::{lawful, SizeClass};
@@ -78,15 +78,18 @@ fn cases_of_mixed_sections_are_answered_as_they_say() {
     check_cases(&MIXED_CASES.map(|case| case.0), 3, mixed_case);
 }
 
-#[test]
-fn cases_of_references_are_answered_as_they_say() {
+/// A case of a class.
+type ClassCase = fn(&mut Image, &mut Random, SizeClass, usize) -> Option<Answer>;
+
+/// The same in small and in medium images, for cases that depend on the class.
+fn check_class_cases(names: &[&str], case: ClassCase) {
     for class in [SizeClass::Small, SizeClass::Medium] {
-        for (number, (name, ..)) in REFERENCE_CASES.iter().enumerate() {
+        for (number, name) in names.iter().enumerate() {
             let mut made = 0;
-            for index in 0..if class == SizeClass::Small { 100 } else { 10 } {
+            for index in 0..if class == SizeClass::Small { 100 } else { 20 } {
                 let mut random = Random::new(number as u64, index);
                 let mut image = lawful(&mut random, class);
-                if let Some(answer) = reference_case(&mut image, &mut random, class, number) {
+                if let Some(answer) = case(&mut image, &mut random, class, number) {
                     let verdict = validate(&image.to_bytes());
                     assert!(answer.is(&verdict), "{name}, {index}: {answer:?} {verdict:?}");
                     made += 1;
@@ -95,6 +98,16 @@ fn cases_of_references_are_answered_as_they_say() {
             assert!(made > 5, "{name}: {made}");
         }
     }
+}
+
+#[test]
+fn cases_of_references_are_answered_as_they_say() {
+    check_class_cases(&REFERENCE_CASES.map(|case| case.0), reference_case);
+}
+
+#[test]
+fn cases_of_parents_are_answered_as_they_say() {
+    check_class_cases(&PARENT_CASES.map(|case| case.0), parent_case);
 }
 
 #[test]
@@ -157,7 +170,7 @@ fn sizes_of_arrays_beside_points_are_asked_for() {
 
 /// Shows every section of faces or cells of some lawful images, with its image and zone.
 fn lawful_sections(mut see: impl FnMut(&[u8], u64, &Section)) {
-    for index in 0..2_000 {
+    for index in 0..3_000 {
         let image = lawful(&mut Random::new(33, index), SizeClass::Small).to_bytes();
         for zone in 0..check_table(&image).unwrap() {
             let entries = section_entries(&image, zone).unwrap_or_default();

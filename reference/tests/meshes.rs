@@ -2,11 +2,11 @@
 
 use reference::mesh::mesh;
 use reference::samples::samples;
-use reference::{array_value, corner, element_type, face_usage, section_entries, validate, Value};
+use reference::{array_value, corner, element_type, face_usage, section_entries, validate, Value, ENTRY_LENGTH};
 
 #[test]
 fn meshes_are_lawful() {
-    for kind in ["poly", "hex", "mixed", "zones"] {
+    for kind in ["poly", "parents", "hex", "mixed", "zones"] {
         for n in [1, 2, 5] {
             for width in [4, 8] {
                 assert!(mesh(kind, n, width).is_ok(), "{kind} {n} {width}");
@@ -18,6 +18,8 @@ fn meshes_are_lawful() {
 #[test]
 fn limits_are_kept() {
     assert!(mesh("poly", 52, 4).is_ok_and(|image| image.len() > 16_000_000));
+    assert!(mesh("parents", 52, 4).is_ok_and(|image| image.len() == 15_977_124));
+    assert!(mesh("parents", 53, 4).is_err());
     assert!(mesh("mixed", 61, 4).is_ok_and(|image| image.len() > 16_000_000));
     assert!(mesh("mixed", 52, 8).is_ok_and(|image| image.len() > 16_000_000));
     assert!(mesh("mixed", 62, 4).is_err());
@@ -41,7 +43,7 @@ fn inner_faces_are_used_from_both_sides() {
 }
 
 /// The corners of an element of the only section of a mesh as points; the coordinates are nodes 6 to 8.
-fn points(image: &[u8], section: &[u64; 9], element: u64) -> Vec<[f64; 3]> {
+fn points(image: &[u8], section: &[u64; ENTRY_LENGTH], element: u64) -> Vec<[f64; 3]> {
     let coordinate = |array, vertex| match array_value(image, array, vertex) {
         Ok(Value::Double(bits)) => f64::from_bits(bits),
         other => panic!("{other:?}"),

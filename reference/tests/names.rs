@@ -271,8 +271,8 @@ fn check_run(seed: u64, count: u64, class: SizeClass) -> Vec<u32> {
 
 #[test]
 fn generated_images() {
-    let rules: Vec<u32> = (1..=38).filter(|rule| ![19, 22].contains(rule)).collect();
-    assert_eq!(check_run(11, 1_200, SizeClass::Small), rules);
-    assert_eq!(check_run(12, 240, SizeClass::Medium), rules);
-    check_run(13, 240, SizeClass::Large);
+    let rules: Vec<u32> = (1..=39).filter(|rule| ![19, 22].contains(rule)).collect();
+    assert_eq!(check_run(11, 1_320, SizeClass::Small), rules);
+    assert_eq!(check_run(12, 264, SizeClass::Medium), rules);
+    check_run(13, 264, SizeClass::Large);
 }

@@ -8,13 +8,15 @@ ghost use mir.Val.{ofZ};
 ghost use Rattle.model.specs.Lists.{over};
 ghost use Rattle.model.specs.Bytes.{leBytes, allBytes};
 ghost use Rattle.model.specs.ReadList.{ruleOf};
-ghost use Rattle.model.specs.Answers.{validationTells, countTells, usageTells, cornerTells, valueTells, dataSizeTells, NanCases};
-ghost use Rattle.model.specs.Exports.{validationWords, countWords, usageWords, valueWords, sizeWords, numberBytes, countWord};
+ghost use Rattle.model.specs.Answers.{validationTells, countTells, usageTells, parentsTells, agreementTells, cornerTells, valueTells, dataSizeTells, NanCases};
+ghost use Rattle.model.specs.Exports.{validationWords, countWords, usageWords, parentWords, agreementWords, valueWords, sizeWords, numberBytes, countWord};
+use model::Agreement;
 use model::ArrayValue;
 use model::Corner;
 use model::Count;
 use model::DataSize;
 use model::FaceUsage;
+use model::ParentPair;
 use model::Rejection;
 use model::Validation;
 
@@ -105,6 +107,26 @@ pub fn usage_answer(u: FaceUsage) -> ExportAnswer
     match u {
         FaceUsage::Faces(n) => answered(0, n, 0, 0),
         FaceUsage::Rejected(r) => rejected(r, r.element),
+    }
+}
+
+// The parents of a face: node, entry, first, second.
+pub fn parents_answer(p: ParentPair) -> ExportAnswer
+    ensures { λ r. ⌜ (r .rule ≡ ruleOf (parentsTells p)) × (take 4 (r .words) ≡ parentWords (parentsTells p)) ⌝ }
+{
+    match p {
+        ParentPair::Of { first, second } => answered(first, second, 0, 0),
+        ParentPair::Rejected(r) => rejected(r, 0),
+    }
+}
+
+// Agreement: node, entry, element, then 1 where the parents agree and 0 where they do not.
+pub fn agreement_answer(a: Agreement) -> ExportAnswer
+    ensures { λ r. ⌜ (r .rule ≡ ruleOf (agreementTells a)) × (take 4 (r .words) ≡ agreementWords (agreementTells a)) ⌝ }
+{
+    match a {
+        Agreement::Agrees(y) => answered(0, y as u64, 0, 0),
+        Agreement::Rejected(r) => rejected(r, r.element),
     }
 }
 

@@ -22,6 +22,8 @@ fn blank() -> Section {
         connectivity_at: 170,
         connectivity_width: 170,
         connectivity_length: 170,
+        parents_at: 170,
+        parents_width: 170,
     }
 }
 

@@ -1,14 +1,15 @@
 // Answers calls on images, both from standard input: a line a call, in the independent program's words.
-// The input is 64-bit words: of each image its length and the number of calls, then its bytes, then twelve words a call.
+// The input is 64-bit words: of each image its length and the number of calls, then its bytes, then fourteen words a call.
 
 mod lists;
 mod print;
 
+use entries::ENTRY_LENGTH;
 use model::Section;
 
 // Word k of a call: its number, then its arguments.
-fn word(call: &[u8; 96], k: usize) -> u64 {
-    if k < 12 {
+fn word(call: &[u8; 112], k: usize) -> u64 {
+    if k < 14 {
         return words::u64_at(call, 8 * k);
     }
     0
@@ -52,6 +53,21 @@ fn usage_into(image: &[u8], zone: u64, room: u64) {
     memory(&out, room as usize);
 }
 
+// Whether parents agree, with the first n bytes of a buffer lent.
+fn agreement_on(image: &[u8], zone: u64, out: &mut [u8], n: usize) {
+    if out.len() < n {
+        return;
+    }
+    print::agreement(faces::parents_agree(image, zone, &mut out[..n]));
+}
+
+// Whether parents agree, with room for so many bytes, each 170 before; the memory afterwards.
+fn agreement_into(image: &[u8], zone: u64, room: u64) {
+    let mut out = [170u8; 1024];
+    agreement_on(image, zone, &mut out, room as usize);
+    memory(&out, room as usize);
+}
+
 // The section entries with the first n numbers of a buffer lent.
 fn entries_on(image: &[u8], zone: u64, out: &mut [u64], n: usize) {
     if out.len() < n {
@@ -73,17 +89,17 @@ fn numbers(word: &[u8], out: &[u64], n: usize) {
 
 // The section entries with room for so many, each number 170 before; the memory afterwards.
 fn entries_into(image: &[u8], zone: u64, room: u64) {
-    let mut out = [170u64; 144];
+    let mut out = [170u64; 176];
     if 16 < room {
         return;
     }
-    let n = 9 * room as usize;
+    let n = ENTRY_LENGTH * room as usize;
     entries_on(image, zone, &mut out, n);
     numbers(b" room", &out, n);
 }
 
 // The entry that a call names.
-fn entry(call: &[u8; 96]) -> Section {
+fn entry(call: &[u8; 112]) -> Section {
     Section {
         node: word(call, 1),
         element_type: word(call, 2),
@@ -94,6 +110,8 @@ fn entry(call: &[u8; 96]) -> Section {
         connectivity_at: word(call, 7),
         connectivity_width: word(call, 8),
         connectivity_length: word(call, 9),
+        parents_at: word(call, 10),
+        parents_width: word(call, 11),
     }
 }
 
@@ -106,7 +124,7 @@ fn signed_numbers(out: &[i64], n: usize) {
 }
 
 // The reads that a call names, three words each.
-fn reads_of(call: &[u8; 96]) -> [u64; 9] {
+fn reads_of(call: &[u8; 112]) -> [u64; 9] {
     let mut reads = [0u64; 9];
     let mut k = 0;
     while k < 9 {
@@ -147,8 +165,8 @@ fn reads_with(image: &[u8], entries: &[u64], reads: &[u64], n: usize) {
 }
 
 // The reads of a list with the entries of a zone, in a buffer whose numbers were 170 before.
-fn reads_into(image: &[u8], zone: u64, room: u64, call: &[u8; 96]) {
-    let mut entries = [170u64; 144];
+fn reads_into(image: &[u8], zone: u64, room: u64, call: &[u8; 112]) {
+    let mut entries = [170u64; 176];
     let reads = reads_of(call);
     sections::section_entries(image, zone, &mut entries);
     reads_with(image, &entries, &reads, room as usize);
@@ -174,9 +192,9 @@ fn element_into(image: &[u8], section: Section, element: u64, room: u64) {
 
 // Answers one call on an image, and says whether there was one.
 fn one_call(image: &[u8]) -> bool {
-    let mut call = [0u8; 96];
+    let mut call = [0u8; 112];
     let got = io::read_full(0, &mut call);
-    if got < 96 {
+    if got < 112 {
         return false;
     }
     let kind = word(&call, 0);
@@ -199,7 +217,7 @@ fn one_call(image: &[u8]) -> bool {
     }
     if kind == 6 {
         let section = entry(&call);
-        print::corner(corners::corner(image, section, word(&call, 10), word(&call, 11)));
+        print::corner(corners::corner(image, section, word(&call, 12), word(&call, 13)));
     }
     if kind == 7 {
         print::value(array_values::array_value(image, node, number));
@@ -215,7 +233,7 @@ fn one_call(image: &[u8]) -> bool {
     }
     if kind == 11 {
         let section = entry(&call);
-        element_into(image, section, word(&call, 10), word(&call, 11));
+        element_into(image, section, word(&call, 12), word(&call, 13));
     }
     if kind == 12 {
         print::count(table::name_bytes(image), b"bytes ");
@@ -223,9 +241,15 @@ fn one_call(image: &[u8]) -> bool {
     if kind == 13 {
         let section = entry(&call);
         print::count(
-            corners::element_type(image, section, word(&call, 10)),
+            corners::element_type(image, section, word(&call, 12)),
             b"type ",
         );
+    }
+    if kind == 14 {
+        print::parents(faces::parents(image, node, number));
+    }
+    if kind == 15 {
+        agreement_into(image, node, number);
     }
     io::write_all(1, b"\n");
     true
@@ -259,7 +283,7 @@ fn image_in(buffer: &[u8], n: usize, calls: u64) -> bool {
 
 // Reads an image and answers the calls on it; says whether there was one.
 fn one_image() -> bool {
-    let mut head = [0u8; 96];
+    let mut head = [0u8; 112];
     let got = io::read_full(0, &mut head[..16]);
     if got < 16 {
         return false;

@@ -1,10 +1,12 @@
 // Answers as lines of text, in the independent program's words.
 ghost use Rattle.model.specs.Answers.{NanCases};
+use model::Agreement;
 use model::ArrayValue;
 use model::Corner;
 use model::Count;
 use model::DataSize;
 use model::FaceUsage;
+use model::ParentPair;
 use model::Rejection;
 use model::Section;
 use model::Table;
@@ -125,7 +127,7 @@ fn each_number(out: &[u64]) {
     }
 }
 
-// The nine numbers of an entry.
+// The eleven numbers of an entry.
 pub fn section(s: Section) {
     pair(b" ", s.node);
     pair(b" ", s.element_type);
@@ -136,6 +138,8 @@ pub fn section(s: Section) {
     pair(b" ", s.connectivity_at);
     pair(b" ", s.connectivity_width);
     pair(b" ", s.connectivity_length);
+    pair(b" ", s.parents_at);
+    pair(b" ", s.parents_width);
 }
 
 // The signed numbers of lent memory, after `room`.
@@ -214,6 +218,29 @@ pub fn usage(u: FaceUsage) {
             pair(b"usage ", n);
         }
         FaceUsage::Rejected(r) => {
+            refusal(r);
+        }
+    }
+}
+
+pub fn parents(p: ParentPair) {
+    match p {
+        ParentPair::Of { first, second } => {
+            pair(b"parents ", first);
+            pair(b" ", second);
+        }
+        ParentPair::Rejected(r) => {
+            refusal(r);
+        }
+    }
+}
+
+pub fn agreement(a: Agreement) {
+    match a {
+        Agreement::Agrees(y) => {
+            pair(b"agrees ", y as u64);
+        }
+        Agreement::Rejected(r) => {
             refusal(r);
         }
     }

@@ -9,9 +9,9 @@ ghost use Rattle.model.specs.Exports.{sectionSize, sectionIn};
 use model::Section;
 
 // How many numbers an entry has, and how many bytes as 64-bit words.
-pub const ENTRY_LENGTH: usize = 9;
+pub const ENTRY_LENGTH: usize = 11;
 
-pub const ENTRY_BYTES: usize = 72;
+pub const ENTRY_BYTES: usize = 88;
 
 // Writes the numbers of an entry to `out` from k on; the rest stays.
 pub fn put_entry(out: &mut [u64], k: usize, e: Section)
@@ -27,6 +27,8 @@ pub fn put_entry(out: &mut [u64], k: usize, e: Section)
     out[k + 6] = e.connectivity_at;
     out[k + 7] = e.connectivity_width;
     out[k + 8] = e.connectivity_length;
+    out[k + 9] = e.parents_at;
+    out[k + 10] = e.parents_width;
 }
 
 // The k-th entry of a list.
@@ -45,6 +47,8 @@ pub fn section_at(entries: &[u64], k: usize) -> Section
         connectivity_at: entries[i + 6],
         connectivity_width: entries[i + 7],
         connectivity_length: entries[i + 8],
+        parents_at: entries[i + 9],
+        parents_width: entries[i + 10],
     }
 }
 
@@ -63,5 +67,7 @@ pub fn section_in(s: &[u8]) -> Section
         connectivity_at: words::u64_at(s, 48),
         connectivity_width: words::u64_at(s, 56),
         connectivity_length: words::u64_at(s, 64),
+        parents_at: words::u64_at(s, 72),
+        parents_width: words::u64_at(s, 80),
     }
 }

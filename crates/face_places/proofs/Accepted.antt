@@ -13,7 +13,7 @@ use Rattle.model.specs.Given.{Accepted}
 use Rattle.model.specs.Containment.{sectionOf, found, Elements, IndexRange}
 use Rattle.model.specs.Values.{sidsRules, typeLawful, valueLawful, rangeOf}
 use Rattle.model.specs.Elements.{NGON, NFACE, elementType, firstElement, lastElement, elementCount, inRange, connectivityLength}
-use Rattle.model.specs.Elements.{conformingSection, faceSection, hasFace, faceOf, faceNumber}
+use Rattle.model.specs.Elements.{conformingSection, faceSection, hasFace, faceOf, sectionWithFace, faceNumber}
 use Rattle.model.specs.FaceUsage.{facesIn, faceCount, facePlace}
 use Rattle.model.proofs.Logic.{untrue, and-first, and-second, and-both}
 use Rattle.model.proofs.Walks.{some-at, seek-holds, seek-before, sum-part}
@@ -145,7 +145,9 @@ module _ {b : List ℕ} (a : Accepted b) (z : ℕ) where
     unfolding hasFace
     face-holds = and-first (faceSection (treeOf b) z s) _ e
 
-  found-is : (s f : ℕ) → s < nodeCount b → hasFace (treeOf b) z f s ≡ true → seekFrom (hasFace (treeOf b) z f) (nodeCount b) 0 ≡ s
+  -- one section has it
+  pub found-is : (s f : ℕ) → s < nodeCount b → hasFace (treeOf b) z f s ≡ true → sectionWithFace (treeOf b) z f ≡ s
+  unfolding sectionWithFace treeOf
   found-is s f h e =
       let q = seekFrom (hasFace (treeOf b) z f) (nodeCount b) 0 in
       let l = seek-before (hasFace (treeOf b) z f) (nodeCount b) 0 s e (omega arith) (omega arith) in

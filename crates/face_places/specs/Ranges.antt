@@ -22,5 +22,6 @@ pub record Begins (t : Tree) (z i first place : ℕ) : Type 0 where
 pub record Ranges (t : Tree) (z i : ℕ) (firsts reach places : List ℕ) (n : ℕ) : Type 0 where
   pub gathered : Gathered (faceSection t z) (firstElement t) (lastElement t) firsts reach n i
   pub begins : (j : ℕ) → j < n → Begins t z i (getD firsts j 0) (getD places j 0)
+  pub distinct : (j k : ℕ) → j < n → k < n → getD firsts j 0 ≡ getD firsts k 0 → j ≡ k
   pub total : getD places n 0 ≡ sumBefore (facesIn t z) i
   pub room : n < length places

@@ -1,4 +1,3 @@
-pub mod Arrays
-pub mod Runs
 pub mod Whole
 pub mod Checks
+pub mod Agreement

@@ -20,7 +20,7 @@ use Rattle.model.specs.FaceUsage.{faceCount, facePlace, unused, elementHolding,
 use Rattle.model.proofs.Logic.{and-first}
 use Rattle.model.proofs.Passed.{refused, into-value}
 use Rattle.model.proofs.Conforming.{section-is}
-use Rattle.faces.specs.Uses.{used, Used}
+use Rattle.face_uses.specs.Uses.{used, Used}
 use Rattle.face_places.proofs.Accepted.{place-below, cells-faces}
 
 -- bytes behind those that a run left
@@ -114,7 +114,7 @@ module _ {b : List ℕ} (a : Accepted b) (z : ℕ) where
           (place-below a z (faceNumber (treeOf b) s k) (cells-faces a z s l e k m))
       by-test false e m = absurd (omega arith)
 
-  usage-long : {zs : List ℕ} → usage (treeOf b) z ≡ answer zs → length zs ≡ F
+  pub usage-long : {zs : List ℕ} → usage (treeOf b) z ≡ answer zs → length zs ≡ F
   unfolding usage
   usage-long e = nodes-long (treeOf b) z _ 0 _ e ∙ length-replicate F 0
 

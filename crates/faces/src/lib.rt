@@ -1,4 +1,5 @@
-// Face usage of a zone (document 01: the face ledger): how often, and with which sign, cells refer to each face.
+// The faces of a zone. Face usage (document 01: the face ledger): how often, and with which sign, cells refer to each face. The parents of a face, as its
+// section stores them, and whether they agree with the cells.
 ghost use mathlib.Core.Path.{_≡_};
 ghost use Prim.Native.Nat.{_≤_};
 ghost use lib.ListN.{length};
@@ -8,13 +9,15 @@ ghost use Rattle.model.specs.FaceUsage.{usageAnswer, usageMemory};
 ghost use Rattle.model.specs.Validation.{imageCheck};
 ghost use Rattle.index.specs.Index.{Index};
 
-mod cells; // cells.rt: the references of the zone's cells
-mod uses; // uses.rt: the references, one after the other
+mod parent_calls; // parent_calls.rt: the parents of a face, and whether they agree with the cells
 mod zone; // zone.rt: a zone's usage
+mod zone_agreement; // zone_agreement.rt: whether a zone's parents agree with its cells
 
 use model::FaceUsage;
 use model::Rejection;
 use model::Stage;
+pub use parent_calls::parents;
+pub use parent_calls::parents_agree;
 
 // The usage of a zone's faces after the image's check: its rejection, then 40, 44, 45, or F with the first F bytes written. Bytes after them never
 // change; on 45 the first F are 0, and every other rejection leaves them all.

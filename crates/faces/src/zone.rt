@@ -11,10 +11,12 @@ ghost use Rattle.model.specs.Given.{Accepted};
 ghost use Rattle.model.specs.Containment.{isZone};
 ghost use Rattle.model.specs.FaceUsage.{faceCount, usage, usageBytes, usageAnswer, usageMemory};
 ghost use Rattle.index.specs.Index.{Index};
-ghost use Rattle.faces.specs.Uses.{Tables};
-use super::uses::Faces;
-use super::uses::use_nodes;
+ghost use Rattle.face_uses.specs.Uses.{Tables};
+use agreement::zone_agrees;
 use face_places::places::gather;
+use face_uses::uses::Faces;
+use face_uses::uses::use_nodes;
+use model::Agreement;
 use model::FaceUsage;
 use model::Rejection;
 use model::Stage;
@@ -23,7 +25,7 @@ use ranges::search_tree::SearchTree;
 use usage_bytes::clear;
 
 // Writes the usage of the zone's faces, whose ranges are at hand, into the first F bytes: 45, and F zeros, where one is used twice with one sign.
-fn fill(
+pub fn fill(
     image: &[u8],
     index: &[u16],
     faces: Faces,

@@ -1,6 +1,7 @@
 -- Laws of answers in lent bytes: how many words there are, and what is written where there is room or none.
 use Prim.Native.Nat.{ℕ, _*_, _≤_, _<_}
 use mathlib.Core.Path.{_≡_, refl, ap, _∙_}
+use mathlib.Core.Bool.{Bool}
 use mathlib.Core.List.{List}
 use lib.ListN.{length}
 use borrow.Author.Tests.{le-leb, lt-leb}
@@ -9,9 +10,10 @@ use Rattle.model.specs.Bytes.{allBytes}
 use Rattle.model.specs.Rules.{Answer, rejected, answer, check, _then_, leaves}
 use Rattle.model.specs.Validation.{Counts}
 use Rattle.model.specs.DataSize.{Sizes}
+use Rattle.model.specs.ParentElements.{FaceParents}
 use Rattle.model.specs.ArrayValue.{Value, whole, single, double}
 use Rattle.model.specs.ReadList.{ruleOf}
-use Rattle.model.specs.Exports.{validationWords, countWords, usageWords, valueWords, sizeWords, wordsFit, exportRule, exportBytes, exportMemory}
+use Rattle.model.specs.Exports.{validationWords, countWords, usageWords, parentWords, agreementWords, valueWords, sizeWords, wordsFit, exportRule, exportBytes, exportMemory}
 
 -- how many words an answer has
 pub validation-six : (a : Answer Counts) → length (validationWords a) ≡ 6
@@ -28,6 +30,16 @@ pub usage-four : (a : Answer ℕ) → length (usageWords a) ≡ 4
 unfolding usageWords
 usage-four (rejected r) = refl
 usage-four (answer n) = refl
+
+pub parents-four : (a : Answer FaceParents) → length (parentWords a) ≡ 4
+unfolding parentWords
+parents-four (rejected r) = refl
+parents-four (answer p) = refl
+
+pub agreement-four : (a : Answer Bool) → length (agreementWords a) ≡ 4
+unfolding agreementWords
+agreement-four (rejected r) = refl
+agreement-four (answer y) = refl
 
 pub value-four : (a : Answer Value) → length (valueWords a) ≡ 4
 unfolding valueWords

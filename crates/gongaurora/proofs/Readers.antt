@@ -29,11 +29,11 @@ module _ (n : ℕ) (section out : List ℕ) where
   fits h l = rw (le-leb n (length section) h, le-leb 8 (length out) l)
 
 module _ (b section : List ℕ) (element corner : ℕ) (number : List ℕ) where
-  pub corner-short : readFits 72 section number ≡ rejected (rejection 46 0) → CornerExport b section element corner number 46 b section number
+  pub corner-short : readFits 88 section number ≡ rejected (rejection 46 0) → CornerExport b section element corner number 46 b section number
   unfolding cornerExported numberBytes ruleOf _then_
   corner-short e = record { rule-is = rw e; number-is = rw e; image-kept = refl; section-kept = refl }
 
-  pub corner-long : {r : ℕ} {number′ : List ℕ} {a : Answer ℤ} → readFits 72 section number ≡ passed → a ≡ cornerAnswer b (sectionIn section) element corner
+  pub corner-long : {r : ℕ} {number′ : List ℕ} {a : Answer ℤ} → readFits 88 section number ≡ passed → a ≡ cornerAnswer b (sectionIn section) element corner
       → r ≡ ruleOf a → number′ ≡ numberBytes a number → CornerExport b section element corner number r b section number′
   unfolding cornerExported _then_
   corner-long e q p n = record { rule-is = p ∙ rw (e, q); number-is = n ∙ rw (e, q); image-kept = refl; section-kept = refl }
@@ -42,25 +42,25 @@ module _ (b section : List ℕ) (element corner : ℕ) (number : List ℕ) where
 module _ (section out : List ℕ) (told : Answer ℕ) where
   abbrev Counted : ℕ → List ℕ → Type 0
   Counted r out′ =
-      (r ≡ ruleOf (readFits 9 section out then told))
-      × (out′ ≡ leaves (readFits 9 section out) out (over out (leBytes 8 (countWord (readFits 9 section out then told)))))
+      (r ≡ ruleOf (readFits 11 section out then told))
+      × (out′ ≡ leaves (readFits 11 section out) out (over out (leBytes 8 (countWord (readFits 11 section out then told)))))
 
-  count-short : readFits 9 section out ≡ rejected (rejection 46 0) → Counted 46 out
+  count-short : readFits 11 section out ≡ rejected (rejection 46 0) → Counted 46 out
   unfolding ruleOf leaves _then_
   count-short e = (rw e, rw e)
 
-  count-long : {r : ℕ} {out′ : List ℕ} → readFits 9 section out ≡ passed → r ≡ ruleOf told → out′ ≡ over out (leBytes 8 (countWord told)) → Counted r out′
+  count-long : {r : ℕ} {out′ : List ℕ} → readFits 11 section out ≡ passed → r ≡ ruleOf told → out′ ≡ over out (leBytes 8 (countWord told)) → Counted r out′
   unfolding leaves _then_
   count-long e p n = (p ∙ rw e, n ∙ rw e)
 
 module _ (b section : List ℕ) (element : ℕ) (out : List ℤ) (size : List ℕ) where
-  pub element-short : readFits 9 section size ≡ rejected (rejection 46 0) → ElementExport b section element out size 46 b section out size
+  pub element-short : readFits 11 section size ≡ rejected (rejection 46 0) → ElementExport b section element out size 46 b section out size
   unfolding elementExported leaves
   element-short e =
       let s = count-short section size (elementCornersAnswer b (sectionAt section 0) element (length out)) e in
       record { rule-is = s .0; out-is = rw e; size-is = s .1; image-kept = refl; section-kept = refl }
 
-  pub element-long : {r : ℕ} {out′ : List ℤ} {size′ : List ℕ} {a : Answer ℕ} → readFits 9 section size ≡ passed
+  pub element-long : {r : ℕ} {out′ : List ℤ} {size′ : List ℕ} {a : Answer ℕ} → readFits 11 section size ≡ passed
       → a ≡ elementCornersAnswer b (sectionAt section 0) element (length out) → out′ ≡ elementCornersMemory b (sectionAt section 0) element out
       → r ≡ ruleOf a → size′ ≡ over size (leBytes 8 (countWord a)) → ElementExport b section element out size r b section out′ size′
   unfolding elementExported leaves
@@ -69,13 +69,13 @@ module _ (b section : List ℕ) (element : ℕ) (out : List ℤ) (size : List �
       record { rule-is = s .0; out-is = m ∙ rw e; size-is = s .1; image-kept = refl; section-kept = refl }
 
 module _ (b section : List ℕ) (element : ℕ) (out : List ℕ) where
-  pub type-short : readFits 9 section out ≡ rejected (rejection 46 0) → TypeExport b section element out 46 b section out
+  pub type-short : readFits 11 section out ≡ rejected (rejection 46 0) → TypeExport b section element out 46 b section out
   unfolding typeExported
   type-short e =
       let s = count-short section out (ownTypeAnswer b (sectionAt section 0) element) e in
       record { rule-is = s .0; type-is = s .1; image-kept = refl; section-kept = refl }
 
-  pub type-long : {r : ℕ} {out′ : List ℕ} {a : Answer ℕ} → readFits 9 section out ≡ passed → a ≡ ownTypeAnswer b (sectionAt section 0) element
+  pub type-long : {r : ℕ} {out′ : List ℕ} {a : Answer ℕ} → readFits 11 section out ≡ passed → a ≡ ownTypeAnswer b (sectionAt section 0) element
       → r ≡ ruleOf a → out′ ≡ over out (leBytes 8 (countWord a)) → TypeExport b section element out r b section out′
   unfolding typeExported
   type-long e q p n =

@@ -6,13 +6,16 @@ ghost use lib.ListN.{length};
 ghost use Rattle.model.specs.Validation.{validation};
 ghost use Rattle.model.specs.Sections.{sectionsAnswer, sectionNumbersMemory};
 ghost use Rattle.model.specs.FaceUsage.{usageAnswer, usageMemory};
+ghost use Rattle.model.specs.ParentElements.{parentsAnswer, agreementAnswer, agreementMemory};
 ghost use Rattle.model.specs.NameBytes.{nameBytesAnswer};
 ghost use Rattle.model.specs.Path.{pathAnswer, pathMemory};
 ghost use Rattle.model.specs.ArrayValue.{valueAnswer};
 ghost use Rattle.model.specs.DataSize.{dataSizeAnswer};
-ghost use Rattle.model.specs.Exports.{validationWords, countWords, usageWords, valueWords, sizeWords};
+ghost use Rattle.model.specs.Exports.{validationWords, countWords, usageWords, parentWords, agreementWords, valueWords, sizeWords};
 ghost use Rattle.model.specs.Exports.{exportRule, exportBytes, exportMemory, CornerExport, ElementExport, TypeExport};
+use answers::agreement_answer;
 use answers::count_answer;
+use answers::parents_answer;
 use answers::put_answer;
 use answers::put_corner;
 use answers::put_count;
@@ -27,6 +30,10 @@ const VALIDATION_WORDS: usize = 6;
 const SECTIONS_WORDS: usize = 3;
 
 const USAGE_WORDS: usize = 4;
+
+const PARENTS_WORDS: usize = 4;
+
+const AGREEMENT_WORDS: usize = 4;
 
 const PATH_WORDS: usize = 3;
 
@@ -134,9 +141,9 @@ pub extern "C" fn gongaurora_export_sections(
     out: &mut [u64],
     answer: &mut [u8],
 ) -> u64
-    ensures { λ r. ⌜ r ≡ exportRule 3 (now (answer .entry)) (sectionsAnswer (now (image .entry)) zone (length (now (out .entry)) / 9)) ⌝ }
+    ensures { λ r. ⌜ r ≡ exportRule 3 (now (answer .entry)) (sectionsAnswer (now (image .entry)) zone (length (now (out .entry)) / 11)) ⌝ }
     ensures { λ _. ⌜ now (answer .exit)
-        ≡ exportBytes (now (answer .entry)) (countWords (sectionsAnswer (now (image .entry)) zone (length (now (out .entry)) / 9))) ⌝ }
+        ≡ exportBytes (now (answer .entry)) (countWords (sectionsAnswer (now (image .entry)) zone (length (now (out .entry)) / 11))) ⌝ }
     ensures { λ _. ⌜ now (out .exit)
         ≡ exportMemory 3 (now (answer .entry)) (now (out .entry)) (sectionNumbersMemory (now (image .entry)) zone (now (out .entry))) ⌝ }
 {
@@ -169,6 +176,51 @@ pub extern "C" fn gongaurora_export_face_usage(
         answer,
         usage_answer(faces::face_usage(image, zone, out)),
         USAGE_WORDS,
+    )
+}
+
+// The parents of a face, as its section stores them. The answer, four words: node, entry, first, second.
+#[no_mangle]
+pub extern "C" fn gongaurora_export_parents(
+    image: &[u8],
+    zone: u64,
+    face: u64,
+    answer: &mut [u8],
+) -> u64
+    ensures { λ r. ⌜ r ≡ exportRule 4 (now (answer .entry)) (parentsAnswer (now (image .entry)) zone face) ⌝ }
+    ensures { λ _. ⌜ now (answer .exit) ≡ exportBytes (now (answer .entry)) (parentWords (parentsAnswer (now (image .entry)) zone face)) ⌝ }
+{
+    if answer.len() < 8 * PARENTS_WORDS {
+        return 46;
+    }
+    put_answer(
+        answer,
+        parents_answer(faces::parents(image, zone, face)),
+        PARENTS_WORDS,
+    )
+}
+
+// Whether the parents that a zone's face sections store agree with its cells; the usage of its faces, a byte each, in front of `out`. The answer, four
+// words: node, entry, element (of rule 45), then 1 where they agree and 0 where they do not.
+#[no_mangle]
+pub extern "C" fn gongaurora_export_parents_agree(
+    image: &[u8],
+    zone: u64,
+    out: &mut [u8],
+    answer: &mut [u8],
+) -> u64
+    ensures { λ r. ⌜ r ≡ exportRule 4 (now (answer .entry)) (agreementAnswer (now (image .entry)) zone (length (now (out .entry)))) ⌝ }
+    ensures { λ _. ⌜ now (answer .exit)
+        ≡ exportBytes (now (answer .entry)) (agreementWords (agreementAnswer (now (image .entry)) zone (length (now (out .entry))))) ⌝ }
+    ensures { λ _. ⌜ now (out .exit) ≡ exportMemory 4 (now (answer .entry)) (now (out .entry)) (agreementMemory (now (image .entry)) zone (now (out .entry))) ⌝ }
+{
+    if answer.len() < 8 * AGREEMENT_WORDS {
+        return 46;
+    }
+    put_answer(
+        answer,
+        agreement_answer(faces::parents_agree(image, zone, out)),
+        AGREEMENT_WORDS,
     )
 }
 

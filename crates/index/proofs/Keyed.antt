@@ -22,15 +22,15 @@ use Rattle.index.specs.Keys.{keyRoles, slotKeys, keyAt, keyRole, keyName
 every-slot : (p : ℕ → ℕ → Bool) → everyFrom (λ (a : ℕ). everyFrom (p a) 4 0) 16 0 ≡ true → (above k : ℕ) → above < 16 → k < 4 → p above k ≡ true
 every-slot p e above k h l = each (p above) 4 (each (λ (a : ℕ). everyFrom (p a) 4 0) 16 e above h) k l
 
-pub key-few : (above k : ℕ) → above < 16 → k < 4 → keyAt above k ≤ 9
+pub key-few : (above k : ℕ) → above < 16 → k < 4 → keyAt above k ≤ 10
 unfolding everyFrom keyAt row slotKeys
-key-few above k h l = leb-true (keyAt above k) 9 (every-slot (λ a i. leb (keyAt a i) 9) refl above k h l)
+key-few above k h l = leb-true (keyAt above k) 10 (every-slot (λ a i. leb (keyAt a i) 10) refl above k h l)
 
 -- a role that a node can have is that of a key
-pub some-key : (key : ℕ) {r : ℕ} → key ≤ 9 → getD keyRoles key 16 ≡ r → r < 16 → key < 9
+pub some-key : (key : ℕ) {r : ℕ} → key ≤ 10 → getD keyRoles key 16 ≡ r → r < 16 → key < 10
 unfolding keyRoles
 some-key key h e l =
-    elim (ℕ-discrete key 9) [
+    elim (ℕ-discrete key 10) [
       | yes q ↦ absurd (let f : _≡_ {A = ℕ} 16 _ = rw q at e in omega arith)
       | no z ↦ omega (arith, z)
     ]

@@ -13,7 +13,7 @@ use Rattle.labels.specs.Padded.{knownNames}
 
 -- the keys are known names, by their place, with a role each; no node has the role 16
 unfoldable pub keyRoles : List ℕ
-keyRoles = 16 ∷ ZoneType ∷ Rind ∷ GridLocation ∷ IndexRange ∷ DataArray ∷ DataArray ∷ IndexRange ∷ IndexArray ∷ []
+keyRoles = 16 ∷ ZoneType ∷ Rind ∷ GridLocation ∷ IndexRange ∷ DataArray ∷ DataArray ∷ IndexRange ∷ IndexArray ∷ DataArray ∷ []
 
 -- the keys of a node's slots, by what it is validated as
 unfoldable pub slotKeys : List (Row (List ℕ))
@@ -21,12 +21,12 @@ slotKeys =
     Zone has (1 ∷ [])
     ∷ GridCoordinates has (2 ∷ [])
     ∷ FlowSolution has (2 ∷ 3 ∷ 7 ∷ 8 ∷ [])
-    ∷ Elements has (4 ∷ 5 ∷ 6 ∷ [])
+    ∷ Elements has (4 ∷ 5 ∷ 6 ∷ 9 ∷ [])
     ∷ []
 
--- the key of slot k; 9 where the slot has none
+-- the key of slot k; 10 where the slot has none
 unfoldable pub keyAt : ℕ → ℕ → ℕ
-keyAt above k = getD (row above [] slotKeys) k 9
+keyAt above k = getD (row above [] slotKeys) k 10
 
 unfoldable pub keyRole : ℕ → ℕ → ℕ
 keyRole above k = getD keyRoles (keyAt above k) 16

@@ -16,30 +16,30 @@ pub const WIDTH: usize = 4;
 // No node has this role.
 const NO_ROLE: u64 = 16;
 
-// The keys of the four slots of a node, by its kind: a digit each, that of slot 0 rightmost. A key is a known name; 9 where a slot has none.
+// The keys of the four slots of a node, by its kind: a digit each, that of slot 0 rightmost. A key is a known name; 10 where a slot has none.
 fn slot_keys(above: u64) -> u64
     requires { ⌜ above < 16 ⌝ }
     ensures { λ r. ⌜ Digits (keyAt above) 4 r ⌝ }
 {
     match above {
-        roles::ZONE => 0x9991,
-        roles::GRID_COORDINATES => 0x9992,
+        roles::ZONE => 0xaaa1,
+        roles::GRID_COORDINATES => 0xaaa2,
         roles::FLOW_SOLUTION => 0x8732,
         roles::ELEMENTS => 0x9654,
-        _ => 0x9999,
+        _ => 0xaaaa,
     }
 }
 
 fn key_at(above: u64, k: usize) -> usize
     requires { ⌜ (above < 16) × (k < 4) ⌝ }
-    ensures { λ r. ⌜ (r ≡ keyAt above k) × (r ≤ 9) ⌝ }
+    ensures { λ r. ⌜ (r ≡ keyAt above k) × (r ≤ 10) ⌝ }
 {
     labels::digit(slot_keys(above), k as u64) as usize
 }
 
 // The role that goes with a key.
 fn key_role(key: usize) -> u64
-    requires { ⌜ key ≤ 9 ⌝ }
+    requires { ⌜ key ≤ 10 ⌝ }
     ensures { λ r. ⌜ r ≡ getD keyRoles key 16 ⌝ }
 {
     match key {
@@ -51,6 +51,7 @@ fn key_role(key: usize) -> u64
         names::ELEMENT_START_OFFSET => roles::DATA_ARRAY,
         names::POINT_RANGE => roles::INDEX_RANGE,
         names::POINT_LIST => roles::INDEX_ARRAY,
+        names::PARENT_ELEMENTS => roles::DATA_ARRAY,
         _ => NO_ROLE,
     }
 }

@@ -10,6 +10,7 @@ pub use tables::is_zone;
 pub use tables::kind_of;
 pub use tables::location;
 pub use tables::offsets;
+pub use tables::parents;
 pub use tables::point_list;
 pub use tables::point_range;
 pub use tables::range;

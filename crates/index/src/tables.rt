@@ -39,6 +39,8 @@ const CONNECTIVITY: usize = 1;
 
 const OFFSETS: usize = 2;
 
+const PARENTS: usize = 3;
+
 // What a node is validated as, by its parent's kind and its own role.
 fn kind_below(above: u64, role: u64) -> u64
     requires { ⌜ role < 16 ⌝ }
@@ -215,6 +217,15 @@ pub fn offsets(image: &[u8], index: &[u16], p: usize) -> usize
     ensures { λ r. ⌜ (r ≡ child (treeOf (now (image .entry))) p DataArray (text "ElementStartOffset")) × (r ≤ nodeCount (now (image .entry))) ⌝ }
 {
     look_up(image, index, p, OFFSETS)
+}
+
+// The ParentElements of a section.
+pub fn parents(image: &[u8], index: &[u16], p: usize) -> usize
+    requires { ⌜ Index (now image) (now index) × (p < nodeCount (now image)) ⌝ }
+    requires { ⌜ kind (treeOf (now image)) p ≡ Elements ⌝ }
+    ensures { λ r. ⌜ (r ≡ child (treeOf (now (image .entry))) p DataArray (text "ParentElements")) × (r ≤ nodeCount (now (image .entry))) ⌝ }
+{
+    look_up(image, index, p, PARENTS)
 }
 
 // The GridLocation of a flow solution.

@@ -86,7 +86,7 @@ unfolding spells blank
 spells-self [] = refl
 spells-self (x ∷ s) = rw (eq-eqb x x refl) (spells-self s)
 
-some-text : (m : ℕ) (d : List ℕ) → m < 9 → orElse d (getD knownNames m []) ≡ getD knownNames m []
+some-text : (m : ℕ) (d : List ℕ) → m < 10 → orElse d (getD knownNames m []) ≡ getD knownNames m []
 unfolding knownNames text
 some-text zero d h = refl
 some-text (suc zero) d h = refl
@@ -97,7 +97,8 @@ some-text (suc (suc (suc (suc (suc zero))))) d h = refl
 some-text (suc (suc (suc (suc (suc (suc zero)))))) d h = refl
 some-text (suc (suc (suc (suc (suc (suc (suc zero))))))) d h = refl
 some-text (suc (suc (suc (suc (suc (suc (suc (suc zero)))))))) d h = refl
-some-text (suc (suc (suc (suc (suc (suc (suc (suc (suc m))))))))) d h = absurd (omega arith)
+some-text (suc (suc (suc (suc (suc (suc (suc (suc (suc zero))))))))) d h = refl
+some-text (suc (suc (suc (suc (suc (suc (suc (suc (suc (suc m)))))))))) d h = absurd (omega arith)
 
 -- a field against the fixed name that its cell k tells
 module _ (above below : ℕ) {k : ℕ} (e : k ≡ cellOf above below) (h : above < 16) (l : below < 16) (d : List ℕ) where
@@ -108,7 +109,7 @@ module _ (above below : ℕ) {k : ℕ} (e : k ≡ cellOf above below) (h : above
   pub name-free : k ≤ 1 → true ≡ spells d (fixedName above below d fixedNames)
   name-free m = let z : k - 1 ≡ 0 = omega arith in spells-self d ∙ ap (spells d) (sym (by-cell ∙ rw z))
 
-  pub name-place : 1 < k → k - 1 - 1 < 9
+  pub name-place : 1 < k → k - 1 - 1 < 10
   name-place m = let s = cell-small above below h l in omega arith
 
   pub name-fixed : 1 < k → spells d (getD knownNames (k - 1 - 1) []) ≡ spells d (fixedName above below d fixedNames)

@@ -24,22 +24,22 @@ pub known-length : length knownLabels ≡ 14
 unfolding knownLabels
 known-length = refl
 
-pub known-short : (k : ℕ) → k < 23 → length (getD knownTexts k []) ≤ 32
+pub known-short : (k : ℕ) → k < 24 → length (getD knownTexts k []) ≤ 32
 unfolding everyFrom knownTexts knownNames knownLabels text
-known-short k h = leb-true (length (getD knownTexts k [])) 32 (each (λ (j : ℕ). leb (length (getD knownTexts j [])) 32) 23 refl k h)
+known-short k h = leb-true (length (getD knownTexts k [])) 32 (each (λ (j : ℕ). leb (length (getD knownTexts j [])) 32) 24 refl k h)
 
-pub known-bytes : (k : ℕ) → k < 23 → allBytes (getD knownTexts k []) ≡ true
+pub known-bytes : (k : ℕ) → k < 24 → allBytes (getD knownTexts k []) ≡ true
 unfolding everyFrom knownTexts knownNames knownLabels text
-known-bytes k h = each (λ (j : ℕ). allBytes (getD knownTexts j [])) 23 refl k h
+known-bytes k h = each (λ (j : ℕ). allBytes (getD knownTexts j [])) 24 refl k h
 
 -- the labels come first, then the names
 label-text : (k : ℕ) → k < 14 → getD knownTexts k [] ≡ getD knownLabels k []
 unfolding everyFrom same knownTexts knownNames knownLabels text
 label-text k h = same-is _ _ (each (λ (j : ℕ). same (getD knownTexts j []) (getD knownLabels j [])) 14 refl k h)
 
-pub name-text : (k : ℕ) → k < 9 → getD knownTexts (14 + k) [] ≡ getD knownNames k []
+pub name-text : (k : ℕ) → k < 10 → getD knownTexts (14 + k) [] ≡ getD knownNames k []
 unfolding everyFrom same knownTexts knownNames knownLabels text
-name-text k h = same-is _ _ (each (λ (j : ℕ). same (getD knownTexts (14 + j) []) (getD knownNames j [])) 9 refl k h)
+name-text k h = same-is _ _ (each (λ (j : ℕ). same (getD knownTexts (14 + j) []) (getD knownNames j [])) 10 refl k h)
 
 pub role-root : (b : List ℕ) (i : ℕ) → i ≡ 0 → 15 ≡ role (treeOf b) i
 unfolding role
@@ -58,9 +58,9 @@ abbrev blanks : ℕ
 blanks = 0x2020202020202020
 
 -- all fourth words are blanks
-pub fourth-blank : (k : ℕ) → k < 23 → blanks ≡ textWord 3 k
+pub fourth-blank : (k : ℕ) → k < 24 → blanks ≡ textWord 3 k
 unfolding everyFrom fieldWord le knownTexts knownNames knownLabels text
-fourth-blank k h = eqb-true _ _ (each (λ (n : ℕ). eqb blanks (textWord 3 n)) 23 refl k h)
+fourth-blank k h = eqb-true _ _ (each (λ (n : ℕ). eqb blanks (textWord 3 n)) 24 refl k h)
 
 -- the first words of labels are all different
 first-apart : (j k : ℕ) → j < 14 → k < 14 → textWord 0 j ≡ textWord 0 k → j ≡ k
@@ -93,7 +93,7 @@ begins-none a =
     record { inside = omega arith; is = λ h. absurd (omega arith); only = λ k h e. absurd (other 14 k a h e) }
 
 -- the field at p begins as text k does: word by word
-module _ (b : List ℕ) (p k : ℕ) (h : p + 32 ≤ length b) (f : Bytes b) (l : k < 23) (e : le 8 (drop p b) ≡ textWord 0 k) where
+module _ (b : List ℕ) (p k : ℕ) (h : p + 32 ≤ length b) (f : Bytes b) (l : k < 24) (e : le 8 (drop p b) ≡ textWord 0 k) where
   one : Same 32 b p (pad 32 (getD knownTexts k [])) 0 (8 * 1)
   one = spelling-more _ 0 (same-start _ _ _ _ _) h f (known-bytes k l) (omega arith) (ap (λ (n : ℕ). le 8 (drop n b)) (add-zero p) ∙ e)
 
@@ -116,7 +116,7 @@ module _ (b : List ℕ) (p k : ℕ) (h : p + 32 ≤ length b) (f : Bytes b) (l :
               (known-short k l)
 
 -- another first word
-pub first-off : (b : List ℕ) (p k : ℕ) → p + 32 ≤ length b → Bytes b → k < 23 → (le 8 (drop p b) ≡ textWord 0 k → ⊥)
+pub first-off : (b : List ℕ) (p k : ℕ) → p + 32 ≤ length b → Bytes b → k < 24 → (le 8 (drop p b) ≡ textWord 0 k → ⊥)
     → false ≡ spells (take 32 (drop p b)) (getD knownTexts k [])
 first-off b p k h f l z =
     spelling-stop (getD knownTexts k []) 0 (same-start _ _ _ _ _) h f (known-bytes k l) (omega arith) (known-short k l)

@@ -30,6 +30,7 @@ knownNames =
     ∷ text "ElementStartOffset"
     ∷ text "PointRange"
     ∷ text "PointList"
+    ∷ text "ParentElements"
     ∷ []
 
 -- the known labels, and after them the known names

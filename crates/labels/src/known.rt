@@ -48,7 +48,7 @@ fn third_of_label(k: usize) -> u64
 
 // The second eight bytes of name k.
 fn second_of_name(k: usize) -> u64
-    requires { ⌜ k < 9 ⌝ }
+    requires { ⌜ k < 10 ⌝ }
     ensures { λ r. ⌜ r ≡ fieldWord (getD knownTexts (14 + k) []) 1 ⌝ }
 {
     match k {
@@ -60,13 +60,14 @@ fn second_of_name(k: usize) -> u64
         5 => 0x7669_7463_656e_6e6f, // onnectiv
         6 => 0x7366_664f_7472_6174, // tartOffs
         7 => 0x2020_2020_2020_6567, // ge
-        _ => 0x2020_2020_2020_2074, // t
+        8 => 0x2020_2020_2020_2074, // t
+        _ => 0x2020_7374_6e65_6d65, // ements
     }
 }
 
 // The third.
 fn third_of_name(k: usize) -> u64
-    requires { ⌜ k < 9 ⌝ }
+    requires { ⌜ k < 10 ⌝ }
     ensures { λ r. ⌜ r ≡ fieldWord (getD knownTexts (14 + k) []) 2 ⌝ }
 {
     match k {
@@ -100,7 +101,7 @@ pub fn rest_of_label(k: usize, second: u64, third: u64, fourth: u64) -> bool
 
 // The same of name k.
 pub fn rest_of_name(k: usize, second: u64, third: u64, fourth: u64) -> bool
-    requires { ⌜ k < 9 ⌝ }
+    requires { ⌜ k < 10 ⌝ }
     ensures { λ r. ⌜ r ≡ restIs (14 + k) second third fourth ⌝ }
 {
     same_rest(second_of_name(k), third_of_name(k), second, third, fourth)

@@ -26,9 +26,11 @@ pub const POINT_RANGE: usize = 7;
 
 pub const POINT_LIST: usize = 8;
 
+pub const PARENT_ELEMENTS: usize = 9;
+
 // The first eight bytes of name k.
 fn first_word(k: usize) -> u64
-    requires { ⌜ k < 9 ⌝ }
+    requires { ⌜ k < 10 ⌝ }
     ensures { λ r. ⌜ r ≡ fieldWord (getD knownNames k []) 0 ⌝ }
 {
     match k {
@@ -40,13 +42,14 @@ fn first_word(k: usize) -> u64
         5 => 0x4374_6e65_6d65_6c45, // ElementC
         6 => 0x5374_6e65_6d65_6c45, // ElementS
         7 => 0x6e61_5274_6e69_6f50, // PointRan
-        _ => 0x7369_4c74_6e69_6f50, // PointLis
+        8 => 0x7369_4c74_6e69_6f50, // PointLis
+        _ => 0x6c45_746e_6572_6150, // ParentEl
     }
 }
 
 // Does node i have the known name k, counted from 0?
 pub fn name_is(image: &[u8], i: usize, k: usize) -> bool
-    requires { ⌜ (Laid (now image) × (i < nodeCount (now image))) × (k < 9) ⌝ }
+    requires { ⌜ (Laid (now image) × (i < nodeCount (now image))) × (k < 10) ⌝ }
     ensures { λ r. ⌜ r ≡ spells (name (treeOf (now (image .entry))) i) (getD knownNames k []) ⌝ }
 {
     let at = Record::at(i) + Record::NAME;

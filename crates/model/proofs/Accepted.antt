@@ -5,13 +5,13 @@ use mathlib.Core.Bool.{true}
 use mathlib.Core.List.{List}
 use native.Mathlib.Omega.{arith}
 use lib.Dec.{eqb}
-use Rattle.model.specs.Rules.{answer, passed, check, _then_}
+use Rattle.model.specs.Rules.{Check, answer, passed, check, _then_}
 use Rattle.model.specs.Image.{treeOf, nodeCount}
 use Rattle.model.specs.Header.{headerCheck, headerRules}
 use Rattle.model.specs.Records.{recordCheckAt, recordRules, recordCheck, trailingCheck, tableCheck, nothingTrails}
 use Rattle.model.specs.Containment.{role, Elements, validated}
 use Rattle.model.specs.Values.{sidsRules}
-use Rattle.model.specs.Elements.{connectivityLength, elementRules, referenceRules, referenceCheckAt, referenceCheck}
+use Rattle.model.specs.Elements.{connectivityLength, elementRules, referenceRules, referenceCheckAt, referenceCheck, parentRules}
 use Rattle.model.specs.Validation.{Counts, validation, imageCheck, nodeCheck, nodeCheckAt, sectionCheck}
 use Rattle.model.proofs.Passed.{Hold, Claim, claim, check-pass, then-first, then-second, at-entry-pass, gives-check, checkFrom-at}
 
@@ -59,12 +59,18 @@ module _ (b : List ℕ) (yes : imageCheck b ≡ passed) where
 
     -- at a section
     module _ (s : eqb (role (treeOf b) i) Elements ≡ true) where
-      section-passed : (check i (elementRules (treeOf b) i) then referenceCheck (treeOf b) i) ≡ passed
+      abbrev entries-then : Check
+      entries-then = referenceCheck (treeOf b) i then check i (parentRules (treeOf b) i)
+
+      section-passed : (check i (elementRules (treeOf b) i) then entries-then) ≡ passed
       unfolding sectionCheck
       section-passed = rw s at (then-second (check i (sidsRules (treeOf b) i)) (sectionCheck (treeOf b) i) node-passed)
 
       section-holds : Hold (elementRules (treeOf b) i)
-      section-holds = check-pass i (elementRules (treeOf b) i) (then-first _ (referenceCheck (treeOf b) i) section-passed)
+      section-holds = check-pass i (elementRules (treeOf b) i) (then-first _ entries-then section-passed)
+
+      entries-passed : entries-then ≡ passed
+      entries-passed = then-second (check i (elementRules (treeOf b) i)) entries-then section-passed
 
       entry-holds : (k : ℕ) → k < connectivityLength (treeOf b) i → Hold (referenceRules (treeOf b) i k)
       unfolding referenceCheck referenceCheckAt
@@ -72,8 +78,11 @@ module _ (b : List ℕ) (yes : imageCheck b ≡ passed) where
           check-pass i (referenceRules (treeOf b) i k)
           (at-entry-pass _ _
           (checkFrom-at (referenceCheckAt (treeOf b) i) (connectivityLength (treeOf b) i) 0 k
-          (then-second (check i (elementRules (treeOf b) i)) (referenceCheck (treeOf b) i) section-passed)
+          (then-first _ (check i (parentRules (treeOf b) i)) entries-passed)
           (omega arith) (omega arith)))
+
+      parents-hold : Hold (parentRules (treeOf b) i)
+      parents-hold = check-pass i (parentRules (treeOf b) i) (then-second (referenceCheck (treeOf b) i) _ entries-passed)
 
   -- rules 20 to 26 at a validated node
   pub sids-rule : (n i : ℕ) → i < nodeCount b → validated (treeOf b) i ≡ true → Claim n (sidsRules (treeOf b) i)
@@ -87,6 +96,10 @@ module _ (b : List ℕ) (yes : imageCheck b ≡ passed) where
   pub entry-rule : (n i : ℕ) → i < nodeCount b → validated (treeOf b) i ≡ true → eqb (role (treeOf b) i) Elements ≡ true
       → (k : ℕ) → k < connectivityLength (treeOf b) i → Claim n (referenceRules (treeOf b) i k)
   entry-rule n i h v s k l = claim n (referenceRules (treeOf b) i k) (entry-holds i h v s k l)
+
+  -- 39 at a validated section
+  pub parent-rule : (i : ℕ) → i < nodeCount b → validated (treeOf b) i ≡ true → eqb (role (treeOf b) i) Elements ≡ true → Claim 39 (parentRules (treeOf b) i)
+  parent-rule i h v s = claim 39 (parentRules (treeOf b) i) (parents-hold i h v s)
 
 -- the answer of validation is an acceptance where all its checks pass
 pub accepted : (b : List ℕ) {c : Counts} → validation b ≡ answer c → imageCheck b ≡ passed

@@ -47,7 +47,7 @@ pub record Indices (b : List ℕ) (j : ℕ) : Type 0 where
 
 module _ (b : List ℕ) (yes : tableCheck b ≡ passed) where
   -- 16
-  data-size : (j : ℕ) → j < nodeCount b → product (dimensions (treeOf b) j) * width (treeOf b) j ≡ node (treeOf b) j .dataSize
+  pub data-size : (j : ℕ) → j < nodeCount b → product (dimensions (treeOf b) j) * width (treeOf b) j ≡ node (treeOf b) j .dataSize
   unfolding recordRules dataSizeLawful
   data-size j l = eqb-true _ _ (and-second (not (among 0 (dimensions (treeOf b) j))) _ (record-rule b yes 16 j l))
 

@@ -3,7 +3,7 @@ use Prim.Native.Nat.{ℕ, _*_, _-_, _^_}
 use Prim.Native.String.{String}
 use mathlib.Core.Path.{_≡_, refl}
 use mathlib.Core.Bool.{Bool, true, false}
-use mathlib.Core.List.{List, [], _∷_}
+use mathlib.Core.List.{List, [], _∷_, _++_}
 use lib.ListN.{length, replicate}
 use lib.IntN.{ℤ, pos}
 use Rattle.model.specs.declared.Section.{Section}
@@ -19,12 +19,13 @@ use Rattle.model.specs.Corner.{cornerAnswer}
 use Rattle.model.specs.ElementCorners.{elementCornersMemory}
 use Rattle.model.specs.OwnType.{ownTypeAnswer}
 use Rattle.model.specs.FaceUsage.{usageAnswer, usageMemory}
-use Rattle.model.specs.Exports.{validationWords, usageWords}
+use Rattle.model.specs.ParentElements.{FaceParents, parentsAnswer, agreementAnswer, agreementMemory}
+use Rattle.model.specs.Exports.{validationWords, usageWords, parentWords, agreementWords}
 use Rattle.model.specs.Build.{minus, Plan, plan, image}
 use Rattle.model.specs.Computed.{computed}
 use Rattle.model.proofs.Rule22.{onceOnly, sameRole, second}
 
-infix 10 _refuses_at_ _refuses_at_place_ _reports_ _tells_also-of-faces_ _accepts_ _starts_ _sizes_is_ _uses_leaving_ _repeats_ _compares_ _reads_from_is_ _types_is_ _hands_is_ _seconds_is_
+infix 10 _refuses_at_ _refuses_at_place_ _reports_ _tells_also-of-faces_ _accepts_ _starts_ _sizes_is_ _uses_leaving_ _parents_are_ _agrees_room_leaving_ _says_also-of-agreement_ _enters_place_width_ _repeats_ _compares_ _reads_from_is_ _types_is_ _hands_is_ _seconds_is_
 -- the root that real files have
 abbrev rootPlan : Plan
 rootPlan = plan "HDF5 MotherNode" "Root Node of HDF5 File" "MT" [] 4294967295 []
@@ -36,9 +37,10 @@ integers name label xs up = plan name label "I4" (length xs ∷ []) up (allBytes
 abbrev axis : String → Plan
 axis name = plan name "DataArray_t" "R8" (4 ∷ []) 5 (replicate 32 0)
 
--- the tetrahedron, over the base's CellDimension and PhysicalDimension, and range, start offsets and connectivity of its faces and its cells
-abbrev tetrahedronIn : List ℕ → List ℕ → List ℕ → List ℕ → List ℕ → List ℕ → List ℕ → List ℕ
-tetrahedronIn base range offsets nodes cells starts faces =
+-- the tetrahedron, over nodes from node 17 on, the base's CellDimension and PhysicalDimension, and range, start offsets and connectivity of its faces
+-- and its cells
+abbrev tetrahedronWith : List Plan → List ℕ → List ℕ → List ℕ → List ℕ → List ℕ → List ℕ → List ℕ → List ℕ
+tetrahedronWith others base range offsets nodes cells starts faces =
     image
     (rootPlan
     ∷ plan "CGNSLibraryVersion" "CGNSLibraryVersion_t" "R4" (1 ∷ []) 0 (102 ∷ 102 ∷ 134 ∷ 64 ∷ [])
@@ -57,7 +59,10 @@ tetrahedronIn base range offsets nodes cells starts faces =
     ∷ integers "ElementRange" "IndexRange_t" cells 13
     ∷ integers "ElementStartOffset" "DataArray_t" starts 13
     ∷ integers "ElementConnectivity" "DataArray_t" faces 13
-    ∷ [])
+    ∷ others)
+
+abbrev tetrahedronIn : List ℕ → List ℕ → List ℕ → List ℕ → List ℕ → List ℕ → List ℕ → List ℕ
+tetrahedronIn = tetrahedronWith []
 
 -- of one cell, element 5
 abbrev tetrahedron : List ℕ → List ℕ → List ℕ → List ℕ → List ℕ
@@ -235,6 +240,41 @@ another at up own range references =
 abbrev toOther : List ℕ → List ℕ → List ℕ → List ℕ
 toOther own range references = cellFirst (refer (1 ∷ 2 ∷ 3 ∷ 6 ∷ [])) (another 12 2 own range references)
 
+-- §7: the tetrahedron with this node 17, and these faces of its cell
+abbrev withArray : Plan → List ℕ → List ℕ
+withArray array faces =
+    tetrahedronWith (array ∷ []) (3 ∷ 3 ∷ []) (1 ∷ 4 ∷ []) (0 ∷ 3 ∷ 6 ∷ 9 ∷ 12 ∷ []) fourFaces (5 ∷ 5 ∷ []) (0 ∷ length faces ∷ []) faces
+
+-- the parents of its four faces, first all first ones, then all second ones
+abbrev parentArray : String → List ℕ → List ℕ → Plan
+parentArray label dimensions numbers = plan "ParentElements" label "I4" dimensions 9 (allBytes 4 numbers)
+
+abbrev fourPairs : List ℕ → Plan
+fourPairs numbers = parentArray "DataArray_t" (4 ∷ 2 ∷ []) numbers
+
+abbrev withParents : List ℕ → List ℕ
+withParents numbers = withArray (fourPairs numbers) (1 ∷ 2 ∷ 3 ∷ 4 ∷ [])
+
+-- cell 5 alone beside all faces
+abbrev alone : List ℕ
+alone = 5 ∷ 5 ∷ 5 ∷ 5 ∷ 0 ∷ 0 ∷ 0 ∷ 0 ∷ []
+
+-- cells 5 and 6 beside all faces
+abbrev withTwoCells : List ℕ → List ℕ
+withTwoCells numbers =
+    tetrahedronWith (fourPairs numbers ∷ []) (3 ∷ 3 ∷ []) (1 ∷ 4 ∷ []) (0 ∷ 3 ∷ 6 ∷ 9 ∷ 12 ∷ []) fourFaces (5 ∷ 6 ∷ []) (0 ∷ 4 ∷ 8 ∷ [])
+    (1 ∷ 2 ∷ 3 ∷ 4 ∷ minus 1 ∷ minus 2 ∷ minus 3 ∷ minus 4 ∷ [])
+
+-- cell 5 beside faces 1 to 3 and face 6, which is in a section of its own, node 17, with its parents, node 21, in 8 bytes
+abbrev withTwoSections : List ℕ
+withTwoSections =
+    tetrahedronWith (another 17 3 (22 ∷ 0 ∷ []) (6 ∷ 6 ∷ []) (1 ∷ 2 ∷ 3 ∷ []) ++ plan "ParentElements" "DataArray_t" "I8" (1 ∷ 2 ∷ []) 17 (allBytes 8 (5 ∷ 0 ∷ [])) ∷ [])
+    (3 ∷ 3 ∷ []) (1 ∷ 4 ∷ []) (0 ∷ 3 ∷ 6 ∷ 9 ∷ 12 ∷ []) fourFaces (5 ∷ 5 ∷ []) (0 ∷ 4 ∷ []) (1 ∷ 2 ∷ 3 ∷ 6 ∷ [])
+
+-- another array of that name
+abbrev other : String → String → ℕ → Plan
+other label type up = plan "ParentElements" label type [] up []
+
 -- what a case says of an image
 pub data Case : Type 0 where
   -- the header's words
@@ -251,6 +291,14 @@ pub data Case : Type 0 where
   _tells_also-of-faces_ : List ℕ → List ℕ → List ℕ → Case
   -- the face usage of zone 3, in a buffer of six bytes
   _uses_leaving_ : List ℕ → ℕ → List ℕ → Case
+  -- the parents of a face of zone 3
+  _parents_are_ : List ℕ → ℕ → Answer FaceParents → Case
+  -- whether the parents of zone 3 agree with its cells, in a buffer of so many bytes
+  _agrees_room_leaving_ : List ℕ → Answer Bool → ℕ → List ℕ → Case
+  -- the words of both exports, of face 4 and in a buffer of six bytes
+  _says_also-of-agreement_ : List ℕ → List ℕ → List ℕ → Case
+  -- place and width of the parents in the entry of a section
+  _enters_place_width_ : List ℕ → ℕ → ℕ → ℕ → Case
   -- the section and the element of 45, the buffer's first four bytes then 0
   _repeats_ : List ℕ → Answer ℕ → Case
   -- the DataSize of a node
@@ -270,28 +318,36 @@ lent = replicate 6 9
 abbrev layers : List ℕ → Section
 layers b = entry (treeOf b) 4
 
+abbrev pub Holds : Case → Type 0
+Holds (b starts ws) = numbers 4 8 b ≡ ws
+Holds (b accepts c) = validation b ≡ answer c
+Holds (b refuses r at n) = validation b ≡ rejected (rejection r n)
+Holds (b refuses r at n place k) = validation b ≡ rejected (rejectionAt r n k)
+Holds (b reports r) = (sectionsAnswer b 3 9 ≡ rejected r) × (usageAnswer b 3 6 ≡ rejected r) × (dataSizeAnswer b 6 ≡ rejected r)
+Holds (b tells ws also-of-faces vs) = (validationWords (validation b) ≡ ws) × (usageWords (usageAnswer b 3 6) ≡ vs)
+Holds (b uses f leaving bytes) = (usageAnswer b 3 6 ≡ answer f) × (usageMemory b 3 lent ≡ bytes)
+Holds (b parents f are a) = parentsAnswer b 3 f ≡ a
+Holds (b agrees a room n leaving bytes) = (agreementAnswer b 3 n ≡ a) × (agreementMemory b 3 (replicate n 9) ≡ bytes)
+Holds (b says ws also-of-agreement vs) = (parentWords (parentsAnswer b 3 4) ≡ ws) × (agreementWords (agreementAnswer b 3 6) ≡ vs)
+Holds (b enters s place p width w) = (entry (treeOf b) s .«parents_at» ≡ p) × (entry (treeOf b) s .«parents_width» ≡ w)
+Holds (b repeats a) = (usageAnswer b 3 6 ≡ a) × (usageMemory b 3 lent ≡ (0 ∷ 0 ∷ 0 ∷ 0 ∷ 9 ∷ 9 ∷ []))
+Holds (b sizes i is s) = dataSizeAnswer b i ≡ answer s
+Holds (b compares a) = nameBytesAnswer b ≡ a
+Holds (b reads e from c is a) = cornerAnswer b (layers b) e c ≡ a
+Holds (b types e is a) = ownTypeAnswer b (layers b) e ≡ a
+Holds (b hands e is ns) = elementCornersMemory b (layers b) e (replicate 8 (pos 99)) ≡ ns
+Holds (b seconds i is a) = second (treeOf b) i ≡ a
+
 abbrev pub Right : List Case → Type 0
 Right [] = Unit {0}
-Right ((b starts ws) ∷ cs) = (numbers 4 8 b ≡ ws) × Right cs
-Right ((b accepts c) ∷ cs) = (validation b ≡ answer c) × Right cs
-Right ((b refuses r at n) ∷ cs) = (validation b ≡ rejected (rejection r n)) × Right cs
-Right ((b refuses r at n place k) ∷ cs) = (validation b ≡ rejected (rejectionAt r n k)) × Right cs
-Right ((b reports r) ∷ cs) = ((sectionsAnswer b 3 9 ≡ rejected r) × (usageAnswer b 3 6 ≡ rejected r) × (dataSizeAnswer b 6 ≡ rejected r)) × Right cs
-Right ((b tells ws also-of-faces vs) ∷ cs) = ((validationWords (validation b) ≡ ws) × (usageWords (usageAnswer b 3 6) ≡ vs)) × Right cs
-Right ((b uses f leaving bytes) ∷ cs) = ((usageAnswer b 3 6 ≡ answer f) × (usageMemory b 3 lent ≡ bytes)) × Right cs
-Right ((b repeats a) ∷ cs) = ((usageAnswer b 3 6 ≡ a) × (usageMemory b 3 lent ≡ (0 ∷ 0 ∷ 0 ∷ 0 ∷ 9 ∷ 9 ∷ []))) × Right cs
-Right ((b sizes i is s) ∷ cs) = (dataSizeAnswer b i ≡ answer s) × Right cs
-Right ((b compares a) ∷ cs) = (nameBytesAnswer b ≡ a) × Right cs
-Right ((b reads e from c is a) ∷ cs) = (cornerAnswer b (layers b) e c ≡ a) × Right cs
-Right ((b types e is a) ∷ cs) = (ownTypeAnswer b (layers b) e ≡ a) × Right cs
-Right ((b hands e is ns) ∷ cs) = (elementCornersMemory b (layers b) e (replicate 8 (pos 99)) ≡ ns) × Right cs
-Right ((b seconds i is a) ∷ cs) = (second (treeOf b) i ≡ a) × Right cs
+Right (c ∷ cs) = Holds c × Right cs
 
 abbrev tetraCounts : Counts
 tetraCounts = record { validated = 17; skipped = 0; zones = 1; sections = 2 }
 
-abbrev pub cases : List Case
-cases =
+-- document 01's, and those of §1 to §6
+abbrev earlier : List Case
+earlier =
     -- (a) the tetrahedron
     (tetra starts (1 ∷ 1844 ∷ 17 ∷ 32 ∷ 1460 ∷ 16 ∷ 1588 ∷ 256 ∷ []))
     ∷ (tetra accepts tetraCounts)
@@ -523,13 +579,71 @@ cases =
     refuses 36 at 4 place 4)
     ∷ []
 
+-- §7's
+abbrev ofParents : List Case
+ofParents =
+    -- §7 the cell beside each face, and it agrees; the words of the exports; a face that is none, 0, another zone
+    (withParents alone accepts record { validated = 18; skipped = 0; zones = 1; sections = 2 })
+    ∷ (withParents alone enters 9 place 1944 width 4)
+    ∷ (withParents alone parents 4 are answer (record { first = 5; second = 0 }))
+    ∷ (withParents alone agrees answer true room 6 leaving (1 ∷ 1 ∷ 1 ∷ 1 ∷ 9 ∷ 9 ∷ []))
+    ∷ (withParents alone says (0 ∷ 0 ∷ 5 ∷ 0 ∷ []) also-of-agreement (0 ∷ 0 ∷ 0 ∷ 1 ∷ []))
+    ∷ (withParents alone parents 5 are rejected (rejection 41 0))
+    ∷ (withParents alone parents 0 are rejected (rejection 41 0))
+    -- one second parent 5
+    ∷ (withParents (5 ∷ 5 ∷ 5 ∷ 5 ∷ 0 ∷ 0 ∷ 5 ∷ 0 ∷ []) parents 3 are answer (record { first = 5; second = 5 }))
+    ∷ (withParents (5 ∷ 5 ∷ 5 ∷ 5 ∷ 0 ∷ 0 ∷ 5 ∷ 0 ∷ []) agrees answer false room 4 leaving (1 ∷ 1 ∷ 1 ∷ 1 ∷ []))
+    -- one cell on both sides of face 3; face 4 of no cell
+    ∷ (withArray (fourPairs (5 ∷ 5 ∷ 5 ∷ 5 ∷ 0 ∷ 0 ∷ 5 ∷ 0 ∷ [])) (1 ∷ 2 ∷ 3 ∷ minus 3 ∷ minus 4 ∷ []) agrees answer true room 6 leaving (1 ∷ 1 ∷ 3 ∷ 2 ∷ 9 ∷ 9 ∷ []))
+    ∷ (withArray (fourPairs alone) (1 ∷ 2 ∷ 3 ∷ minus 3 ∷ minus 4 ∷ []) agrees answer false room 6 leaving (1 ∷ 1 ∷ 3 ∷ 2 ∷ 9 ∷ 9 ∷ []))
+    ∷ (withArray (fourPairs (5 ∷ 5 ∷ 5 ∷ 5 ∷ 0 ∷ 0 ∷ 5 ∷ 0 ∷ [])) (1 ∷ 2 ∷ 3 ∷ minus 3 ∷ []) agrees answer false room 6 leaving (1 ∷ 1 ∷ 3 ∷ 0 ∷ 9 ∷ 9 ∷ []))
+    -- two cells, in either order; one of them twice, or alone
+    ∷ (withTwoCells (5 ∷ 6 ∷ 5 ∷ 6 ∷ 6 ∷ 5 ∷ 6 ∷ 5 ∷ []) parents 2 are answer (record { first = 6; second = 5 }))
+    ∷ (withTwoCells (5 ∷ 6 ∷ 5 ∷ 6 ∷ 6 ∷ 5 ∷ 6 ∷ 5 ∷ []) parents 3 are answer (record { first = 5; second = 6 }))
+    ∷ (withTwoCells (5 ∷ 6 ∷ 5 ∷ 6 ∷ 6 ∷ 5 ∷ 6 ∷ 5 ∷ []) agrees answer true room 4 leaving (3 ∷ 3 ∷ 3 ∷ 3 ∷ []))
+    ∷ (withTwoCells (5 ∷ 6 ∷ 5 ∷ 5 ∷ 6 ∷ 5 ∷ 6 ∷ 5 ∷ []) agrees answer false room 4 leaving (3 ∷ 3 ∷ 3 ∷ 3 ∷ []))
+    ∷ (withTwoCells (5 ∷ 6 ∷ 5 ∷ 5 ∷ 6 ∷ 5 ∷ 6 ∷ 0 ∷ []) agrees answer false room 4 leaving (3 ∷ 3 ∷ 3 ∷ 3 ∷ []))
+    -- two face sections: the parents of one alone are asked, and its faces need not begin with 1
+    ∷ (withTwoSections enters 9 place 0 width 0)
+    ∷ (withTwoSections enters 17 place 2348 width 8)
+    ∷ (withTwoSections parents 6 are answer (record { first = 5; second = 0 }))
+    ∷ (withTwoSections parents 4 are rejected (rejection 54 0))
+    ∷ (withTwoSections agrees answer true room 6 leaving (1 ∷ 1 ∷ 1 ∷ 0 ∷ 1 ∷ 9 ∷ []))
+    -- 39: MT, [2, n], one dimension, a first 0, a face, no element, −5
+    ∷ (withArray (other "DataArray_t" "MT" 9) (1 ∷ 2 ∷ 3 ∷ 4 ∷ []) refuses 39 at 9)
+    ∷ (withArray (parentArray "DataArray_t" (2 ∷ 4 ∷ []) alone) (1 ∷ 2 ∷ 3 ∷ 4 ∷ []) refuses 39 at 9)
+    ∷ (withArray (parentArray "DataArray_t" (8 ∷ []) alone) (1 ∷ 2 ∷ 3 ∷ 4 ∷ []) refuses 39 at 9)
+    ∷ (withParents (5 ∷ 5 ∷ 5 ∷ 0 ∷ 0 ∷ 0 ∷ 0 ∷ 0 ∷ []) refuses 39 at 9)
+    ∷ (withParents (5 ∷ 5 ∷ 5 ∷ 5 ∷ 0 ∷ 0 ∷ 0 ∷ 4 ∷ []) refuses 39 at 9)
+    ∷ (withParents (5 ∷ 5 ∷ 5 ∷ 5 ∷ 0 ∷ 0 ∷ 0 ∷ 6 ∷ []) refuses 39 at 9)
+    ∷ (withParents (5 ∷ 5 ∷ 5 ∷ minus 5 ∷ 0 ∷ 0 ∷ 0 ∷ 0 ∷ []) refuses 39 at 9)
+    -- after the rules of its entries, before those of a later section
+    ∷ (tetrahedronWith (fourPairs (replicate 8 0) ∷ []) (3 ∷ 3 ∷ []) (1 ∷ 4 ∷ []) (0 ∷ 3 ∷ 6 ∷ 9 ∷ 12 ∷ [])
+    (5 ∷ 3 ∷ 2 ∷ 1 ∷ 2 ∷ 4 ∷ 2 ∷ 3 ∷ 4 ∷ 3 ∷ 1 ∷ 4 ∷ []) (5 ∷ 5 ∷ []) (0 ∷ 4 ∷ []) (1 ∷ 2 ∷ 3 ∷ 4 ∷ []) refuses 34 at 9 place 1)
+    ∷ (withArray (fourPairs (replicate 8 0)) (1 ∷ 2 ∷ 3 ∷ 5 ∷ []) refuses 39 at 9)
+    -- under another label it is absent; in a cell section it is an array like others
+    ∷ (withArray (other "ParentElements_t" "MT" 9) (1 ∷ 2 ∷ 3 ∷ 4 ∷ []) accepts record { validated = 17; skipped = 1; zones = 1; sections = 2 })
+    ∷ (withArray (other "ParentElements_t" "MT" 9) (1 ∷ 2 ∷ 3 ∷ 4 ∷ []) parents 4 are rejected (rejection 54 0))
+    ∷ (withArray (other "DataArray_t" "MT" 13) (1 ∷ 2 ∷ 3 ∷ 4 ∷ []) refuses 24 at 17)
+    ∷ (withArray (integers "ParentElements" "DataArray_t" (9 ∷ []) 13) (1 ∷ 2 ∷ 3 ∷ 4 ∷ []) accepts record { validated = 18; skipped = 0; zones = 1; sections = 2 })
+    ∷ (withArray (integers "ParentElements" "DataArray_t" (9 ∷ []) 13) (1 ∷ 2 ∷ 3 ∷ 4 ∷ []) enters 13 place 0 width 0)
+    -- no array: 54 by both calls; then 44, and 45 with its bytes
+    ∷ (tetra enters 9 place 0 width 0)
+    ∷ (tetra parents 4 are rejected (rejection 54 0))
+    ∷ (tetra agrees rejected (rejection 54 0) room 6 leaving (9 ∷ 9 ∷ 9 ∷ 9 ∷ 9 ∷ 9 ∷ []))
+    ∷ (tetra agrees rejected (rejection 54 0) room 3 leaving (9 ∷ 9 ∷ 9 ∷ []))
+    ∷ (tetra says (0 ∷ 0 ∷ 0 ∷ 0 ∷ []) also-of-agreement (0 ∷ 0 ∷ 0 ∷ 0 ∷ []))
+    ∷ (withParents alone agrees rejected (rejection 44 0) room 3 leaving (9 ∷ 9 ∷ 9 ∷ []))
+    ∷ (withArray (fourPairs alone) (1 ∷ 2 ∷ 3 ∷ 3 ∷ []) agrees rejected (repetition 13 5) room 5 leaving (0 ∷ 0 ∷ 0 ∷ 0 ∷ 9 ∷ []))
+    ∷ []
+
 infixr 5 _also_
 _also_ : {A B : Type 0} → A → B → A × B
 a also b = (a, b)
 
-pub all-right : Right cases
+earlier-right : Right earlier
 unfolding computed onceOnly sameRole second
-all-right =
+earlier-right =
     refl also refl also refl also refl also refl also refl also refl also refl also refl also refl also refl also refl also refl also refl
     also (refl, refl) also refl also (refl, refl) also refl also refl
     also refl also refl also refl also refl also refl also refl also refl also refl also refl also refl
@@ -548,3 +662,22 @@ all-right =
     also (refl, refl, refl) also (refl, refl, refl) also (refl, refl) also (refl, refl) also (refl, refl)
     also refl also refl also refl also refl also refl also refl also refl also refl
     also refl also refl also refl also refl also refl also refl also refl also refl also refl also refl also refl also refl also refl also tt
+
+parents-right : Right ofParents
+unfolding computed
+parents-right =
+    refl also (refl, refl) also refl also (refl, refl) also (refl, refl) also refl also refl also refl also (refl, refl)
+    also (refl, refl) also (refl, refl) also (refl, refl) also refl also refl also (refl, refl) also (refl, refl) also (refl, refl) also (refl, refl)
+    also (refl, refl) also refl also refl also (refl, refl) also refl also refl also refl also refl also refl
+    also refl also refl also refl also refl also refl also refl also refl also refl also (refl, refl)
+    also (refl, refl) also refl also (refl, refl) also (refl, refl) also (refl, refl) also (refl, refl) also (refl, refl) also tt
+
+both-right : (xs ys : List Case) → Right xs → Right ys → Right (xs ++ ys)
+both-right [] ys r q = q
+both-right (x ∷ xs) ys r q = (r .0, both-right xs ys (r .1) q)
+
+abbrev pub cases : List Case
+cases = earlier ++ ofParents
+
+pub all-right : Right cases
+all-right = both-right earlier ofParents earlier-right parents-right

@@ -168,10 +168,10 @@ pub demand3 : Demand3
 demand3 b c e z zone rest = claim3 b (accepted b e) z zone rest
 
 -- the list that the section call left
-pub entries-given : (b : List ℕ) (z : ℕ) (out : List ℕ) {n : ℕ} → sectionsAnswer b z (length out / 9) ≡ answer n → EntriesGiven b z out n
+pub entries-given : (b : List ℕ) (z : ℕ) (out : List ℕ) {n : ℕ} → sectionsAnswer b z (length out / 11) ≡ answer n → EntriesGiven b z out n
 unfolding sectionsAnswer sectionsCheck sectionNumbersMemory leaves over
 entries-given b z out e =
-    let room = length out / 9 in
+    let room = length out / 11 in
     let yes′ = gives-check (sectionsCheck b z room) (length (sectionNodes (treeOf b) z)) e in
     let zone = check-pass 0 _ (then-second (imageCheck b) _ yes′) .0 in
     record {

@@ -141,7 +141,7 @@ module _ (b : List ℕ) (ok : imageCheck b ≡ passed) (z : ℕ) (rest : List �
       }
 
 -- the bytes that a caller copied hold the k-th entry
-section-front : (l : List ℕ) → sectionAt (take 9 l) 0 ≡ sectionAt l 0
+section-front : (l : List ℕ) → sectionAt (take 11 l) 0 ≡ sectionAt l 0
 unfolding sectionAt
 section-front l = rw (
   at 0 (omega arith),
@@ -153,18 +153,20 @@ section-front l = rw (
   at 6 (omega arith),
   at 7 (omega arith),
   at 8 (omega arith),
+  at 9 (omega arith),
+  at 10 (omega arith),
 )
   where
-    at : (j : ℕ) → j < 9 → getD (take 9 l) j 0 ≡ getD l j 0
-    at j h = getD-take 9 l j 0 h
+    at : (j : ℕ) → j < 11 → getD (take 11 l) j 0 ≡ getD l j 0
+    at j h = getD-take 11 l j 0 h
 
 section-copied : {entries section : List ℕ} {k : ℕ} → Copied entries k section → sectionIn section ≡ sectionAt entries k
 unfolding sectionIn
-section-copied {entries} {section} {k} c = rw (c .words-are) (section-front (drop (9 * k) entries) ∙ sym (section-from entries k))
+section-copied {entries} {section} {k} c = rw (c .words-are) (section-front (drop (11 * k) entries) ∙ sym (section-from entries k))
 
 numbers-copied : {entries section : List ℕ} {k : ℕ} → CopiedNumbers entries k section → sectionAt section 0 ≡ sectionAt entries k
 numbers-copied {entries} {section} {k} c =
-    sym (section-front section) ∙ ap (λ (l : List ℕ). sectionAt l 0) (c .numbers-are) ∙ section-front (drop (9 * k) entries) ∙ sym (section-from entries k)
+    sym (section-front section) ∙ ap (λ (l : List ℕ). sectionAt l 0) (c .numbers-are) ∙ section-front (drop (11 * k) entries) ∙ sym (section-from entries k)
 
 read-fits : (n : ℕ) (section out : List ℕ) → n ≤ length section → 8 ≤ length out → readFits n section out ≡ passed
 unfolding readFits check
@@ -200,7 +202,7 @@ module _ (b : List ℕ) (c : Counts) (acc : validation b ≡ answer c) (z : ℕ)
       let w = i .exported in
       let a = readAnswer b (given b z rest .entries) (q .which) (q .element) (q .corner) in
       let e : cornerExported (m .found .image) (m .section) (q .element) (q .corner) (m .number) ≡ a =
-      rw (read-fits 72 (m .section) (m .number) (i .copied .whole) (i .room), section-copied (i .copied), f)
+      rw (read-fits 88 (m .section) (m .number) (i .copied .whole) (i .room), section-copied (i .copied), f)
       (sym (read-listed b (given b z rest .entries) (q .which) (q .element) (q .corner) (entry-listed b z rest (q .which) h))) in
       record {
         answers = rw (w .rule-is, w .number-is, e, f)
@@ -241,7 +243,7 @@ module _ (b : List ℕ) (c : Counts) (acc : validation b ≡ answer c) (z : ℕ)
   element-call k element section out size r b′ section′ out′ size′ h copied room w =
       let ok = accepted b acc in
       let a = elementCornersAnswer b (sectionAt (given b z rest .entries) k) element (length out) in
-      let fits = read-fits 9 section size (copied .whole) room in
+      let fits = read-fits 11 section size (copied .whole) room in
       let e : elementExported b section element (length out) size ≡ a = rw (fits, numbers-copied copied) in
       let d = element-answers b ok z rest k h element a out out′ refl (w .out-is ∙ rw (fits, numbers-copied copied)) in
       record {
@@ -269,7 +271,7 @@ module _ (b : List ℕ) (c : Counts) (acc : validation b ≡ answer c) (z : ℕ)
   type-call k element section out r b′ section′ out′ h copied room w =
       let ok = accepted b acc in
       let a = ownTypeAnswer b (sectionAt (given b z rest .entries) k) element in
-      let fits = read-fits 9 section out (copied .whole) room in
+      let fits = read-fits 11 section out (copied .whole) room in
       let e : typeExported b section element out ≡ a = rw (fits, numbers-copied copied) in
       record {
         tells = a;
@@ -287,25 +289,25 @@ sections-few b z room n e =
 
 -- what the export of a zone's sections left, where its rule is 0
 module _ (b : List ℕ) (z : ℕ) (out lent : List ℕ) where
-  by-count : (n : ℕ) → wordsFit 3 lent ≡ passed → sectionsAnswer b z (length out / 9) ≡ answer n
-      → SectionsGiven b z out (exportMemory 3 lent out (sectionNumbersMemory b z out)) (exportBytes lent (countWords (sectionsAnswer b z (length out / 9))))
+  by-count : (n : ℕ) → wordsFit 3 lent ≡ passed → sectionsAnswer b z (length out / 11) ≡ answer n
+      → SectionsGiven b z out (exportMemory 3 lent out (sectionNumbersMemory b z out)) (exportBytes lent (countWords (sectionsAnswer b z (length out / 11))))
   unfolding exportBytes exportMemory countWords leaves over treeOf
   by-count n fits counted =
       let g = entries-given b z out counted in
-      let numbers : length (allNumbers (sectionEntries (treeOf b) z)) ≡ 9 * sectionCount (treeOf b) z = g .claim .one-for-each .numbers-counted in
-      let few : n < 256 ^ 8 = omega (arith, g .count-is, count-few (sectionOf (treeOf b) z) (nodeCount b) 0, sections-few b z (length out / 9) n counted) in
+      let numbers : length (allNumbers (sectionEntries (treeOf b) z)) ≡ 11 * sectionCount (treeOf b) z = g .claim .one-for-each .numbers-counted in
+      let few : n < 256 ^ 8 = omega (arith, g .count-is, count-few (sectionOf (treeOf b) z) (nodeCount b) 0, sections-few b z (length out / 11) n counted) in
       record {
         count-is = rw (counted, fits) (le-written 8 n _ few ∙ g .count-is);
         list-is = rw fits (rw numbers at (g .list-is));
         claim = rw numbers at (g .claim);
       }
 
-  pub sections-given : (r : ℕ) (out′ lent′ : List ℕ) → r ≡ exportRule 3 lent (sectionsAnswer b z (length out / 9))
-      → lent′ ≡ exportBytes lent (countWords (sectionsAnswer b z (length out / 9))) → out′ ≡ exportMemory 3 lent out (sectionNumbersMemory b z out)
+  pub sections-given : (r : ℕ) (out′ lent′ : List ℕ) → r ≡ exportRule 3 lent (sectionsAnswer b z (length out / 11))
+      → lent′ ≡ exportBytes lent (countWords (sectionsAnswer b z (length out / 11))) → out′ ≡ exportMemory 3 lent out (sectionNumbersMemory b z out)
       → r ≡ 0 → SectionsGiven b z out out′ lent′
   unfolding exportRule wordsFit noneOfEntries tellsEntry
   sections-given r out′ lent′ rule bytes memory zero =
-      let s = sectionsAnswer b z (length out / 9) in
+      let s = sectionsAnswer b z (length out / 11) in
       let fit = wordsFit 3 lent in
-      let a = answered (fit then s) (of-then fit s (of-check 0 _ refl) (all-numbered b .of-sections z (length out / 9))) (sym rule ∙ zero) in
+      let a = answered (fit then s) (of-then fit s (of-check 0 _ refl) (all-numbered b .of-sections z (length out / 11))) (sym rule ∙ zero) in
       rw (bytes, memory) (by-count (a .0) (then-first fit s (a .1)) (then-second fit s (a .1)))

@@ -11,7 +11,7 @@ use Rattle.model.specs.Image.{Tree}
 use Rattle.model.specs.Sections.{entry, entries, entryNumbers, allNumbers}
 use Rattle.model.specs.Reads.{sectionAt}
 
-pub numbers-length : (es : List Section) → length (allNumbers es) ≡ 9 * length es
+pub numbers-length : (es : List Section) → length (allNumbers es) ≡ 11 * length es
 unfolding allNumbers entryNumbers
 numbers-length [] = refl
 numbers-length (e ∷ es) = let h = numbers-length es in omega arith
@@ -30,17 +30,17 @@ struct-at t (s ∷ ns) rest none zero h = refl
 struct-at t (s ∷ ns) rest none (suc k) h = struct-at t ns rest none k (omega arith)
 
 -- reading from an entry on
-pub section-from : (flat : List ℕ) (k : ℕ) → sectionAt flat k ≡ sectionAt (drop (9 * k) flat) 0
+pub section-from : (flat : List ℕ) (k : ℕ) → sectionAt flat k ≡ sectionAt (drop (11 * k) flat) 0
 unfolding sectionAt
 section-from flat k = simp (getD-drop, add-zero)
 
 section-past : (e : Section) (flat : List ℕ) (k : ℕ) → sectionAt (entryNumbers e ++ flat) (suc k) ≡ sectionAt flat k
 unfolding entryNumbers
 section-past e flat k =
-    let q : 9 * suc k ≡ 9 + 9 * k = omega arith in
+    let q : 11 * suc k ≡ 11 + 11 * k = omega arith in
     section-from (entryNumbers e ++ flat) (suc k)
     ∙ ap (λ (n : ℕ). sectionAt (drop n (entryNumbers e ++ flat)) 0) q
-    ∙ ap (λ (l : List ℕ). sectionAt l 0) (sym (drop-drop (9 * k) 9 (entryNumbers e ++ flat)))
+    ∙ ap (λ (l : List ℕ). sectionAt l 0) (sym (drop-drop (11 * k) 11 (entryNumbers e ++ flat)))
     ∙ sym (section-from flat k)
 
 pub entry-at : (t : Tree) (ns rest : List ℕ) (k : ℕ) → k < length ns → sectionAt (allNumbers (entries t ns) ++ rest) k ≡ entry t (getD ns k 0)

@@ -45,3 +45,5 @@ pub mod Above
 pub mod LookedUp
 pub mod Rule22
 pub mod Never22
+pub mod AgreedParents
+pub mod ParentsInPlace

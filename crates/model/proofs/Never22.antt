@@ -17,7 +17,7 @@ use Rattle.model.specs.Header.{headerRules, headerCheck}
 use Rattle.model.specs.Records.{sibling, recordRules, recordCheckAt, recordCheck, trailingCheck, tableCheck}
 use Rattle.model.specs.Containment.{Root, Elements, role, containment, mayHold, validated, Named, _holds_called_, fixedNames, fixedName}
 use Rattle.model.specs.Values.{placed, named, sidsRules}
-use Rattle.model.specs.Elements.{elementRules, referenceRules, referenceCheckAt, referenceCheck}
+use Rattle.model.specs.Elements.{elementRules, referenceRules, referenceCheckAt, referenceCheck, parentRules}
 use Rattle.model.specs.Validation.{sectionCheck, nodeCheckAt, nodeCheck, imageCheck, counts, validation}
 use Rattle.model.specs.Given.{NodesTo}
 use Rattle.model.proofs.Rule22.{onceOnly, sameRole, second, rulesWith22, nodeCheckWith22, imageCheckWith22, validationWith22, ruleNumbers, Never, NeverComes}
@@ -175,19 +175,22 @@ module _ (b : List ℕ) where
   entry-never i k = never-at-entry 22 (check i (referenceRules (treeOf b) i k)) (suc k) (never-check 22 i (referenceRules (treeOf b) i k) refl)
 
   node-never : (i : ℕ) → Never 22 (nodeCheckAt (treeOf b) i)
-  unfolding nodeCheckAt sectionCheck referenceCheck sidsRules elementRules ruleNumbers among
+  unfolding nodeCheckAt sectionCheck referenceCheck sidsRules elementRules parentRules ruleNumbers among
   node-never i = by-test (validated (treeOf b) i) (eqb (role (treeOf b) i) Elements)
     where
       sids : Never 22 (check i (sidsRules (treeOf b) i))
       sids = never-check 22 i (sidsRules (treeOf b) i) refl
 
-      by-test : (v e : Bool)
-          → Never 22 (cond v (check i (sidsRules (treeOf b) i) then cond e (check i (elementRules (treeOf b) i) then referenceCheck (treeOf b) i) passed) passed)
+      section : Check
+      section = check i (elementRules (treeOf b) i) then referenceCheck (treeOf b) i then check i (parentRules (treeOf b) i)
+
+      by-test : (v e : Bool) → Never 22 (cond v (check i (sidsRules (treeOf b) i) then cond e section passed) passed)
       by-test false e = never-answer 22 tt
       by-test true true =
           never-then 22 _ _ sids
           (never-then 22 (check i (elementRules (treeOf b) i)) _ (never-check 22 i (elementRules (treeOf b) i) refl)
-          (never-from 22 (referenceCheckAt (treeOf b) i) _ 0 (entry-never i)))
+          (never-then 22 (referenceCheck (treeOf b) i) _ (never-from 22 (referenceCheckAt (treeOf b) i) _ 0 (entry-never i))
+          (never-check 22 i (parentRules (treeOf b) i) refl)))
       by-test true false = never-then 22 _ _ sids (never-answer 22 tt)
 
   answer-never : Never 22 (validation b)

@@ -13,7 +13,7 @@ use Rattle.model.specs.Header.{headerRules, headerCheck}
 use Rattle.model.specs.Records.{recordRules, recordCheckAt, recordCheck, trailingCheck, tableCheck}
 use Rattle.model.specs.Containment.{role, Elements, validated}
 use Rattle.model.specs.Values.{sidsRules}
-use Rattle.model.specs.Elements.{elementRules, referenceRules, referenceCheckAt, referenceCheck}
+use Rattle.model.specs.Elements.{elementRules, referenceRules, referenceCheckAt, referenceCheck, parentRules}
 use Rattle.model.specs.Validation.{sectionCheck, nodeCheckAt, nodeCheck, imageCheck, validation}
 use Rattle.model.specs.NameBytes.{nameBytesAnswer}
 use Rattle.model.specs.Path.{pathCheck, pathAnswer}
@@ -22,6 +22,7 @@ use Rattle.model.specs.Sections.{sectionsCheck, sectionsAnswer}
 use Rattle.model.specs.Corner.{cornerCheck, cornerAnswer}
 use Rattle.model.specs.ArrayValue.{valueCheck, valueAnswer}
 use Rattle.model.specs.FaceUsage.{useEntry, useEntries, useNodes, usage, usageCheck, usageAnswer, usesIn, unused, useSign, usePlace}
+use Rattle.model.specs.ParentElements.{parentsCheck, parentsAnswer, agreementCheck, agreementAnswer}
 use Rattle.model.specs.ReadList.{ruleOf}
 use Rattle.model.specs.ElementCorners.{elementCornersCheck, elementCornersAnswer}
 use Rattle.model.specs.OwnType.{ownTypeCheck, ownTypeAnswer}
@@ -89,11 +90,12 @@ of-table b =
     (of-check (treeOf b .count) _ refl))
 
 of-section : (t : Tree) (i : ℕ) → Numbered (sectionCheck t i)
-unfolding sectionCheck elementRules referenceCheck referenceCheckAt referenceRules noneOfEntries allOfEntries tellsEntry
+unfolding sectionCheck elementRules referenceCheck referenceCheckAt referenceRules parentRules noneOfEntries allOfEntries tellsEntry
 of-section t i =
     of-cond _ passed (eqb (role t i) Elements)
-    (of-then (check i (elementRules t i)) (referenceCheck t i) (of-check i (elementRules t i) refl)
-    (of-walk (referenceCheckAt t i) (λ k. of-entry-check i k (referenceRules t i k) refl) _ 0)) tt
+    (of-then (check i (elementRules t i)) _ (of-check i (elementRules t i) refl)
+    (of-then (referenceCheck t i) _ (of-walk (referenceCheckAt t i) (λ k. of-entry-check i k (referenceRules t i k) refl) _ 0)
+    (of-check i (parentRules t i) refl))) tt
 
 of-node : (t : Tree) (i : ℕ) → Numbered (nodeCheckAt t i)
 unfolding nodeCheckAt sidsRules noneOfEntries tellsEntry
@@ -119,9 +121,14 @@ unfolding useNodes
 of-nodes t z zero s bytes = tt
 of-nodes t z (suc n) s bytes = of-into (useEntries t s (usesIn t z s) 0 bytes) _ (of-entries t s (usesIn t z s) 0 bytes) (λ later. of-nodes t z n (suc s) later)
 
+of-uses : (b : List ℕ) (z room : ℕ) → Numbered (usageAnswer b z room)
+unfolding usageAnswer usageCheck usage noneOfEntries tellsEntry
+of-uses b z room =
+    of-into _ _ (of-then _ _ (of-then (imageCheck b) _ (of-image b) (of-check 0 _ refl)) (of-nodes (treeOf b) z _ 0 _)) (λ bytes. tt)
+
 pub all-numbered : (b : List ℕ) → AllNumbered b
-unfolding validation sectionsAnswer sectionsCheck cornerAnswer cornerCheck elementCornersAnswer elementCornersCheck ownTypeAnswer ownTypeCheck usageAnswer usageCheck usage
-    nameBytesAnswer pathAnswer pathCheck dataSizeAnswer valueAnswer valueCheck noneOfEntries tellsEntry
+unfolding validation sectionsAnswer sectionsCheck cornerAnswer cornerCheck elementCornersAnswer elementCornersCheck ownTypeAnswer ownTypeCheck
+    parentsAnswer parentsCheck agreementAnswer agreementCheck nameBytesAnswer pathAnswer pathCheck dataSizeAnswer valueAnswer valueCheck noneOfEntries tellsEntry
 all-numbered b =
     record {
       of-validation = of-gives (imageCheck b) _ (of-image b);
@@ -129,9 +136,9 @@ all-numbered b =
       of-corner = λ e element corner. of-gives _ _ (of-check 0 _ refl);
       of-element = λ e element room. of-gives _ _ (of-check 0 _ refl);
       of-type = λ e element. of-gives _ _ (of-check 0 _ refl);
-      of-usage = λ z room.
-          of-into _ _ (of-then _ _ (of-then (imageCheck b) _ (of-image b) (of-check 0 _ refl)) (of-nodes (treeOf b) z _ 0 _))
-          (λ bytes. tt);
+      of-usage = of-uses b;
+      of-parents = λ z f. of-gives _ _ (of-then (imageCheck b) _ (of-image b) (of-check 0 _ refl));
+      of-agreement = λ z room. of-into _ _ (of-then _ _ (of-then (imageCheck b) _ (of-image b) (of-check 0 _ refl)) (of-uses b z room)) (λ faces. tt);
       of-name-bytes = of-gives (tableCheck b) _ (of-table b);
       of-path = λ i room. of-gives _ _ (of-then (tableCheck b) _ (of-table b) (of-check 0 _ refl));
       of-sizes = λ i. of-gives _ _ (of-then (imageCheck b) _ (of-image b) (of-check 0 _ refl));

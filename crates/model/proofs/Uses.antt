@@ -17,7 +17,7 @@ use Rattle.model.specs.Rules.{rejected, answer, passed, repetition, _int
 use Rattle.model.specs.Image.{Tree, treeOf, nodeCount, parent, width}
 use Rattle.model.specs.Containment.{sectionOf}
 use Rattle.model.specs.Values.{connectivityOf}
-use Rattle.model.specs.Elements.{NFACE, elementType, connectivityLength, firstElement, lastElement, elementCount, inRange, faceSection, hasFace, faceOf}
+use Rattle.model.specs.Elements.{NFACE, elementType, connectivityLength, firstElement, lastElement, elementCount, inRange, faceSection, hasFace, faceOf, sectionWithFace}
 use Rattle.model.specs.Elements.{faceNumber, reference}
 use Rattle.model.specs.FaceUsage.{facesIn, faceCount, facePlace, usePlace, useSign, unused, elementHolding, useEntry, useEntries, usesIn, useNodes, usage}
 use Rattle.model.specs.FaceUsage.{positiveUses, negativeUses, cellEntries}
@@ -30,7 +30,7 @@ use Rattle.model.proofs.References.{reference-face}
 
 -- a face of the zone has a place below F
 place-below : (t : Tree) (z f : ℕ) → faceOf t z f ≡ true → facePlace t z f < faceCount t z
-unfolding faceOf facePlace faceCount facesIn hasFace inRange elementCount
+unfolding faceOf sectionWithFace facePlace faceCount facesIn hasFace inRange elementCount
 place-below t z f e = omega (arith, sum-part (facesIn t z) s (t .count) inside, size)
   where
     some : Some (hasFace t z f) (t .count) 0
@@ -180,6 +180,11 @@ module _ (b : List ℕ) (yes : imageCheck b ≡ passed) (z : ℕ) where
 
   none-yet : Book (faceCount (treeOf b) z) (replicate (faceCount (treeOf b) z) 0)
   none-yet = record { full = length-replicate _ 0; small = zeros (faceCount (treeOf b) z) }
+
+  -- no byte tells more than the two signs
+  pub usage-small : {bytes : List ℕ} → usage (treeOf b) z ≡ answer bytes → (i : ℕ) → getD bytes i 0 < 4
+  unfolding usage treeOf
+  usage-small e = use-nodes (treeOf b) (faceCount (treeOf b) z) z (nodeCount b) 0 none-yet (λ s k l m. entry-below s k (omega arith)) e .0 .small
 
   pub all-uses : {bytes : List ℕ} → usage (treeOf b) z ≡ answer bytes → positiveUses bytes + negativeUses bytes ≡ cellEntries (treeOf b) z
   unfolding usage treeOf cellEntries tally sumBefore

@@ -21,10 +21,10 @@ module _ (t : Tree) (z : ℕ) where
   unfolding sectionNodes
   nodes-counted = list-length (sectionOf t z) (t .count) 0
 
-  numbers-counted : length (allNumbers (sectionEntries t z)) ≡ 9 * sectionCount t z
+  numbers-counted : length (allNumbers (sectionEntries t z)) ≡ 11 * sectionCount t z
   unfolding sectionEntries
   numbers-counted =
-      numbers-length (entries t (sectionNodes t z)) ∙ ap (λ (n : ℕ). 9 * n) (entries-length t (sectionNodes t z) ∙ nodes-counted)
+      numbers-length (entries t (sectionNodes t z)) ∙ ap (λ (n : ℕ). 11 * n) (entries-length t (sectionNodes t z) ∙ nodes-counted)
 
   pub section-at : (k : ℕ) → k < sectionCount t z → Within (sectionOf t z) (t .count) 0 (sectionNode t z k)
   unfolding sectionNodes
@@ -48,7 +48,7 @@ module _ (t : Tree) (z : ℕ) where
 module _ (b : List ℕ) (z : ℕ) (rest : List ℕ) (k : ℕ) (h : k < sectionCount (treeOf b) z) where
   pub entry-listed : k < entriesIn (given b z rest .entries)
   entry-listed =
-      let n : length (allNumbers (sectionEntries (treeOf b) z) ++ rest) ≡ 9 * sectionCount (treeOf b) z + length rest =
+      let n : length (allNumbers (sectionEntries (treeOf b) z) ++ rest) ≡ 11 * sectionCount (treeOf b) z + length rest =
       rw length-append (rw (numbers-counted (treeOf b) z)) in
       omega arith
 

@@ -1,7 +1,7 @@
--- For each case of an answer enum document 01's number and values. Contracts go through these definitions.
+-- For each case of an answer enum the documents' number and values. Contracts go through these definitions.
 use Prim.Native.Nat.{ℕ}
 use mathlib.Core.Path.{_≡_}
-use mathlib.Core.Bool.{true, false}
+use mathlib.Core.Bool.{Bool, true, false}
 use lib.IntN.{ℤ}
 use mir.Syntax.{w64}
 use mir.Val.{ofZ}
@@ -22,12 +22,17 @@ use Rattle.model.specs.declared.ArrayValue.{ArrayValue}
 use Rattle.model.specs.declared.ArrayValue.the-variants as ArrayValue
 use Rattle.model.specs.declared.FaceUsage.{FaceUsage}
 use Rattle.model.specs.declared.FaceUsage.the-variants as FaceUsage
+use Rattle.model.specs.declared.ParentPair.{ParentPair}
+use Rattle.model.specs.declared.ParentPair.the-variants as ParentPair
+use Rattle.model.specs.declared.Agreement.{Agreement}
+use Rattle.model.specs.declared.Agreement.the-variants as Agreement
 use Rattle.model.specs.declared.Rejection.{Rejection}
 use Rattle.model.specs.Rules.{Answer, rejected, answer, rejection, Check, passed}
 use Rattle.model.specs.Records.{TableCounts}
 use Rattle.model.specs.Validation.{Counts}
 use Rattle.model.specs.DataSize.{Sizes}
 use Rattle.model.specs.ArrayValue.{Value, whole, single, double}
+use Rattle.model.specs.ParentElements.{FaceParents}
 
 abbrev pub stageTells : Stage → Check
 stageTells Stage.Pass = passed
@@ -88,3 +93,11 @@ bitsOf (ArrayValue.Rejected r) = 0
 abbrev pub usageTells : FaceUsage → Answer ℕ
 usageTells (FaceUsage.Faces n) = answer n
 usageTells (FaceUsage.Rejected r) = rejected r
+
+abbrev pub parentsTells : ParentPair → Answer FaceParents
+parentsTells (ParentPair.Of p q) = answer (record { first = p; second = q })
+parentsTells (ParentPair.Rejected r) = rejected r
+
+abbrev pub agreementTells : Agreement → Answer Bool
+agreementTells (Agreement.Agrees y) = answer y
+agreementTells (Agreement.Rejected r) = rejected r

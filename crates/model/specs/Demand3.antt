@@ -29,7 +29,7 @@ sectionCount t z = countFrom (sectionOf t z) (t .count) 0
 abbrev pub sectionNode : Tree → ℕ → ℕ → ℕ
 sectionNode t z k = getD (sectionNodes t z) k 0
 
--- what is given: the image, and a lent list that begins with the zone's section entries, nine numbers each
+-- what is given: the image, and a lent list that begins with the zone's section entries, eleven numbers each
 abbrev pub given : List ℕ → ℕ → List ℕ → ReadState
 given b z rest = record { image = b; entries = allNumbers (sectionEntries (treeOf b) z) ++ rest }
 

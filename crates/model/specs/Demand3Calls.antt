@@ -58,7 +58,7 @@ pub record TypeAnswers (b : List ℕ) (z k element : ℕ) (a : Answer ℕ) : Typ
   pub never-43 : (why : Rejection) → a ≡ rejected why → why .rule ≡ 43 → ⊥
   pub type-answered : InSection (treeOf b) z k element → a ≡ answer (typeIn (treeOf b) z k element)
 
--- A call of the corner export. The caller has copied the section's bytes from the list that the section call left: their nine words are the entry asked for.
+-- A call of the corner export. The caller has copied the section's bytes from the list that the section call left: their eleven words are the entry asked for.
 pub record CornerCall : Type 0 where
   pub found : ReadState
   pub asked : Request
@@ -69,7 +69,7 @@ pub record CornerCall : Type 0 where
   pub number′ : List ℕ
   pub left : ReadState
 
--- the k-th nine of a list of numbers, in bytes
+-- the k-th eleven of a list of numbers, in bytes
 pub record Copied (entries : List ℕ) (k : ℕ) (section : List ℕ) : Type 0 where
   pub whole : sectionSize ≤ length section
   pub words-are : numbers 8 entryLength section ≡ take entryLength (drop (entryLength * k) entries)

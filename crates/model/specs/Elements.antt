@@ -1,14 +1,15 @@
--- Document 01, "Sections", and document 02, §2, §4 and §6: rules 27 to 33 and 38 of a section, then 34 to 37 of the entries of its connectivity.
+-- Document 01, "Sections", and document 02, §2, §4, §6 and §7: rules 27 to 33 and 38 of a section, then 34 to 37 of the entries of its connectivity, then 39
+-- of the parents of its faces.
 use Prim.Native.Nat.{ℕ, zero, suc, _+_, _*_, _-_}
 use mathlib.Core.Bool.{Bool, cond, not, _&&_, _||_}
 use mathlib.Core.List.{List, [], _∷_}
 use lib.Dec.{eqb, leb, ltb}
-use Rattle.model.specs.Lists.{_⊃_, Row, _has_, row, someFrom, everyFrom}
-use Rattle.model.specs.Bytes.{below, magnitude}
+use Rattle.model.specs.Lists.{_⊃_, Row, _has_, row, someFrom, everyFrom, seekFrom}
+use Rattle.model.specs.Bytes.{below, magnitude, text}
 use Rattle.model.specs.Rules.{Rule, _unless_, Check, check, _atEntry_, checkFrom}
-use Rattle.model.specs.Image.{Tree, parent, width, number}
-use Rattle.model.specs.Containment.{sectionOf, found}
-use Rattle.model.specs.Values.{size, cellDimension, vertexSize, typeLawful, valueLawful, rangeOf, offsetsOf, connectivityOf}
+use Rattle.model.specs.Image.{Tree, parent, width, number, I4, I8}
+use Rattle.model.specs.Containment.{DataArray, sectionOf, child, found, orMissing}
+use Rattle.model.specs.Values.{typed, shaped, size, cellDimension, vertexSize, typeLawful, valueLawful, rangeOf, offsetsOf, connectivityOf}
 
 abbrev pub MIXED : ℕ
 MIXED = 20
@@ -185,6 +186,20 @@ hasFace t z f s = faceSection t z s && inRange t s f
 unfoldable pub faceOf : Tree → ℕ → ℕ → Bool
 faceOf t z f = someFrom (hasFace t z f) (t .count) 0
 
+-- the section that brings it: the first, and by rule 28 the only one
+unfoldable pub sectionWithFace : Tree → ℕ → ℕ → ℕ
+sectionWithFace t z f = seekFrom (hasFace t z f) (t .count) 0
+
+-- a cell section of the zone: such a section of type 23; it brings cell c to the zone; c is a cell of the zone
+unfoldable pub cellSection : Tree → ℕ → ℕ → Bool
+cellSection t z s = conformingSection t z s && eqb (elementType t s) NFACE
+
+unfoldable pub hasCell : Tree → ℕ → ℕ → ℕ → Bool
+hasCell t z c s = cellSection t z s && inRange t s c
+
+unfoldable pub cellOf : Tree → ℕ → ℕ → Bool
+cellOf t z c = someFrom (hasCell t z c) (t .count) 0
+
 -- the element number that entry k of a type 23 section refers to; a negative reference means the same face seen from its other side
 unfoldable pub faceNumber : Tree → ℕ → ℕ → ℕ
 faceNumber t s k = magnitude (width t (connectivityOf t s)) (reference t s k)
@@ -227,3 +242,30 @@ referenceCheckAt t s k = check s (referenceRules t s k) atEntry suc k
 
 unfoldable pub referenceCheck : Tree → ℕ → Check
 referenceCheck t s = checkFrom (referenceCheckAt t s) (connectivityLength t s) 0
+
+-- the ParentElements of a section of type 22, conforming or not; the node count where it is absent
+unfoldable pub parentsOf : Tree → ℕ → ℕ
+parentsOf t s = orMissing t (eqb (elementType t s) NGON) (child t s DataArray (text "ParentElements"))
+
+-- the parents of its k-th face, counted from 0: the first column has the first parents of all faces, the second column the second parents
+unfoldable pub firstParent : Tree → ℕ → ℕ → ℕ
+firstParent t s k = number t (parentsOf t s) k
+
+unfoldable pub secondParent : Tree → ℕ → ℕ → ℕ
+secondParent t s k = number t (parentsOf t s) (elementCount t s + k)
+
+-- the first is a cell of the zone; the second is one, or 0
+unfoldable pub areParents : Tree → ℕ → ℕ → Bool
+areParents t s k =
+    cellOf t (parent t s) (firstParent t s k) && (eqb (secondParent t s k) 0 || cellOf t (parent t s) (secondParent t s k))
+
+-- 39: I4 or I8, dimensions [n, 2], and each face has such parents
+unfoldable pub parentsLawful : Tree → ℕ → Bool
+parentsLawful t s =
+    typed t (parentsOf t s) (I4 ∷ I8 ∷ [])
+    && shaped t (parentsOf t s) (elementCount t s ∷ 2 ∷ [])
+    && everyFrom (areParents t s) (elementCount t s) 0
+
+-- the rule of a section after those of its entries
+unfoldable pub parentRules : Tree → ℕ → List Rule
+parentRules t s = 39 unless (found t (parentsOf t s) ⊃ parentsLawful t s) ∷ []

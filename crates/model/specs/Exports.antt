@@ -2,7 +2,7 @@
 -- after the other; where these are too short it is refused with 46 and nothing at all is written.
 use Prim.Native.Nat.{ℕ, _*_, _≤_}
 use mathlib.Core.Path.{_≡_}
-use mathlib.Core.Bool.{Bool, _&&_}
+use mathlib.Core.Bool.{Bool, cond, _&&_}
 use mathlib.Core.List.{List, [], _∷_}
 use lib.ListN.{length}
 use lib.Dec.{leb, ltb}
@@ -21,6 +21,7 @@ use Rattle.model.specs.Sections.{entryLength, sectionsAnswer}
 use Rattle.model.specs.Corner.{cornerAnswer}
 use Rattle.model.specs.ArrayValue.{Value, whole, single, double, valueAnswer}
 use Rattle.model.specs.FaceUsage.{usageAnswer}
+use Rattle.model.specs.ParentElements.{FaceParents, parentsAnswer, agreementAnswer}
 use Rattle.model.specs.Reads.{sectionAt}
 use Rattle.model.specs.ReadList.{ruleOf}
 use Rattle.model.specs.ElementCorners.{elementCornersAnswer, elementCornersMemory}
@@ -41,6 +42,16 @@ countWords (answer n) = 0 ∷ 0 ∷ n ∷ []
 unfoldable pub usageWords : Answer ℕ → List ℕ
 usageWords (rejected r) = r .node ∷ r .entry ∷ r .element ∷ 0 ∷ []
 usageWords (answer n) = 0 ∷ 0 ∷ 0 ∷ n ∷ []
+
+-- the two parents
+unfoldable pub parentWords : Answer FaceParents → List ℕ
+parentWords (rejected r) = r .node ∷ r .entry ∷ 0 ∷ 0 ∷ []
+parentWords (answer p) = 0 ∷ 0 ∷ p .first ∷ p .second ∷ []
+
+-- the element of 45, then 1 where the parents agree, 0 where they do not
+unfoldable pub agreementWords : Answer Bool → List ℕ
+agreementWords (rejected r) = r .node ∷ r .entry ∷ r .element ∷ 0 ∷ []
+agreementWords (answer y) = 0 ∷ 0 ∷ 0 ∷ cond y 1 0 ∷ []
 
 -- kind (1 whole, 2 single, 3 double), bits; a whole number's are its two's complement at 64 bits
 unfoldable pub valueWords : Answer Value → List ℕ
@@ -84,12 +95,14 @@ pub record AllNumbered (b : List ℕ) : Type 0 where
   pub of-element : (e : Section) (element room : ℕ) → Numbered (elementCornersAnswer b e element room)
   pub of-type : (e : Section) (element : ℕ) → Numbered (ownTypeAnswer b e element)
   pub of-usage : (z room : ℕ) → Numbered (usageAnswer b z room)
+  pub of-parents : (z f : ℕ) → Numbered (parentsAnswer b z f)
+  pub of-agreement : (z room : ℕ) → Numbered (agreementAnswer b z room)
   pub of-name-bytes : Numbered (nameBytesAnswer b)
   pub of-path : (i room : ℕ) → Numbered (pathAnswer b i room)
   pub of-sizes : (i : ℕ) → Numbered (dataSizeAnswer b i)
   pub of-value : (i k : ℕ) → Numbered (valueAnswer b i k)
 
--- A section entry in bytes: its nine words.
+-- A section entry in bytes: its eleven words.
 abbrev pub sectionSize : ℕ
 sectionSize = 8 * entryLength
 
@@ -116,7 +129,7 @@ pub record CornerExport (image section : List ℕ) (element corner : ℕ) (numbe
   pub image-kept : image′ ≡ image
   pub section-kept : section′ ≡ section
 
--- all corners of an element, of the nine numbers of a section entry: how many
+-- all corners of an element, of the eleven numbers of a section entry: how many
 unfoldable pub elementExported : List ℕ → List ℕ → ℕ → ℕ → List ℕ → Answer ℕ
 elementExported b section element room out = readFits entryLength section out then elementCornersAnswer b (sectionAt section 0) element room
 
@@ -133,7 +146,7 @@ pub record ElementExport (image section : List ℕ) (element : ℕ) (out : List 
   pub image-kept : image′ ≡ image
   pub section-kept : section′ ≡ section
 
--- an element's own type, of the nine numbers of a section entry
+-- an element's own type, of the eleven numbers of a section entry
 unfoldable pub typeExported : List ℕ → List ℕ → ℕ → List ℕ → Answer ℕ
 typeExported b section element out = readFits entryLength section out then ownTypeAnswer b (sectionAt section 0) element
 

@@ -10,7 +10,7 @@ use Rattle.model.specs.Rules.{_unless_, Answer, rejected, answer, repeti
 use Rattle.model.specs.Image.{Tree, treeOf, parent, width}
 use Rattle.model.specs.Containment.{isZone, sectionOf}
 use Rattle.model.specs.Values.{connectivityOf}
-use Rattle.model.specs.Elements.{NFACE, elementType, firstElement, elementCount, elementStart, connectivityLength, reference, faceSection, hasFace, faceNumber}
+use Rattle.model.specs.Elements.{NFACE, elementType, firstElement, elementCount, elementStart, connectivityLength, reference, faceSection, sectionWithFace, faceNumber}
 use Rattle.model.specs.Validation.{imageCheck}
 
 -- the faces that a node brings to the zone, and F
@@ -23,7 +23,7 @@ faceCount t z = sumBefore (facesIn t z) (t .count)
 -- a face's place among them, counted from 0: by section node, then number
 unfoldable pub facePlace : Tree → ℕ → ℕ → ℕ
 facePlace t z f =
-    let s = seekFrom (hasFace t z f) (t .count) 0 in
+    let s = sectionWithFace t z f in
     sumBefore (facesIn t z) s + (f - firstElement t s)
 
 -- entry k of a section uses a face, with a sign

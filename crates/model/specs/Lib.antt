@@ -16,6 +16,8 @@ pub mod Sections
 pub mod Corner
 pub mod ArrayValue
 pub mod FaceUsage
+pub mod ParentElements
+pub mod ParentLaws
 pub mod Answers
 pub mod Given
 pub mod Reads

@@ -33,6 +33,8 @@ sectionAt flat k =
       «connectivity_at» = getD flat (entryLength * k + 6) 0;
       «connectivity_width» = getD flat (entryLength * k + 7) 0;
       «connectivity_length» = getD flat (entryLength * k + 8) 0;
+      «parents_at» = getD flat (entryLength * k + 9) 0;
+      «parents_width» = getD flat (entryLength * k + 10) 0;
     }
 
 -- a read with the k-th entry of a list: 40 where the list has none, else the corner reader's answer

@@ -10,7 +10,7 @@ use Rattle.model.specs.Rules.{_unless_, Answer, Check, check, _then_, _g
 use Rattle.model.specs.Image.{Tree, treeOf, node, width}
 use Rattle.model.specs.Containment.{isZone, sectionOf, found}
 use Rattle.model.specs.Values.{offsetsOf, connectivityOf}
-use Rattle.model.specs.Elements.{elementType, firstElement, lastElement, connectivityLength}
+use Rattle.model.specs.Elements.{elementType, firstElement, lastElement, connectivityLength, parentsOf}
 use Rattle.model.specs.Validation.{imageCheck}
 
 -- the zone's validated sections, in node order
@@ -21,7 +21,7 @@ sectionNodes t z = listFrom (sectionOf t z) (t .count) 0
 unfoldable pub dataStart : Tree → ℕ → ℕ
 dataStart t j = cond (found t j) (t .areaAt + node t j .dataAt) 0
 
--- node, type, first, last, offset place and width, connectivity place and width, connectivity length
+-- node, type, first, last, offset place and width, connectivity place and width, connectivity length, parents place and width
 unfoldable pub entry : Tree → ℕ → Section
 entry t s =
     record {
@@ -34,6 +34,8 @@ entry t s =
       «connectivity_at» = dataStart t (connectivityOf t s);
       «connectivity_width» = width t (connectivityOf t s);
       «connectivity_length» = connectivityLength t s;
+      «parents_at» = dataStart t (parentsOf t s);
+      «parents_width» = width t (parentsOf t s);
     }
 
 unfoldable pub entries : Tree → List ℕ → List Section
@@ -45,7 +47,7 @@ sectionEntries t z = entries t (sectionNodes t z)
 
 -- an entry as flat numbers, and a list of them
 abbrev pub entryLength : ℕ
-entryLength = 9
+entryLength = 11
 
 unfoldable pub entryNumbers : Section → List ℕ
 entryNumbers e =
@@ -58,6 +60,8 @@ entryNumbers e =
     ∷ e .«connectivity_at»
     ∷ e .«connectivity_width»
     ∷ e .«connectivity_length»
+    ∷ e .«parents_at»
+    ∷ e .«parents_width»
     ∷ []
 
 unfoldable pub allNumbers : List Section → List ℕ

@@ -9,11 +9,11 @@ use Rattle.model.specs.Image.{Tree, treeOf}
 use Rattle.model.specs.Records.{tableCheck}
 use Rattle.model.specs.Containment.{Zone, Elements, role, validated, skipped, validatedAs}
 use Rattle.model.specs.Values.{sidsRules}
-use Rattle.model.specs.Elements.{elementRules, referenceCheck}
+use Rattle.model.specs.Elements.{elementRules, referenceCheck, parentRules}
 
--- a section has rules 27 to 33 and 38 besides, then 34 to 37 of the entries of its connectivity
+-- a section has rules 27 to 33 and 38 besides, then 34 to 37 of the entries of its connectivity, then 39
 unfoldable pub sectionCheck : Tree → ℕ → Check
-sectionCheck t i = cond (eqb (role t i) Elements) (check i (elementRules t i) then referenceCheck t i) passed
+sectionCheck t i = cond (eqb (role t i) Elements) (check i (elementRules t i) then referenceCheck t i then check i (parentRules t i)) passed
 
 -- a node that is not validated is skipped
 unfoldable pub nodeCheckAt : Tree → ℕ → Check

@@ -153,7 +153,8 @@ points t i = pointsFrom t i (indexDimension t (zoneAbove t i)) 0
 unfoldable pub notBoth : Tree → ℕ → Bool
 notBoth t p = not (found t (child t p IndexRange (text "PointRange")) && found t (child t p IndexArray (text "PointList")))
 
--- DataArray_t under a section: ElementConnectivity and ElementStartOffset I4 or I8 with one dimension, others anything but MT
+-- DataArray_t under a section: ElementConnectivity and ElementStartOffset I4 or I8 with one dimension, others anything but MT; rule 39 has more to say of
+-- ParentElements
 unfoldable pub elementArray : Tree → ℕ → Bool
 elementArray t i = spells (name t i) (text "ElementConnectivity") || spells (name t i) (text "ElementStartOffset")
 

@@ -128,7 +128,20 @@ pub enum FaceUsage {
     Rejected(Rejection),
 }
 
-// A section entry: where a section's elements stand in the image. Offsets count from the image's start; 0 with width 0 where absent.
+// The two parents of a face, as its section stores them; the second is 0 where there is none.
+pub enum ParentPair {
+    Of { first: u64, second: u64 },
+    Rejected(Rejection),
+}
+
+// Whether the parents that a zone's face sections store agree with its cells.
+pub enum Agreement {
+    Agrees(bool),
+    Rejected(Rejection),
+}
+
+// A section entry: where a section's elements stand in the image, and the parents of its faces. Places count from the image's start; 0 with width 0 where
+// absent, and for parents where the section is not of type 22.
 #[repr(C)]
 pub struct Section {
     pub node: u64,
@@ -140,4 +153,6 @@ pub struct Section {
     pub connectivity_at: u64,
     pub connectivity_width: u64,
     pub connectivity_length: u64,
+    pub parents_at: u64,
+    pub parents_width: u64,
 }

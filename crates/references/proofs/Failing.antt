@@ -1,38 +1,13 @@
--- Numbers that meet a test one after the other, and the first that does not.
+-- The first number that does not meet a test.
 use Prim.Native.Nat.{ℕ, zero, suc, _+_, _-_, _≤_, _<_}
 use mathlib.Core.Path.{_≡_, refl, sym, _∙_}
 use mathlib.Core.Bool.{Bool, true, false, cond, _&&_}
 use native.Mathlib.Omega.{arith}
-use native.Mathlib.Decide.{ℕ-discrete, decLt}
+use native.Mathlib.Decide.{ℕ-discrete}
 use Rattle.model.proofs.Logic.{and-first, and-second}
-use Rattle.references.specs.Arrays.{Passed, FirstFailing, Failing}
-
--- numbers that meet a test, one after the other
-pub passed-none : (p : ℕ → Bool) (n k : ℕ) → k ≤ n → Passed p n k k
-passed-none p n k h = record { from = omega arith; to = h; each = λ i x y. absurd (omega arith) }
-
-module _ {p : ℕ → Bool} {n k j : ℕ} (s : Passed p n k j) where
-  pub passed-more : j < n → p j ≡ true → Passed p n k (j + 1)
-  passed-more h e =
-      record {
-        from = omega (arith, s .from);
-        to = omega arith;
-        each = λ i x y. elim (ℕ-discrete i j) [
-          | yes q ↦ rw q e
-          | no d ↦ s .each i x (omega arith)
-        ];
-      }
-
-  pub passed-on : {m : ℕ} → Passed p n j m → Passed p n k m
-  passed-on u =
-      record {
-        from = omega (arith, s .from, u .from);
-        to = u .to;
-        each = λ i x y. elim (decLt i j) [
-          | yes l ↦ s .each i x l
-          | no l ↦ u .each i (omega arith) y
-        ];
-      }
+use Rattle.section_data.specs.Passing.{Passed}
+use Rattle.section_data.proofs.Passing.{passed-none, passed-more, passed-on}
+use Rattle.references.specs.Arrays.{FirstFailing, Failing}
 
 pub passed-two : {p : ℕ → Bool} {n k j : ℕ} → Passed p n k j → 1 < n - j → (p j && p (j + 1)) ≡ true → Passed p n k (j + 2)
 passed-two {p} {j = j} s h e =

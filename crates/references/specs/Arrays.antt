@@ -1,7 +1,7 @@
 -- Rows of numbers in bytes, and what rules 34 to 37 ask of each number of a row.
 use Prim.Native.Nat.{ℕ, _-_, _≤_, _<_}
 use mathlib.Core.Path.{_≡_}
-use mathlib.Core.Bool.{Bool, true, false, _&&_, _||_}
+use mathlib.Core.Bool.{Bool, false, _&&_, _||_}
 use mathlib.Core.List.{List}
 use lib.Dec.{leb}
 use Rattle.model.specs.Bytes.{magnitude}
@@ -11,6 +11,7 @@ use Rattle.model.specs.Corner.{numberAt}
 use Rattle.rows.specs.declared.Row.{Row}
 use Rattle.ranges.specs.declared.Interval.{Interval}
 use Rattle.ranges.specs.Tables as Tables
+use Rattle.section_data.specs.Passing.{Passed}
 
 -- 34: number k lies in 1 to limit
 unfoldable pub isWithin : List ℕ → ℕ → ℕ → ℕ → ℕ → Bool
@@ -27,12 +28,6 @@ isKnown last before f = Tables.isWithin last f || Tables.isWithin before f
 -- one of them holds the magnitude of number i of a row
 abbrev pub knownAt : List ℕ → Row → Interval → Interval → ℕ → Bool
 knownAt b row last before i = isKnown last before (magnitude (row .width) (numberAt b (row .at) (row .width) i))
-
--- the numbers from k to j, of n, meet a test
-pub record Passed (p : ℕ → Bool) (n k j : ℕ) : Type 0 where
-  pub from : k ≤ j
-  pub to : j ≤ n
-  pub each : (i : ℕ) → k ≤ i → i < j → p i ≡ true
 
 -- j is the first of n numbers that does not meet a test; n where each does
 pub record FirstFailing (p : ℕ → Bool) (n j : ℕ) : Type 0 where

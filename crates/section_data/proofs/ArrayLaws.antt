@@ -1,5 +1,5 @@
--- The numbers that a node stores in one dimension, as a row of the image's bytes; the numbers of a range.
-use Prim.Native.Nat.{ℕ, zero, suc, _+_, _≤_, _<_}
+-- The numbers that a node stores in one dimension, as a row of the image's bytes; the numbers of a range, and how many elements it has.
+use Prim.Native.Nat.{ℕ, zero, suc, _+_, _-_, _≤_, _<_}
 use mathlib.Core.Path.{_≡_, refl, sym, ap, _∙_}
 use mathlib.Core.Bool.{Bool, true, false}
 use mathlib.Core.List.{List, []}
@@ -12,7 +12,7 @@ use Rattle.model.specs.Image.{Tree, nodeOf, nodesOf, treeOf, nodeCount, wordCou
 use Rattle.model.specs.Given.{Sound}
 use Rattle.model.specs.Containment.{found}
 use Rattle.model.specs.Values.{size, rangeOf, offsetsOf}
-use Rattle.model.specs.Elements.{firstElement, lastElement}
+use Rattle.model.specs.Elements.{firstElement, lastElement, elementCount}
 use Rattle.model.specs.Corner.{numberAt}
 use Rattle.model.proofs.Bounds.{node-placed}
 use Rattle.model.proofs.Reading.{rank-is}
@@ -74,3 +74,7 @@ module _ (t : Tree) (s j w : ℕ) (e : j ≡ rangeOf t s) where
   pub last-by : w ≡ number t j 1 → w ≡ lastElement t s
   unfolding lastElement
   last-by h = rw (← e) h
+
+pub count-by : (t : Tree) (s : ℕ) {first last : ℕ} → first ≡ firstElement t s → last ≡ lastElement t s → last - first + 1 ≡ elementCount t s
+unfolding elementCount
+count-by t s p q = rw (p, q)

@@ -2,3 +2,5 @@ pub mod Stored
 pub mod ArrayLaws
 pub mod SectionContext
 pub mod RangeLaws
+pub mod TableLaws
+pub mod Passing

@@ -1,24 +1,23 @@
--- The element ranges of sections by their keys: what is gathered, rule 28, and the faces of a zone.
+-- The element ranges of sections by their keys: what is gathered, and rule 28.
 use Prim.Native.Nat.{ℕ, _≤_, _<_}
 use mathlib.Core.Path.{_≡_, refl, sym, _∙_}
 use mathlib.Core.Bool.{Bool, true, false, _&&_}
 use mathlib.Core.List.{List, [], _∷_}
 use native.Mathlib.Omega.{arith}
-use native.Mathlib.Decide.{decLt}
 use lib.Dec.{eqb, leb}
-use borrow.Author.Tests.{eq-eqb, ne-eqb, eqb-true, lt-ltb, le-ltb, leb-true, not-true}
+use borrow.Author.Tests.{eq-eqb, ne-eqb, eqb-true, lt-ltb, le-ltb, not-true}
 use Rattle.model.specs.Lists.{_⊃_, row, someFrom, countFrom, seekFrom}
 use Rattle.model.specs.Image.{Tree, treeOf, nodeCount, parent, I4}
 use Rattle.model.specs.Given.{Sound, NodesTo}
 use Rattle.model.specs.Containment.{role, validated, validatedAs, sectionOf, found, Elements, IndexRange}
 use Rattle.model.specs.Values.{typed, shaped, notNegative, typeLawful, valueLawful, rangeOf, connectivityOf, sidsRules}
-use Rattle.model.specs.Rules.{check}
+use Rattle.model.specs.Rules.{check, passed, _then_}
 use Rattle.model.specs.Validation.{sectionCheck, nodeCheckAt}
-use Rattle.model.specs.Elements.{NGON, elementType, firstElement, lastElement, inRange, meets, overlap, overlaps, conformingSection, hasElement, elementOf}
-use Rattle.model.specs.Elements.{faceSection, hasFace, faceOf, elementRules, referenceCheck}
-use Rattle.model.proofs.Logic.{untrue, and-first, and-second}
+use Rattle.model.specs.Elements.{firstElement, lastElement, inRange, meets, overlap, overlaps, conformingSection, hasElement, elementOf}
+use Rattle.model.specs.Elements.{elementRules, referenceCheck, parentRules}
+use Rattle.model.proofs.Logic.{untrue, and-first, and-second, and-false}
 use Rattle.model.proofs.Loops.{SeekLeft, seek-start, seek-stop}
-use Rattle.model.proofs.Walks.{some-at, some-same, seek-holds}
+use Rattle.model.proofs.Walks.{some-same, seek-holds}
 use Rattle.model.proofs.Passed.{check-pass, then-first, then-second, claim}
 use Rattle.model.proofs.Conforming.{conforming-inside, conforming-parent, conforming-role}
 use Rattle.model.proofs.Above.{earlier-rule}
@@ -30,7 +29,7 @@ use Rattle.ranges.proofs.Gathering.{gathered-room}
 use Rattle.ranges.proofs.Half.{half}
 use Rattle.ranges.proofs.Keys.{key-meets}
 use Rattle.section_data.specs.Given.{Ranged, SectionContext}
-use Rattle.section_data.specs.Ranges.{isRanged, firstKey, lastKey, rangedOverlap, overlapAt, RangeOf, Faces}
+use Rattle.section_data.specs.Ranges.{isWanted, isRanged, firstKey, lastKey, rangedOverlap, overlapAt, RangeOf}
 use Rattle.section_data.proofs.Stored.{type-section, range-ready}
 use Rattle.section_data.proofs.SectionContext.{complete-is}
 
@@ -83,47 +82,38 @@ element-by b z e q h = rw q at h
 
 -- the node of a section's range
 module _ (b : List ℕ) (s : ℕ) where
-  pub range-none : (faces : Bool) {r : ℕ} → isRanged (treeOf b) faces s ≡ false → r ≡ nodeCount b → RangeOf b faces s r
-  range-none faces {r} e q = record { tells = le-ltb r (nodeCount b) (omega arith) ∙ sym e; is = λ h. absurd (omega arith) }
+  pub range-none : (k : ℕ) {r : ℕ} → isRanged (treeOf b) k s ≡ false → r ≡ nodeCount b → RangeOf b k s r
+  range-none k {r} e q = record { tells = le-ltb r (nodeCount b) (omega arith) ∙ sym e; is = λ h. absurd (omega arith) }
 
-  -- it is no section; it brings no faces
-  pub not-section : (faces : Bool) → validatedAs (treeOf b) Elements s ≡ false → isRanged (treeOf b) faces s ≡ false
+  -- it is no section; it is not asked for
+  pub not-section : (k : ℕ) → validatedAs (treeOf b) Elements s ≡ false → isRanged (treeOf b) k s ≡ false
   unfolding isRanged
-  not-section faces e = rw e
+  not-section k e = rw e
 
-  pub not-wanted : (faces : Bool) → (faces ⊃ (typeLawful (treeOf b) s && valueLawful (treeOf b) s && eqb (elementType (treeOf b) s) NGON)) ≡ false
-      → isRanged (treeOf b) faces s ≡ false
+  pub not-wanted : (k : ℕ) → isWanted (treeOf b) k s ≡ false → isRanged (treeOf b) k s ≡ false
   unfolding isRanged
-  not-wanted faces e = rw e (by-test (validatedAs (treeOf b) Elements s))
-    where
-      by-test : (c : Bool) → (c && false && found (treeOf b) (rangeOf (treeOf b) s)) ≡ false
-      by-test true = refl
-      by-test false = refl
+  not-wanted k e = rw (e, and-false (validatedAs (treeOf b) Elements s))
 
-  pub range-by : (faces : Bool) {r : ℕ} → validatedAs (treeOf b) Elements s ≡ true
-      → (faces ⊃ (typeLawful (treeOf b) s && valueLawful (treeOf b) s && eqb (elementType (treeOf b) s) NGON)) ≡ true
-      → r ≡ rangeOf (treeOf b) s → RangeOf b faces s r
+  pub range-by : (k : ℕ) {r : ℕ} → validatedAs (treeOf b) Elements s ≡ true → isWanted (treeOf b) k s ≡ true → r ≡ rangeOf (treeOf b) s → RangeOf b k s r
   unfolding isRanged found treeOf
-  range-by faces e g q = record { tells = rw (e, g, q); is = λ h. q }
+  range-by k e g q = record { tells = rw (e, g, q); is = λ h. q }
 
-module _ {b : List ℕ} {faces : Bool} {s r : ℕ} (o : RangeOf b faces s r) where
-  pub has-range : r < nodeCount b → isRanged (treeOf b) faces s ≡ true
+module _ {b : List ℕ} {k s r : ℕ} (o : RangeOf b k s r) where
+  pub has-range : r < nodeCount b → isRanged (treeOf b) k s ≡ true
   has-range h = sym (o .tells) ∙ lt-ltb r (nodeCount b) h
 
-  pub no-range : nodeCount b ≤ r → isRanged (treeOf b) faces s ≡ false
+  pub no-range : nodeCount b ≤ r → isRanged (treeOf b) k s ≡ false
   no-range h = sym (o .tells) ∙ le-ltb r (nodeCount b) h
 
 -- what a section that counts has
-module _ {b : List ℕ} (g : Sound b) (faces : Bool) (s : ℕ) (e : isRanged (treeOf b) faces s ≡ true) where
+module _ {b : List ℕ} (g : Sound b) (k s : ℕ) (e : isRanged (treeOf b) k s ≡ true) where
   pub is-section : validatedAs (treeOf b) Elements s ≡ true
   unfolding isRanged
   is-section = and-first _ _ (and-first _ (found (treeOf b) (rangeOf (treeOf b) s)) e)
 
-  range-found : found (treeOf b) (rangeOf (treeOf b) s) ≡ true
+  pub range-found : found (treeOf b) (rangeOf (treeOf b) s) ≡ true
   unfolding isRanged
-  range-found =
-      let t = treeOf b in
-      and-second (validatedAs t Elements s && (faces ⊃ (typeLawful t s && valueLawful t s && eqb (elementType t s) NGON))) _ e
+  range-found = and-second (validatedAs (treeOf b) Elements s && isWanted (treeOf b) k s) _ e
 
   role-is : role (treeOf b) s ≡ Elements
   unfolding validatedAs
@@ -136,29 +126,29 @@ module _ {b : List ℕ} (g : Sound b) (faces : Bool) (s : ℕ) (e : isRanged (tr
   zone-inside h = held-inside b g s h Elements role-is refl
 
   -- its range is a child of its own, which is no section
-  own-child : (rangeOf (treeOf b) s < nodeCount b) × (parent (treeOf b) (rangeOf (treeOf b) s) ≡ s) × (isRanged (treeOf b) faces (rangeOf (treeOf b) s) ≡ false)
+  own-child : (rangeOf (treeOf b) s < nodeCount b) × (parent (treeOf b) (rangeOf (treeOf b) s) ≡ s) × (isRanged (treeOf b) k (rangeOf (treeOf b) s) ≡ false)
   unfolding rangeOf treeOf validatedAs
   own-child =
       let t = treeOf b in
       let r = conforming-role t s IndexRange _ range-found in
-      (conforming-inside t s IndexRange _ range-found, conforming-parent t s IndexRange _ range-found, not-section b _ faces (rw r))
+      (conforming-inside t s IndexRange _ range-found, conforming-parent t s IndexRange _ range-found, not-section b _ k (rw r))
 
 -- a section that meets rules 20 to 26 counts
-pub ready-ranged : {b : List ℕ} {s : ℕ} → SectionContext b s → validated (treeOf b) s ≡ true → isRanged (treeOf b) false s ≡ true
-unfolding isRanged _⊃_ found treeOf validatedAs
+pub ready-ranged : {b : List ℕ} {s : ℕ} → SectionContext b s → validated (treeOf b) s ≡ true → isRanged (treeOf b) 0 s ≡ true
+unfolding isRanged isWanted _⊃_ found treeOf validatedAs
 ready-ranged {b} {s} d v = rw (d .elements, v, lt-ltb (rangeOf (treeOf b) s) (nodeCount b) (d .ranged .range .inside))
 
 -- so the tables have room for all of them
-pub ranged-few : {b : List ℕ} → Sound b → (faces : Bool) → countFrom (isRanged (treeOf b) faces) (nodeCount b) 0 ≤ 2048
-ranged-few {b} g faces =
-    let h = half (isRanged (treeOf b) faces) (rangeOf (treeOf b)) (parent (treeOf b)) (nodeCount b) (λ s l e. own-child g faces s e) in
+pub ranged-few : {b : List ℕ} → Sound b → (k : ℕ) → countFrom (isRanged (treeOf b) k) (nodeCount b) 0 ≤ 2048
+ranged-few {b} g k =
+    let h = half (isRanged (treeOf b) k) (rangeOf (treeOf b)) (parent (treeOf b)) (nodeCount b) (λ s l e. own-child g k s e) in
     let f = g .laid .few in
     omega arith
 
-pub room : {b : List ℕ} (faces : Bool) {firsts reach : List ℕ} {n i : ℕ} → Sound b
-    → Gathered (isRanged (treeOf b) faces) (firstKey (treeOf b)) (lastKey (treeOf b)) firsts reach n i
-    → i < nodeCount b → isRanged (treeOf b) faces i ≡ true → n < 2048
-room {b} faces s g h e = let l = gathered-room g (nodeCount b) h e in let m = ranged-few s faces in omega arith
+pub room : {b : List ℕ} (k : ℕ) {firsts reach : List ℕ} {n i : ℕ} → Sound b
+    → Gathered (isRanged (treeOf b) k) (firstKey (treeOf b)) (lastKey (treeOf b)) firsts reach n i
+    → i < nodeCount b → isRanged (treeOf b) k i ≡ true → n < 2048
+room {b} k s g h e = let l = gathered-room g (nodeCount b) h e in let m = ranged-few s k in omega arith
 
 -- keys as they are read
 pub first-key : (t : Tree) (s : ℕ) {z w r : ℕ} → z ≡ parent t s → w ≡ firstElement t s → r ≡ key z w → r ≡ firstKey t s
@@ -170,11 +160,11 @@ unfolding lastKey
 last-key t s e f h = h ∙ rw (e, f)
 
 -- 28: two sections meet where their keys do
-module _ {b : List ℕ} (g : Sound b) (s : ℕ) (e : isRanged (treeOf b) false s ≡ true) where
-  meets-key : (r : ℕ) → meetsSection (isRanged (treeOf b) false) (firstKey (treeOf b)) (lastKey (treeOf b)) (firstKey (treeOf b) s) (lastKey (treeOf b) s) r
+module _ {b : List ℕ} (g : Sound b) (s : ℕ) (e : isRanged (treeOf b) 0 s ≡ true) where
+  meets-key : (r : ℕ) → meetsSection (isRanged (treeOf b) 0) (firstKey (treeOf b)) (lastKey (treeOf b)) (firstKey (treeOf b) s) (lastKey (treeOf b) s) r
       ≡ rangedOverlap (treeOf b) s r
   unfolding meetsSection rangedOverlap overlap meets sectionOf firstKey lastKey
-  meets-key r = by-test (isRanged (treeOf b) false r) refl
+  meets-key r = by-test (isRanged (treeOf b) 0 r) refl
     where
       turn : (p x y : Bool) → (p && (x && y)) ≡ ((p && true) && (y && x))
       turn false x y = refl
@@ -183,17 +173,17 @@ module _ {b : List ℕ} (g : Sound b) (s : ℕ) (e : isRanged (treeOf b) false s
       turn true false true = refl
       turn true false false = refl
 
-      by-test : (c : Bool) → isRanged (treeOf b) false r ≡ c
+      by-test : (c : Bool) → isRanged (treeOf b) 0 r ≡ c
           → (c && (leb (key (parent (treeOf b) r) (firstElement (treeOf b) r)) (key (parent (treeOf b) s) (lastElement (treeOf b) s))
           && leb (key (parent (treeOf b) s) (firstElement (treeOf b) s)) (key (parent (treeOf b) r) (lastElement (treeOf b) r))))
           ≡ (c && ((eqb (parent (treeOf b) r) (parent (treeOf b) s) && validatedAs (treeOf b) Elements r)
           && (leb (firstElement (treeOf b) s) (lastElement (treeOf b) r) && leb (firstElement (treeOf b) r) (lastElement (treeOf b) s))))
       by-test true q =
           let t = treeOf b in
-          let x = ranged g false s e .most in
-          let y = ranged g false r q .most in
+          let x = ranged g 0 s e .most in
+          let y = ranged g 0 r q .most in
           rw (
-            is-section g false r q,
+            is-section g 0 r q,
             key-meets (parent t r) (parent t s) (firstElement t r) (lastElement t r) (firstElement t s) (lastElement t s)
                 (omega arith) (omega arith),
           )
@@ -201,22 +191,43 @@ module _ {b : List ℕ} (g : Sound b) (s : ℕ) (e : isRanged (treeOf b) false s
       by-test false q = refl
 
   pub overlap-by : {firsts reach : List ℕ} {n first last : ℕ} {r : Bool}
-      → Gathered (isRanged (treeOf b) false) (firstKey (treeOf b)) (lastKey (treeOf b)) firsts reach n s
+      → Gathered (isRanged (treeOf b) 0) (firstKey (treeOf b)) (lastKey (treeOf b)) firsts reach n s
       → first ≡ firstKey (treeOf b) s → last ≡ lastKey (treeOf b) s → r ≡ someFrom (meetsAt firsts reach first last) n 0 → r ≡ overlapAt (treeOf b) s
   unfolding overlapAt
   overlap-by {firsts} {reach} {n} {first} {last} f p q h =
       h ∙ f .meets first last ∙ rw (e, p, q)
-      (some-same (meetsSection (isRanged (treeOf b) false) (firstKey (treeOf b)) (lastKey (treeOf b)) (firstKey (treeOf b) s) (lastKey (treeOf b) s))
+      (some-same (meetsSection (isRanged (treeOf b) 0) (firstKey (treeOf b)) (lastKey (treeOf b)) (firstKey (treeOf b) s) (lastKey (treeOf b) s))
       (rangedOverlap (treeOf b) s) s 0 (λ r l m. meets-key r))
 
-pub no-overlap : (b : List ℕ) (s : ℕ) → isRanged (treeOf b) false s ≡ false → false ≡ overlapAt (treeOf b) s
+pub no-overlap : (b : List ℕ) (s : ℕ) → isRanged (treeOf b) 0 s ≡ false → false ≡ overlapAt (treeOf b) s
 unfolding overlapAt
 no-overlap b s e = rw e
 
+-- validation has come to node s: an earlier section broke no rule
+pub section-passed : {b : List ℕ} {s : ℕ} → NodesTo b s → (r : ℕ) → r < s → validatedAs (treeOf b) Elements r ≡ true
+    → (check r (elementRules (treeOf b) r) then referenceCheck (treeOf b) r then check r (parentRules (treeOf b) r)) ≡ passed
+unfolding validatedAs nodeCheckAt sectionCheck
+section-passed {b} g r h v =
+    let t = treeOf b in
+    let x = and-first (eqb (role t r) Elements) _ v in
+    let y = and-second (eqb (role t r) Elements) _ v in
+    rw x at (then-second (check r (sidsRules t r)) (sectionCheck t r) (rw y at (g .before r h)))
+
+-- no number before s meets a test: s is the first of n that does, exactly where s does
+pub first-is : (p : ℕ → Bool) (n s : ℕ) {o : ℕ} → s < n → ((r : ℕ) → r < s → p r ≡ false) → o ≡ seekFrom p n 0 → eqb s o ≡ p s
+first-is p n s {o} i before h = by-test (p s) refl
+  where
+    left : SeekLeft p n s o
+    left = rw h (seek-start p n s (omega arith) before)
+
+    by-test : (c : Bool) → p s ≡ c → eqb s o ≡ c
+    by-test true f = eq-eqb s o (seek-stop left i f)
+    by-test false f = ne-eqb s o (λ q. untrue (sym f ∙ rw (← h, ← q) at (seek-holds p n 0 (rw (← h) (omega arith)))))
+
 -- validation has come to section s: earlier sections have ranges, and none of them broke rule 28
-module _ {b : List ℕ} {s : ℕ} (g : NodesTo b s) (e : isRanged (treeOf b) false s ≡ true) where
-  earlier-ranged : (r : ℕ) → r < s → validatedAs (treeOf b) Elements r ≡ true → isRanged (treeOf b) false r ≡ true
-  unfolding isRanged _⊃_ sidsRules validatedAs
+module _ {b : List ℕ} {s : ℕ} (g : NodesTo b s) (e : isRanged (treeOf b) 0 s ≡ true) where
+  earlier-ranged : (r : ℕ) → r < s → validatedAs (treeOf b) Elements r ≡ true → isRanged (treeOf b) 0 r ≡ true
+  unfolding isRanged isWanted _⊃_ sidsRules validatedAs
   earlier-ranged r h v =
       let t = treeOf b in
       let full = sym (complete-is t r (eqb-true _ _ (and-first (eqb (role t r) Elements) _ v)))
@@ -226,7 +237,7 @@ module _ {b : List ℕ} {s : ℕ} (g : NodesTo b s) (e : isRanged (treeOf b) fal
   -- so the ranges decide
   same-overlap : (r q : ℕ) → q < s → overlap (treeOf b) r q ≡ rangedOverlap (treeOf b) r q
   unfolding overlap rangedOverlap sectionOf
-  same-overlap r q l = by-test (validatedAs (treeOf b) Elements q) refl (isRanged (treeOf b) false q) refl
+  same-overlap r q l = by-test (validatedAs (treeOf b) Elements q) refl (isRanged (treeOf b) 0 q) refl
     where
       shut : (x : Bool) → (x && false && meets (treeOf b) r q) ≡ false
       shut true = refl
@@ -236,122 +247,28 @@ module _ {b : List ℕ} {s : ℕ} (g : NodesTo b s) (e : isRanged (treeOf b) fal
       closed true = shut (eqb (parent (treeOf b) q) (parent (treeOf b) r))
       closed false = refl
 
-      by-test : (v : Bool) → validatedAs (treeOf b) Elements q ≡ v → (c : Bool) → isRanged (treeOf b) false q ≡ c
+      by-test : (v : Bool) → validatedAs (treeOf b) Elements q ≡ v → (c : Bool) → isRanged (treeOf b) 0 q ≡ c
           → (eqb (parent (treeOf b) q) (parent (treeOf b) r) && v && meets (treeOf b) r q)
           ≡ (c && (eqb (parent (treeOf b) q) (parent (treeOf b) r) && v && meets (treeOf b) r q))
       by-test true e true f = refl
       by-test true e false f = untrue (sym f ∙ earlier-ranged q l e)
       by-test false e c f = shut (eqb (parent (treeOf b) q) (parent (treeOf b) r)) ∙ sym (closed c)
 
-  overlaps-ranged : (r : ℕ) → r ≤ s → isRanged (treeOf b) false r ≡ true → overlaps (treeOf b) r ≡ overlapAt (treeOf b) r
+  overlaps-ranged : (r : ℕ) → r ≤ s → isRanged (treeOf b) 0 r ≡ true → overlaps (treeOf b) r ≡ overlapAt (treeOf b) r
   unfolding overlaps overlapAt
   overlaps-ranged r h f = rw f (some-same (overlap (treeOf b) r) (rangedOverlap (treeOf b) r) r 0 (λ q l m. same-overlap r q (omega arith)))
 
   -- no earlier node broke rule 28
-  rule-held : (r : ℕ) → r < s → validatedAs (treeOf b) Elements r ≡ true → overlaps (treeOf b) r ≡ false
-  unfolding validatedAs nodeCheckAt sectionCheck elementRules
-  rule-held r h v =
-      let t = treeOf b in
-      let x = and-first (eqb (role t r) Elements) _ v in
-      let y = and-second (eqb (role t r) Elements) _ v in
-      let section = rw x at (then-second (check r (sidsRules t r)) (sectionCheck t r) (rw y at (g .before r h))) in
-      not-true (overlaps t r) (claim 28 (elementRules t r) (check-pass r (elementRules t r) (then-first _ (referenceCheck t r) section)))
-
   none-before : (r : ℕ) → r < s → overlapAt (treeOf b) r ≡ false
-  none-before r h = by-test (isRanged (treeOf b) false r) refl
+  unfolding elementRules
+  none-before r h = by-test (isRanged (treeOf b) 0 r) refl
     where
-      by-test : (c : Bool) → isRanged (treeOf b) false r ≡ c → overlapAt (treeOf b) r ≡ false
-      by-test true f = sym (overlaps-ranged r (omega arith) f) ∙ rule-held r h (is-section (g .sound) false r f)
+      by-test : (c : Bool) → isRanged (treeOf b) 0 r ≡ c → overlapAt (treeOf b) r ≡ false
+      by-test true f =
+          let t = treeOf b in
+          let held = check-pass r (elementRules t r) (then-first _ _ (section-passed g r h (is-section (g .sound) 0 r f))) in
+          sym (overlaps-ranged r (omega arith) f) ∙ not-true (overlaps t r) (claim 28 (elementRules t r) held)
       by-test false f = sym (no-overlap b r f)
 
   pub overlap-is : {o : ℕ} → o ≡ seekFrom (overlapAt (treeOf b)) (nodeCount b) 0 → eqb s o ≡ overlaps (treeOf b) s
-  overlap-is {o} h = rw (overlaps-ranged s (omega arith) e) (by-test (overlapAt (treeOf b) s) refl)
-    where
-      left : SeekLeft (overlapAt (treeOf b)) (nodeCount b) s o
-      left = rw h (seek-start (overlapAt (treeOf b)) (nodeCount b) s (let i = g .inside in omega arith) none-before)
-
-      by-test : (c : Bool) → overlapAt (treeOf b) s ≡ c → eqb s o ≡ c
-      by-test true f = eq-eqb s o (seek-stop left (g .inside) f)
-      by-test false f = ne-eqb s o (λ q. untrue
-          (sym f ∙ rw (← h, ← q) at (seek-holds (overlapAt (treeOf b)) (nodeCount b) 0 (let i = g .inside in rw (← h) (omega arith)))))
-
--- a face section of a zone
-face-section-is : (t : Tree) (z s : ℕ) → faceSection t z s ≡ (eqb (parent t s) z && isRanged t true s)
-unfolding faceSection conformingSection sectionOf isRanged _⊃_
-face-section-is t z s = split (eqb (parent t s) z) (validatedAs t Elements s) (typeLawful t s) (valueLawful t s) (eqb (elementType t s) NGON)
-    (found t (rangeOf t s))
-  where
-    split : (p v a c n f : Bool) → (p && v && a && c && f && n) ≡ (p && (v && (a && c && n) && f))
-    split false v a c n f = refl
-    split true false a c n f = refl
-    split true true false c n f = refl
-    split true true true false n f = refl
-    split true true true true false false = refl
-    split true true true true false true = refl
-    split true true true true true false = refl
-    split true true true true true true = refl
-
-module _ {b : List ℕ} (g : Sound b) where
-  -- it has the faces that its keys hold
-  face-key : (z f : ℕ) → f < 4294967296 → (s : ℕ) → meetsSection (isRanged (treeOf b) true) (firstKey (treeOf b)) (lastKey (treeOf b)) (key z f) (key z f) s
-      ≡ hasFace (treeOf b) z f s
-  unfolding meetsSection hasFace inRange firstKey lastKey
-  face-key z f h s = rw (face-section-is (treeOf b) z s) (by-test (isRanged (treeOf b) true s) refl)
-    where
-      turn : (p r : Bool) → (p && r) ≡ (p && true && r)
-      turn true r = refl
-      turn false r = refl
-
-      shut : (p : Bool) → false ≡ (p && false && (leb (firstElement (treeOf b) s) f && leb f (lastElement (treeOf b) s)))
-      shut true = refl
-      shut false = refl
-
-      by-test : (c : Bool) → isRanged (treeOf b) true s ≡ c
-          → (c && (leb (key (parent (treeOf b) s) (firstElement (treeOf b) s)) (key z f)
-          && leb (key z f) (key (parent (treeOf b) s) (lastElement (treeOf b) s))))
-          ≡ (eqb (parent (treeOf b) s) z && c && (leb (firstElement (treeOf b) s) f && leb f (lastElement (treeOf b) s)))
-      by-test true q =
-          let t = treeOf b in
-          let m = ranged g true s q .most in
-          rw (key-meets (parent t s) z (firstElement t s) (lastElement t s) f f (omega arith) h)
-          (turn (eqb (parent t s) z) (leb (firstElement t s) f && leb f (lastElement t s)))
-      by-test false q = shut (eqb (parent (treeOf b) s) z)
-
-  pub faces-by : {firsts reach : List ℕ} {n i : ℕ} → Gathered (isRanged (treeOf b) true) (firstKey (treeOf b)) (lastKey (treeOf b)) firsts reach n i
-      → i ≡ nodeCount b
-      → Faces (treeOf b) firsts reach n
-  unfolding faceOf treeOf
-  faces-by {firsts} {reach} {n} {i} l e =
-      let k = rw e at (l .few) in
-      let m = ranged-few g true in
-      record {
-        few = omega arith;
-        ordered = l .ordered;
-        in-ranges = λ z f h. l .meets (key z f) (key z f)
-            ∙ rw e (some-same (meetsSection (isRanged (treeOf b) true) (firstKey (treeOf b)) (lastKey (treeOf b)) (key z f) (key z f)) (hasFace (treeOf b) z f)
-            (nodeCount b) 0
-            (λ s x y. face-key z f h s));
-      }
-
-  -- no face has a greater number than 2,147,483,647
-  pub too-great : (z f : ℕ) → 2147483647 < f → faceOf (treeOf b) z f ≡ false
-  unfolding faceOf hasFace inRange
-  too-great z f h = by-test (faceOf (treeOf b) z f) refl
-    where
-      by-test : (c : Bool) → someFrom (hasFace (treeOf b) z f) (treeOf b .count) 0 ≡ c → c ≡ false
-      by-test true e =
-          let t = treeOf b in
-          let w = some-at (hasFace t z f) (t .count) 0 e in
-          let s = w .at in
-          let p = sym (face-section-is t z s) ∙ and-first (faceSection t z s) _ (w .holds) in
-          let m = ranged g true s (and-second (eqb (parent t s) z) _ p) .most in
-          let l = leb-true f (lastElement t s) (and-second (leb (firstElement t s) f) _ (and-second (faceSection t z s) _ (w .holds))) in
-          absurd (omega arith)
-      by-test false e = refl
-
-  pub face-small : (z f : ℕ) → faceOf (treeOf b) z f ≡ true → f ≤ 2147483647
-  face-small z f e =
-      elim (decLt 2147483647 f) [
-        | yes h ↦ untrue (sym (too-great z f h) ∙ e)
-        | no h ↦ omega arith
-      ]
+  overlap-is h = first-is (overlapAt (treeOf b)) (nodeCount b) s (g .inside) none-before h ∙ sym (overlaps-ranged s (omega arith) e)

@@ -49,7 +49,7 @@ module _ {b : List ℕ} (s : Sound b) {j n : ℕ} (a : Stores b j n) where
   unfolding numberAt treeOf
   stores-number k h = number-at b j k (rw (a .bytes) (scaled (width (treeOf b) j) k n h))
 
-stores-by : {b : List ℕ} → Sound b → (j : ℕ) → j < nodeCount b → T (isWidth (width (treeOf b) j)) → (sizes : List ℕ) → dimensions (treeOf b) j ≡ sizes
+pub stores-by : {b : List ℕ} → Sound b → (j : ℕ) → j < nodeCount b → T (isWidth (width (treeOf b) j)) → (sizes : List ℕ) → dimensions (treeOf b) j ≡ sizes
     → Stores b j (product sizes)
 stores-by {b} s j h w sizes e = record { inside = h; wide = w; bytes = bytes-are b s j h sizes e }
 

@@ -1,19 +1,19 @@
-// The element ranges of sections, of all zones in one pair of tables: rule 28, and the faces of rules 35 to 37; the elements of a zone.
+// The element ranges of sections, of all zones in one pair of tables: rule 28, the faces of rules 35 to 37, the cells of rule 39; the elements of a zone.
 ghost use mathlib.Core.Path.{_≡_};
-ghost use mathlib.Core.Bool.{false, _&&_};
+ghost use mathlib.Core.Bool.{_&&_};
 ghost use Prim.Native.Nat.{_≤_, _<_, _+_};
-ghost use lib.Dec.{eqb};
 ghost use lib.ListN.{length};
-ghost use Rattle.model.specs.Lists.{_⊃_, seekFrom};
+ghost use Rattle.model.specs.Lists.{seekFrom};
 ghost use Rattle.model.specs.Image.{treeOf, nodeCount, parent};
 ghost use Rattle.model.specs.Given.{Sound};
 ghost use Rattle.model.specs.Containment.{role, found, Elements};
 ghost use Rattle.model.specs.Values.{typeLawful, valueLawful, rangeOf};
-ghost use Rattle.model.specs.Elements.{NGON, elementType, inRange, hasElement, elementOf};
+ghost use Rattle.model.specs.Elements.{elementCount, inRange, hasElement, elementOf};
 ghost use Rattle.index.specs.Index.{Index, kind};
 ghost use Rattle.ranges.specs.Tables.{Gathered};
 ghost use Rattle.section_data.specs.Given.{Ranged};
-ghost use Rattle.section_data.specs.Ranges.{isRanged, firstKey, lastKey, overlapAt, RangeOf, Faces};
+ghost use Rattle.section_data.specs.Ranges.{isWanted, isRanged, firstKey, lastKey, overlapAt, RangeOf, ofType, TableOf, Faces, Cells};
+use element_types::NFACE;
 use element_types::NGON;
 use labels::roles::ELEMENTS;
 use records::data_types::I4;
@@ -33,39 +33,29 @@ fn is_lawful(image: &[u8], i: usize) -> bool
     types::not_negative(image, i, 1)
 }
 
-// Does section i meet rules 24 and 25, and have the type NGON_n?
-fn is_ngon(image: &[u8], i: usize) -> bool
+// Does section i count: where a type is asked for, does it meet rules 24 and 25, and have the type? 0 asks for any section.
+fn is_wanted(image: &[u8], element_type: u64, i: usize) -> bool
     requires { ⌜ (Sound (now image) × (i < nodeCount (now image))) × (role (treeOf (now image)) i ≡ Elements) ⌝ }
-    ensures { λ r. ⌜ r ≡ (typeLawful (treeOf (now (image .entry))) i && valueLawful (treeOf (now (image .entry))) i
-        && eqb (elementType (treeOf (now (image .entry))) i) NGON) ⌝ }
+    ensures { λ r. ⌜ r ≡ isWanted (treeOf (now (image .entry))) «element_type» i ⌝ }
 {
+    if element_type == 0 {
+        return true;
+    }
     if !is_lawful(image, i) {
         return false;
     }
-    types::whole(image, i, 0) == NGON
+    types::whole(image, i, 0) == element_type
 }
 
-// Does section i count: where only sections of faces are wanted, is it one?
-fn is_wanted(image: &[u8], faces: bool, i: usize) -> bool
-    requires { ⌜ (Sound (now image) × (i < nodeCount (now image))) × (role (treeOf (now image)) i ≡ Elements) ⌝ }
-    ensures { λ r. ⌜ r ≡ (faces ⊃ (typeLawful (treeOf (now (image .entry))) i && valueLawful (treeOf (now (image .entry))) i
-        && eqb (elementType (treeOf (now (image .entry))) i) NGON)) ⌝ }
-{
-    if faces {
-        return is_ngon(image, i);
-    }
-    true
-}
-
-// The ElementRange of node i where it is a section, of faces where only these are wanted; else the node count.
-fn range_if(image: &[u8], index: &[u16], faces: bool, i: usize) -> usize
+// The ElementRange of node i where it is a section, of the type that is asked for; else the node count.
+pub fn range_if(image: &[u8], index: &[u16], element_type: u64, i: usize) -> usize
     requires { ⌜ Index (now image) (now index) × (i < nodeCount (now image)) ⌝ }
-    ensures { λ r. ⌜ RangeOf (now (image .entry)) faces i r ⌝ }
+    ensures { λ r. ⌜ RangeOf (now (image .entry)) «element_type» i r ⌝ }
 {
     if index::kind_of(image, index, i) != ELEMENTS {
         return labels::node_count(image);
     }
-    if !is_wanted(image, faces, i) {
+    if !is_wanted(image, element_type, i) {
         return labels::node_count(image);
     }
     range_of(image, index, i)
@@ -94,19 +84,19 @@ fn keys_of(image: &[u8], i: usize, range: usize) -> Keys
 fn gather_node(
     image: &[u8],
     index: &[u16],
-    faces: bool,
+    element_type: u64,
     i: usize,
     firsts: &mut [u64],
     reach: &mut [u64],
     n: usize,
 ) -> usize
     requires { ⌜ Index (now image) (now index) × (i < nodeCount (now image)) ⌝ }
-    requires { ⌜ Gathered (isRanged (treeOf (now image)) faces) (firstKey (treeOf (now image))) (lastKey (treeOf (now image))) (now firsts) (now reach) n i ⌝ }
+    requires { ⌜ Gathered (isRanged (treeOf (now image)) «element_type») (firstKey (treeOf (now image))) (lastKey (treeOf (now image))) (now firsts) (now reach) n i ⌝ }
     requires { ⌜ (2048 ≤ length (now firsts)) × (2048 ≤ length (now reach)) ⌝ }
-    ensures { λ r. ⌜ Gathered (isRanged (treeOf (now (image .entry))) faces) (firstKey (treeOf (now (image .entry)))) (lastKey (treeOf (now (image .entry))))
+    ensures { λ r. ⌜ Gathered (isRanged (treeOf (now (image .entry))) «element_type») (firstKey (treeOf (now (image .entry)))) (lastKey (treeOf (now (image .entry))))
         (now (firsts .exit)) (now (reach .exit)) r (i + 1) ⌝ }
 {
-    let range = range_if(image, index, faces, i);
+    let range = range_if(image, index, element_type, i);
     if labels::node_count(image) <= range {
         return n;
     }
@@ -125,10 +115,10 @@ fn meets_earlier(
     n: usize,
 ) -> bool
     requires { ⌜ Index (now image) (now index) × (i < nodeCount (now image)) ⌝ }
-    requires { ⌜ Gathered (isRanged (treeOf (now image)) false) (firstKey (treeOf (now image))) (lastKey (treeOf (now image))) (now firsts) (now reach) n i ⌝ }
+    requires { ⌜ Gathered (isRanged (treeOf (now image)) 0) (firstKey (treeOf (now image))) (lastKey (treeOf (now image))) (now firsts) (now reach) n i ⌝ }
     ensures { λ r. ⌜ r ≡ overlapAt (treeOf (now (image .entry))) i ⌝ }
 {
-    let range = range_if(image, index, false, i);
+    let range = range_if(image, index, 0, i);
     if labels::node_count(image) <= range {
         return false;
     }
@@ -149,10 +139,32 @@ pub fn first_overlap(image: &[u8], index: &[u16], firsts: &mut [u64], reach: &mu
         if meets_earlier(image, index, i, firsts, reach, n) {
             return i;
         }
-        n = gather_node(image, index, false, i, firsts, reach, n);
+        n = gather_node(image, index, 0, i, firsts, reach, n);
         i += 1;
     }
     i
+}
+
+// The ranges of the sections of one type, of all zones. It answers how many there are.
+fn gather(
+    image: &[u8],
+    index: &[u16],
+    element_type: u64,
+    firsts: &mut [u64],
+    reach: &mut [u64],
+) -> usize
+    requires { ⌜ Index (now image) (now index) × (0 < «element_type») ⌝ }
+    requires { ⌜ (2048 ≤ length (now firsts)) × (2048 ≤ length (now reach)) ⌝ }
+    ensures { λ r. ⌜ TableOf (ofType (treeOf (now (image .entry))) «element_type») (now (firsts .exit)) (now (reach .exit)) r ⌝ }
+{
+    let nodes = labels::node_count(image);
+    let mut n: usize = 0;
+    let mut i: usize = 0;
+    while i < nodes {
+        n = gather_node(image, index, element_type, i, firsts, reach, n);
+        i += 1;
+    }
+    n
 }
 
 // The ranges of the faces of all zones. It answers how many there are.
@@ -161,14 +173,26 @@ pub fn gather_faces(image: &[u8], index: &[u16], firsts: &mut [u64], reach: &mut
     requires { ⌜ (2048 ≤ length (now firsts)) × (2048 ≤ length (now reach)) ⌝ }
     ensures { λ r. ⌜ Faces (treeOf (now (image .entry))) (now (firsts .exit)) (now (reach .exit)) r ⌝ }
 {
-    let nodes = labels::node_count(image);
-    let mut n: usize = 0;
-    let mut i: usize = 0;
-    while i < nodes {
-        n = gather_node(image, index, true, i, firsts, reach, n);
-        i += 1;
-    }
-    n
+    gather(image, index, NGON, firsts, reach)
+}
+
+// The ranges of the cells of all zones. It answers how many there are.
+pub fn gather_cells(image: &[u8], index: &[u16], firsts: &mut [u64], reach: &mut [u64]) -> usize
+    requires { ⌜ Index (now image) (now index) ⌝ }
+    requires { ⌜ (2048 ≤ length (now firsts)) × (2048 ≤ length (now reach)) ⌝ }
+    ensures { λ r. ⌜ Cells (treeOf (now (image .entry))) (now (firsts .exit)) (now (reach .exit)) r ⌝ }
+{
+    gather(image, index, NFACE, firsts, reach)
+}
+
+// How many elements section i has, one of those that count.
+pub fn element_count(image: &[u8], range: usize, i: usize) -> u64
+    requires { ⌜ Sound (now image) × ((range ≡ rangeOf (treeOf (now image)) i) × Ranged (now image) i) ⌝ }
+    ensures { λ r. ⌜ (r ≡ elementCount (treeOf (now (image .entry))) i) × (r ≤ 2147483647) ⌝ }
+{
+    let first = types::whole(image, range, 0);
+    let last = types::whole(image, range, 1);
+    last - first + 1
 }
 
 // Does the range of section i, one of those that count, hold element e?

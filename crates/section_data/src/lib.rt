@@ -4,6 +4,9 @@ mod element_ranges; // element_ranges.rt: the ranges of sections; rule 28; the e
 
 pub use arrays::row_of;
 pub use arrays::size_of;
+pub use element_ranges::element_count;
 pub use element_ranges::first_overlap;
+pub use element_ranges::gather_cells;
 pub use element_ranges::gather_faces;
 pub use element_ranges::is_element;
+pub use element_ranges::range_if;

@@ -60,10 +60,10 @@ module _ (t : Tree) (ns : List ℕ) (k : ℕ) (h : k < length ns) where
   one-more = ap allNumbers one-entry ∙ numbers-append (entries t (take k ns)) (entry t (getD ns k 0) ∷ [])
 
   pub store-numbers : (out ws : List ℕ) (e : Section) → ws ≡ over out (allNumbers (entries t (take k ns))) → e ≡ entry t (getD ns k 0)
-      → 9 * length ns ≤ length out → sets ws (9 * k) (entryNumbers e) ≡ over out (allNumbers (entries t (take (k + 1) ns)))
+      → 11 * length ns ≤ length out → sets ws (11 * k) (entryNumbers e) ≡ over out (allNumbers (entries t (take (k + 1) ns)))
   unfolding entryNumbers
   store-numbers out ws e f g l =
-      let n : length (allNumbers (entries t (take k ns))) ≡ 9 * k = numbers-length (entries t (take k ns)) ∙ ap (λ (m : ℕ). 9 * m) taken-length in
+      let n : length (allNumbers (entries t (take k ns))) ≡ 11 * k = numbers-length (entries t (take k ns)) ∙ ap (λ (m : ℕ). 11 * m) taken-length in
       let m = over-more out (allNumbers (entries t (take k ns))) (entryNumbers (entry t (getD ns k 0))) (omega (arith, n)) in
       rw (f, g, add-one k, one-more) (rw n at m)
 

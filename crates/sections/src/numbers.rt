@@ -1,4 +1,4 @@
-// Section entries as flat numbers, nine to an entry.
+// Section entries as flat numbers, eleven to an entry.
 ghost use mathlib.Core.Path.{_≡_};
 ghost use Prim.Native.Nat.{_*_, _/_, _≤_, _<_};
 ghost use lib.ListN.{length};
@@ -20,7 +20,7 @@ use zone_sections::entry_after;
 fn fill(image: &[u8], index: &[u16], zone: u64, n: usize, out: &mut [u64])
     requires { ⌜ Index (now image) (now index) ⌝ }
     requires { ⌜ Accepted (now image) × (zone < nodeCount (now image)) ⌝ }
-    requires { ⌜ (n ≡ length (sectionNodes (treeOf (now image)) zone)) × (9 * n ≤ length (now out)) ⌝ }
+    requires { ⌜ (n ≡ length (sectionNodes (treeOf (now image)) zone)) × (11 * n ≤ length (now out)) ⌝ }
     ensures { λ _. ⌜ now (out .exit) ≡ over (now (out .entry)) (allNumbers (sectionEntries (treeOf (now (image .entry))) zone)) ⌝ }
 {
     let mut at = zone;
@@ -35,7 +35,7 @@ fn fill(image: &[u8], index: &[u16], zone: u64, n: usize, out: &mut [u64])
 
 // Writes the entries that an answer tells of; a rejection leaves `out` as it was.
 fn write_entries(answer: Count, image: &[u8], index: &[u16], zone: u64, out: &mut [u64])
-    requires { ⌜ countTells answer ≡ sectionsAnswer (now image) zone (length (now out) / 9) ⌝ }
+    requires { ⌜ countTells answer ≡ sectionsAnswer (now image) zone (length (now out) / 11) ⌝ }
     requires { ⌜ (imageCheck (now image) ≡ passed → Index (now image) (now index)) ⌝ }
     ensures { λ _. ⌜ now (out .exit) ≡ sectionNumbersMemory (now (image .entry)) zone (now (out .entry)) ⌝ }
 {
@@ -45,10 +45,10 @@ fn write_entries(answer: Count, image: &[u8], index: &[u16], zone: u64, out: &mu
     fill(image, index, zone, n as usize, out);
 }
 
-// The section entries of a zone as flat numbers: validation's rejection first, then rule 40, then 46; nine numbers an entry are written to the front
+// The section entries of a zone as flat numbers: validation's rejection first, then rule 40, then 46; eleven numbers an entry are written to the front
 // of `out` in node order, the count of entries is answered, and the rest of `out` stays. A rejection leaves `out` as it was.
 pub fn section_entries(image: &[u8], zone: u64, out: &mut [u64]) -> Count
-    ensures { λ r. ⌜ (countTells r ≡ sectionsAnswer (now (image .entry)) zone (length (now (out .entry)) / 9))
+    ensures { λ r. ⌜ (countTells r ≡ sectionsAnswer (now (image .entry)) zone (length (now (out .entry)) / 11))
         × (now (out .exit) ≡ sectionNumbersMemory (now (image .entry)) zone (now (out .entry))) ⌝ }
 {
     let mut index: [u16; 16384] = [0; 16384];

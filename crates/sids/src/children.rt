@@ -5,10 +5,12 @@ ghost use Prim.Native.Nat.{_≤_, _<_};
 ghost use Rattle.model.specs.Image.{treeOf, nodeCount};
 ghost use Rattle.model.specs.Containment.{orMissing, Elements, FlowSolution};
 ghost use Rattle.model.specs.Values.{typeLawful, valueLawful, rangeOf, offsetsOf, connectivityOf, pointRangeOf, pointListOf};
+ghost use Rattle.model.specs.Elements.{elementType, parentsOf};
 ghost use Rattle.index.specs.Index.{kind, Index};
 ghost use Rattle.types.specs.Given.{NodeContext};
 ghost use Rattle.sids.specs.Given.{UnderZone};
 use super::permitted::value_lawful;
+use element_types::NGON;
 
 // Node j, a child that was looked up, where it conforms; else the node count.
 pub fn conforming(image: &[u8], index: &[u16], j: usize) -> usize
@@ -55,6 +57,19 @@ pub fn connectivity_of(image: &[u8], index: &[u16], s: usize) -> usize
     ensures { λ r. ⌜ (r ≡ connectivityOf (treeOf (now (image .entry))) s) × (r ≤ nodeCount (now (image .entry))) ⌝ }
 {
     conforming(image, index, index::connectivity(image, index, s))
+}
+
+// The ParentElements of a section of this type, conforming or not.
+pub fn parents_of(image: &[u8], index: &[u16], s: usize, element_type: u64) -> usize
+    requires { ⌜ Index (now image) (now index) × (s < nodeCount (now image)) ⌝ }
+    requires { ⌜ kind (treeOf (now image)) s ≡ Elements ⌝ }
+    requires { ⌜ «element_type» ≡ elementType (treeOf (now image)) s ⌝ }
+    ensures { λ r. ⌜ (r ≡ parentsOf (treeOf (now (image .entry))) s) × (r ≤ nodeCount (now (image .entry))) ⌝ }
+{
+    if element_type != NGON {
+        return labels::node_count(image);
+    }
+    index::parents(image, index, s)
 }
 
 // The PointRange of a flow solution.

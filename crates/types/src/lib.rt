@@ -11,6 +11,7 @@ pub use shapes::flat;
 pub use shapes::same_shape;
 pub use shapes::shaped;
 pub use shapes::typed;
+pub use shapes::typed_either;
 pub use stored_numbers::MAX_NUMBER;
 pub use stored_numbers::not_negative;
 pub use stored_numbers::pair_within;

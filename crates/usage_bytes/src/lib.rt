@@ -6,6 +6,8 @@ ghost use lib.ListN.{length, getD, drop, replicate};
 ghost use Rattle.model.specs.FaceUsage.{unused};
 ghost use Rattle.usage_bytes.specs.Marks.{signOf, afterUse};
 
+pub mod parent_marks; // parent_marks.rt: which parents of a face are matched with uses
+
 // Makes the first n bytes 0; the others stay.
 pub fn clear(out: &mut [u8], n: usize)
     requires { ⌜ n ≤ length (now out) ⌝ }

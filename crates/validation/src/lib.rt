@@ -13,6 +13,7 @@ ghost use Rattle.model.specs.Given.{NodesTo};
 ghost use Rattle.model.specs.Answers.{stageTells, validationTells};
 ghost use Rattle.index.specs.Index.{Index};
 ghost use Rattle.section_data.specs.Ranges.{overlapAt, Faces};
+ghost use Rattle.parents.specs.Parents.{parentsBroken};
 
 mod sizes; // sizes.rt: the DataSize of an array
 
@@ -22,12 +23,13 @@ use model::Stage;
 use model::Validation;
 pub use sizes::data_size;
 
-// Rules 27 to 38 where node i is a section.
+// Rules 27 to 39 where node i is a section.
 fn section_stage(
     image: &[u8],
     index: &[u16],
     i: usize,
     overlap: usize,
+    parents: usize,
     firsts: &[u64],
     reach: &[u64],
     faces: usize,
@@ -36,29 +38,42 @@ fn section_stage(
     requires { ⌜ NodesTo (now image) i × Index (now image) (now index) ⌝ }
     requires { ⌜ validated (treeOf (now image)) i ≡ true ⌝ }
     requires { ⌜ check i (sidsRules (treeOf (now image)) i) ≡ passed ⌝ }
-    requires { ⌜ overlap ≡ seekFrom (overlapAt (treeOf (now image))) (nodeCount (now image)) 0 ⌝ }
+    requires { ⌜ (overlap ≡ seekFrom (overlapAt (treeOf (now image))) (nodeCount (now image)) 0)
+        × (parents ≡ seekFrom (parentsBroken (treeOf (now image))) (nodeCount (now image)) 0) ⌝ }
     requires { ⌜ Faces (treeOf (now image)) (now firsts) (now reach) faces × (2048 ≤ length (now levels)) ⌝ }
     ensures { λ r. ⌜ stageTells r ≡ sectionCheck (treeOf (now (image .entry))) i ⌝ }
 {
     if index::role_of(image, index, i) == ELEMENTS {
-        return elements::element_stage(image, index, i, overlap, firsts, reach, faces, levels);
+        return elements::element_stage(
+            image,
+            index,
+            i,
+            overlap,
+            parents,
+            firsts,
+            reach,
+            faces,
+            levels,
+        );
     }
     Stage::Pass
 }
 
-// Rules 20 to 38 at node i, to which validation has come; a node that is not validated is skipped.
+// Rules 20 to 39 at node i, to which validation has come; a node that is not validated is skipped.
 fn node_stage(
     image: &[u8],
     index: &[u16],
     i: usize,
     overlap: usize,
+    parents: usize,
     firsts: &[u64],
     reach: &[u64],
     faces: usize,
     levels: &mut [u32],
 ) -> Stage
     requires { ⌜ NodesTo (now image) i × Index (now image) (now index) ⌝ }
-    requires { ⌜ overlap ≡ seekFrom (overlapAt (treeOf (now image))) (nodeCount (now image)) 0 ⌝ }
+    requires { ⌜ (overlap ≡ seekFrom (overlapAt (treeOf (now image))) (nodeCount (now image)) 0)
+        × (parents ≡ seekFrom (parentsBroken (treeOf (now image))) (nodeCount (now image)) 0) ⌝ }
     requires { ⌜ Faces (treeOf (now image)) (now firsts) (now reach) faces × (2048 ≤ length (now levels)) ⌝ }
     ensures { λ r. ⌜ stageTells r ≡ nodeCheckAt (treeOf (now (image .entry))) i ⌝ }
 {
@@ -69,28 +84,51 @@ fn node_stage(
     let Stage::Pass = s else {
         return s;
     };
-    section_stage(image, index, i, overlap, firsts, reach, faces, levels)
+    section_stage(
+        image,
+        index,
+        i,
+        overlap,
+        parents,
+        firsts,
+        reach,
+        faces,
+        levels,
+    )
 }
 
-// Rules 20 to 38 at every node, the lowest node first. `overlap` is the first node that breaks rule 28; the tables hold the faces of all zones.
+// Rules 20 to 39 at every node, the lowest node first. `overlap` is the first node that breaks rule 28, `parents` the first that breaks rule 39; the tables
+// hold the faces of all zones.
 fn every_node(
     image: &[u8],
     index: &[u16],
     overlap: usize,
+    parents: usize,
     firsts: &[u64],
     reach: &[u64],
     faces: usize,
     levels: &mut [u32],
 ) -> Stage
     requires { ⌜ Index (now image) (now index) ⌝ }
-    requires { ⌜ overlap ≡ seekFrom (overlapAt (treeOf (now image))) (nodeCount (now image)) 0 ⌝ }
+    requires { ⌜ (overlap ≡ seekFrom (overlapAt (treeOf (now image))) (nodeCount (now image)) 0)
+        × (parents ≡ seekFrom (parentsBroken (treeOf (now image))) (nodeCount (now image)) 0) ⌝ }
     requires { ⌜ Faces (treeOf (now image)) (now firsts) (now reach) faces × (2048 ≤ length (now levels)) ⌝ }
     ensures { λ r. ⌜ stageTells r ≡ nodeCheck (treeOf (now (image .entry))) ⌝ }
 {
     let n = labels::node_count(image);
     let mut i = 0;
     while i < n {
-        let s = node_stage(image, index, i, overlap, firsts, reach, faces, levels);
+        let s = node_stage(
+            image,
+            index,
+            i,
+            overlap,
+            parents,
+            firsts,
+            reach,
+            faces,
+            levels,
+        );
         let Stage::Pass = s else {
             return s;
         };
@@ -112,11 +150,12 @@ fn nodes_stage(
     ensures { λ r. ⌜ stageTells r ≡ nodeCheck (treeOf (now (image .entry))) ⌝ }
 {
     let overlap = section_data::first_overlap(image, index, firsts, reach);
+    let parents = parents::first_broken(image, index, firsts, reach);
     let faces = section_data::gather_faces(image, index, firsts, reach);
-    every_node(image, index, overlap, firsts, reach, faces, levels)
+    every_node(image, index, overlap, parents, firsts, reach, faces, levels)
 }
 
-// Every rule, 1 to 38, as one stage, in lent tables. The index is that of the image where rules 1 to 18 hold.
+// Every rule, 1 to 39, as one stage, in lent tables. The index is that of the image where rules 1 to 18 hold.
 pub fn image_stage_with(
     image: &[u8],
     index: &mut [u16],

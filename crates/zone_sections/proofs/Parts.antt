@@ -12,7 +12,7 @@ use Rattle.model.specs.Bytes.{text}
 use Rattle.model.specs.Image.{treeOf, nodeCount, parent, node, wordCount, dimensions, width, number, I4, I8}
 use Rattle.model.specs.Containment.{role, sectionOf, child, found, Root, Elements, IndexRange, DataArray, UserDefinedData}
 use Rattle.model.specs.Values.{sidsRules, typed, shaped, flat, size, elementArray, typeLawful, conforming, rangeOf, offsetsOf, connectivityOf}
-use Rattle.model.specs.Elements.{elementType, firstElement, lastElement, connectivityLength}
+use Rattle.model.specs.Elements.{elementType, firstElement, lastElement, connectivityLength, parentsOf}
 use Rattle.model.specs.Given.{Sound}
 use Rattle.model.specs.Sections.{dataStart, entry}
 use Rattle.model.proofs.Logic.{and-first, and-second, and-both, or-left}
@@ -131,8 +131,8 @@ module _ {b : List ℕ} {s : ℕ} (a : AcceptedSection b s) where
     pub found-flat : flat (treeOf b) c ≡ true
     found-flat = rw (e ∙ sym connectivity-child) connectivity-flat
 
-  pub entry-made : {r o c : ℕ} → r ≡ child (treeOf b) s IndexRange (text "ElementRange") → o ≡ child (treeOf b) s DataArray (text "ElementStartOffset")
-      → c ≡ child (treeOf b) s DataArray (text "ElementConnectivity")
+  pub entry-made : {r o c q : ℕ} → r ≡ child (treeOf b) s IndexRange (text "ElementRange") → o ≡ child (treeOf b) s DataArray (text "ElementStartOffset")
+      → c ≡ child (treeOf b) s DataArray (text "ElementConnectivity") → q ≡ parentsOf (treeOf b) s
       → record {
         node = s;
         «element_type» = number (treeOf b) s 0;
@@ -143,6 +143,8 @@ module _ {b : List ℕ} {s : ℕ} (a : AcceptedSection b s) where
         «connectivity_at» = dataStart (treeOf b) c;
         «connectivity_width» = width (treeOf b) c;
         «connectivity_length» = size (treeOf b) c;
+        «parents_at» = dataStart (treeOf b) q;
+        «parents_width» = width (treeOf b) q;
       } ≡ entry (treeOf b) s
   unfolding entry elementType firstElement lastElement connectivityLength
-  entry-made e f g = rw (e ∙ sym range-child, f ∙ sym offsets-child, g ∙ sym connectivity-child)
+  entry-made e f g h = rw (e ∙ sym range-child, f ∙ sym offsets-child, g ∙ sym connectivity-child, h)

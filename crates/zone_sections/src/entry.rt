@@ -42,7 +42,7 @@ fn size_of(image: &[u8], j: usize) -> u64
     records::dimension(image, j, 0)
 }
 
-// The entry of section s: its type, its range, and where its start offsets and its connectivity stand.
+// The entry of section s: its type, its range, and where its start offsets, its connectivity and the parents of its faces stand.
 pub fn entry_of(image: &[u8], index: &[u16], s: usize) -> Section
     requires { ⌜ AcceptedSection (now image) s × Index (now image) (now index) ⌝ }
     ensures { λ r. ⌜ r ≡ entry (treeOf (now (image .entry))) s ⌝ }
@@ -50,9 +50,11 @@ pub fn entry_of(image: &[u8], index: &[u16], s: usize) -> Section
     let range = index::range(image, index, s);
     let offsets = index::offsets(image, index, s);
     let connectivity = index::connectivity(image, index, s);
+    let element_type = types::whole(image, s, 0);
+    let parents = sids::parents_of(image, index, s, element_type);
     Section {
         node: s as u64,
-        element_type: types::whole(image, s, 0),
+        element_type,
         first: types::whole(image, range, 0),
         last: types::whole(image, range, 1),
         offsets_at: start_of(image, offsets),
@@ -60,5 +62,7 @@ pub fn entry_of(image: &[u8], index: &[u16], s: usize) -> Section
         connectivity_at: start_of(image, connectivity),
         connectivity_width: width_at(image, connectivity),
         connectivity_length: size_of(image, connectivity),
+        parents_at: start_of(image, parents),
+        parents_width: width_at(image, parents),
     }
 }

@@ -8,6 +8,8 @@ mod header;
 mod mixed;
 mod names;
 mod once_only;
+mod parent_arrays;
+mod parents;
 mod pick;
 mod points;
 mod records;
@@ -22,6 +24,7 @@ use crate::random::Random;
 use containment::*;
 use header::*;
 use once_only::*;
+use parent_arrays::*;
 use points::points;
 use records::*;
 use sections::*;
@@ -33,6 +36,7 @@ pub use flat::{flat_case, FLAT_CASES};
 pub use header::flips;
 pub use mixed::{mixed_case, MIXED_CASES};
 pub use names::{name_case, NAME_CASES};
+pub use parents::{parent_case, PARENT_CASES};
 pub use points::{point_case, POINT_CASES};
 pub use references::{reference_case, REFERENCE_CASES};
 
@@ -47,7 +51,7 @@ pub enum Damage {
 use Damage::{Length, Nodes, Words};
 
 /// The rules that an image may break, each with its damages.
-pub const DAMAGES: [(u32, &[Damage]); 36] = [
+pub const DAMAGES: [(u32, &[Damage]); 37] = [
     (1, &[Length(cut_short), Length(cut_short), Length(cut_short), Length(too_long)]),
     (2, &[Words(other_form)]),
     (3, &[Words(other_length), Length(more_bytes), Length(fewer_bytes)]),
@@ -113,6 +117,7 @@ pub const DAMAGES: [(u32, &[Damage]); 36] = [
     (36, &[Nodes(no_element_reference), Nodes(no_element_reference), Nodes(face_section_lost)]),
     (37, &[Nodes(element_reference), Nodes(element_reference), Nodes(face_section_retyped)]),
     (38, &[Nodes(unlisted), Nodes(unlisted), Nodes(of_other_size), Nodes(other_start), Nodes(called_mixed)]),
+    (39, &[Nodes(parent_number), Nodes(parent_number), Nodes(parent_type), Nodes(parent_shape)]),
 ];
 
 /// The damages of a rule.

@@ -1,4 +1,5 @@
-//! Damage to sections (rules 27 to 37). For rule 38 see `stored_types.rs`.
+//! Damage to sections (rules 27 to 37). For rule 38 see `stored_types.rs`, for rule 39
+//! `parent_arrays.rs`.
 
 use super::pick::{change, labelled, section, section_child};
 use super::stored_types::type_places;

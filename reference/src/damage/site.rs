@@ -4,7 +4,7 @@ use super::pick::{change, is_validated, scatter, some_node};
 use super::Answer;
 use crate::build::{Image, Node};
 use crate::elements::{NFACE_N, NGON_N};
-use crate::lawful::Deck;
+use crate::lawful::{CellUses, Deck};
 use crate::random::Random;
 use crate::sizes::MAX_NUMBER;
 use crate::text::padded;
@@ -138,7 +138,7 @@ impl<'a> Site<'a> {
     }
 
     /// 4 or 8.
-    fn width(&mut self) -> usize {
+    pub fn width(&mut self) -> usize {
         *self.random.pick(&[4, 8])
     }
 
@@ -146,6 +146,18 @@ impl<'a> Site<'a> {
     pub fn set_vertices(&mut self, vertices: i64) {
         self.vertices = vertices;
         change(self.image, self.zone, 0, vertices);
+    }
+
+    /// The cells of the zone, and which of them use which face.
+    pub fn cell_uses(&self) -> CellUses {
+        CellUses::of_zone(self.image, self.zone)
+    }
+
+    /// Adds a node to a section, at any place behind it.
+    pub fn add_to(&mut self, section: &str, node: Node) -> Option<()> {
+        let section = self.section(section)?;
+        scatter(self.image, self.random, section, section, vec![node]);
+        Some(())
     }
 
     /// The number of a section.

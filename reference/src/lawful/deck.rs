@@ -1,5 +1,7 @@
 //! The faces of a zone as its cells use them.
 
+use std::collections::BTreeSet;
+
 use crate::random::Random;
 
 /// References to faces: each face once with either sign while these last, then any.
@@ -16,6 +18,13 @@ impl Deck {
         random.shuffle(&mut unused);
         unused.truncate(if sparing { unused.len() } else { 0 });
         Deck { faces, unused }
+    }
+
+    /// The same with the references that come first naming each face once, so that none is left out while these last.
+    pub fn covering(self) -> Deck {
+        let mut named = BTreeSet::new();
+        let (first, again): (Vec<i64>, Vec<i64>) = self.unused.into_iter().partition(|face| named.insert(face.abs()));
+        Deck { unused: [first, again].concat(), ..self }
     }
 
     /// How many references are unused.

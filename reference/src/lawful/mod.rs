@@ -1,10 +1,11 @@
-//! Lawful images, made at random: structured and unstructured zones, all element types, rind, flow solutions with and
-//! without ranges and lists of points, foreign subtrees, nodes in any lawful order.
+//! Lawful images, made at random: structured and unstructured zones, all element types, parents of faces, rind, flow
+//! solutions with and without ranges and lists of points, foreign subtrees, nodes in any lawful order.
 
 mod deck;
 mod foreign;
 mod mixed;
 mod order;
+mod parents;
 mod points;
 mod sections;
 mod zones;
@@ -77,6 +78,7 @@ struct Limits {
 pub use deck::Deck;
 pub use foreign::STORING_TYPES;
 pub use mixed::{some_types, typed_element, types_of_other_size, types_of_same_size};
+pub use parents::CellUses;
 pub use points::{some_list, some_range, values_of};
 pub use sections::FIXED_TYPES;
 

@@ -39,16 +39,24 @@ impl Maker<'_> {
             plans.retain(|plan| !plan.is(NFACE_N));
         }
         let sparing = !self.random.one_in(3);
+        let covering = sparing && self.random.one_in(2);
         if sparing {
             spare_faces(&mut plans);
+        }
+        if covering {
+            drop_faces(&mut plans);
         }
         self.place_ranges(&mut plans);
         self.random.shuffle(&mut plans);
         let faces = plans.iter().filter(|plan| plan.is(NGON_N)).flat_map(|plan| plan.first..plan.first + plan.count);
         let mut deck = Deck::new(self.random, faces.collect(), sparing);
+        if covering {
+            deck = deck.covering();
+        }
         for plan in plans {
             self.section(zone, &plan, vertices, &mut deck);
         }
+        self.parents(zone);
     }
 
     /// A section of a type, its range not yet known.
@@ -146,7 +154,8 @@ impl Maker<'_> {
         (0..count).map(|_| self.random.between(plan.least, most)).collect()
     }
 
-    /// Start offsets, where they are needed or now and then, and other children of a section.
+    /// Start offsets, where they are needed or now and then, and other children of a section. An array named
+    /// ParentElements is an ordinary one where the elements are no faces.
     fn section_extras(&mut self, section: usize, plan: &Plan, sizes: &[i64]) {
         let width = self.width();
         if shape_of(plan.element_type).is_some_and(Shape::has_offsets) {
@@ -158,7 +167,7 @@ impl Maker<'_> {
         if self.chance(10, 1) {
             self.add(section, Node::integers("Rind", "Rind_t", 4, &[2], &[0, 3]));
         }
-        if self.chance(10, 1) {
+        if !plan.is(NGON_N) && self.chance(10, 1) {
             let data_type = *self.random.pick(&STORING_TYPES);
             let mut array = Node::new("ParentElements", "DataArray_t", data_type, &[], Vec::new());
             array.reshape(&[plan.count as u64, 2]);
@@ -178,5 +187,16 @@ fn spare_faces(plans: &mut [Plan]) {
     let uses: i64 = plans.iter().filter(|plan| plan.is(NGON_N)).map(|plan| 2 * plan.count).sum();
     for plan in plans.iter_mut().filter(|plan| plan.is(NFACE_N)) {
         plan.count = plan.count.min(uses / needed);
+    }
+}
+
+/// Lets the faces be so few that the cells use all of them, as far as each section has one.
+fn drop_faces(plans: &mut [Plan]) {
+    let mut uses: i64 = plans.iter().filter(|plan| plan.is(NFACE_N)).map(|plan| plan.least * plan.count).sum();
+    if uses > 0 {
+        for plan in plans.iter_mut().filter(|plan| plan.is(NGON_N)) {
+            plan.count = plan.count.min(uses).max(1);
+            uses -= plan.count;
+        }
     }
 }

@@ -56,7 +56,7 @@ fn lawful_sections_have_long_runs() {
     assert!(longest >= 8, "{longest}");
 }
 
-/// The queries `element-type` of an image: the ten numbers, and the answer.
+/// The queries `element-type` of an image: the twelve numbers, and the answer.
 fn type_queries(index: u64, image: &[u8]) -> Vec<(Vec<u64>, String)> {
     let lines = queries(index, image);
     let asked = lines.iter().filter_map(|line| line.strip_prefix("element-type ")?.split_once(" = "));
@@ -67,10 +67,11 @@ fn type_queries(index: u64, image: &[u8]) -> Vec<(Vec<u64>, String)> {
 fn types_are_asked_for_and_refused() {
     let (mut met, mut by_mixed) = (BTreeSet::new(), BTreeSet::new());
     let mut by_stored_type = 0;
-    for index in 0..495 {
+    for index in 0..528 {
         let image = image(12, index, SizeClass::Small);
         for (numbers, answer) in type_queries(index, &image) {
-            let (mut section, element): ([u64; 9], u64) = (numbers[..9].try_into().unwrap(), numbers[9]);
+            let (mut section, element): ([u64; ENTRY_LENGTH], u64) =
+                (numbers[..ENTRY_LENGTH].try_into().unwrap(), numbers[ENTRY_LENGTH]);
             met.insert(answer.clone());
             if section[1] == 20 {
                 section[1] = 22;

@@ -6,7 +6,7 @@ mod rules;
 mod stored_types;
 
 use reference::build::{Image, Node};
-use reference::{section_entries, validate, Rejection};
+use reference::{section_entries, validate, Rejection, ENTRY_LENGTH};
 
 /// The fixed types with their nodes, as document 01 lists them.
 const LIST: [(i64, usize); 19] = [
@@ -92,6 +92,6 @@ fn forty() -> Vec<Vec<i64>> {
 }
 
 /// The entry of the first section of a zone.
-fn entry(image: &[u8], zone: u64) -> [u64; 9] {
+fn entry(image: &[u8], zone: u64) -> [u64; ENTRY_LENGTH] {
     section_entries(image, zone).unwrap()[0].numbers()
 }

@@ -25,7 +25,7 @@ fn bytes() -> Vec<u8> {
 }
 
 /// The entry of these bytes.
-const OF_BYTES: [u64; 9] = [0, 20, 1, 3, 0, 4, 16, 4, 12];
+const OF_BYTES: [u64; ENTRY_LENGTH] = [0, 20, 1, 3, 0, 4, 16, 4, 12, 0, 0];
 
 #[test]
 fn unreadable_entries() {
@@ -94,7 +94,7 @@ fn other_sections_answer_their_own_type() {
     for number in [0, 5] {
         assert_eq!(rule(element_type(&image, &entries[0].numbers(), number)), 41);
     }
-    let mut triangles = [0, 5, 1, 4, u64::MAX, 77, 16, 4, 12];
+    let mut triangles = [0, 5, 1, 4, u64::MAX, 77, 16, 4, 12, 0, 0];
     for number in 1..=4 {
         assert_eq!(element_type(&bytes(), &triangles, number), Ok(5));
     }
@@ -115,7 +115,7 @@ fn the_type_is_refused_as_corners_are() {
     for _ in 0..200_000 {
         let mut other = section;
         for _ in 0..1 + random.below(3) {
-            let place = random.index(9);
+            let place = random.index(ENTRY_LENGTH);
             let near = section[place].wrapping_add(random.below(9)).wrapping_sub(4);
             other[place] = if random.one_in(3) { *random.pick(&ends) } else { near };
         }

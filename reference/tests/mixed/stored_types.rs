@@ -42,7 +42,7 @@ fn every_stored_type_at_every_length() {
             assert_eq!(refusal(&made), if fits { (0, 0) } else { (38, 4) }, "{stored} {length}");
             let image = made.to_bytes();
             let at = image.len() as u64 - 4 * (5 + length as u64 + 4);
-            let section = [4, 20, 1, 3, at - 16, 4, at, 4, 9 + length as u64];
+            let section = [4, 20, 1, 3, at - 16, 4, at, 4, 9 + length as u64, 0, 0];
             let answer = element_type(&image, &section, 2);
             assert_eq!(answer, if fits { Ok(stored as u64) } else { Err(Rejection::of_call(43)) });
             assert_eq!(rule(corner(&image, &section, 2, 1)), if fits { 0 } else { 43 });

@@ -16,9 +16,9 @@ use crate::{check_alike, insert, node_of, ONCE_ONLY};
 fn generated_images_are_answered_alike() {
     let runs = [
         (22, SizeClass::Small, 5_000, 15),
-        (23, SizeClass::Small, 3_000, 9),
-        (24, SizeClass::Medium, 594, 2),
-        (25, SizeClass::Large, 99, 0),
+        (23, SizeClass::Small, 3_960, 6),
+        (24, SizeClass::Medium, 660, 2),
+        (25, SizeClass::Large, 132, 0),
     ];
     for (seed, class, count, least) in runs {
         let check = |index: &u64| check_alike(&image(seed, *index, class), &format!("{class:?} {seed} {index}"));

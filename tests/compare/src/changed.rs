@@ -1,9 +1,10 @@
 //! Accepted images in which one number is changed afterwards: of a MIXED section a stored type or a start offset, and what the
-//! readers then answer by the section of before; of any section a reference, and where validation then finds it.
+//! readers then answer by the section of before; of any section a reference, and where validation then finds it; of faces a
+//! parent, and whether the parents are then lawful and agree.
 
 use reference::build::signed_bytes;
 use reference::bytes::signed_at;
-use reference::elements::{nodes_of, MIXED};
+use reference::elements::{nodes_of, MIXED, NFACE_N};
 use reference::random::Random;
 use reference::Section;
 
@@ -48,6 +49,33 @@ pub fn changed_reference(image: &[u8], entries: &[Section], random: &mut Random)
     let mut image = image.to_vec();
     put(&mut image, at, width, *random.pick(&numbers));
     Some(image)
+}
+
+/// An image with a parent of one of its faces changed, of either column, to 0, a cell, another element or what is none; and the
+/// section. Nothing where no section has parents.
+pub fn changed_parent(image: &[u8], entries: &[Section], random: &mut Random) -> Option<(Vec<u8>, Section)> {
+    let faces: Vec<&Section> = entries.iter().filter(|entry| entry.parents_width > 0).collect();
+    let section = **faces.get(random.index(faces.len().max(1)))?;
+    let width = section.parents_width as usize;
+    let place = random.below(2 * (section.last - section.first + 1)) as usize;
+    let cells: Vec<&Section> = entries.iter().filter(|entry| entry.element_type == NFACE_N as u64).collect();
+    let cell = cells.get(random.index(cells.len().max(1))).map_or(1, |cells| {
+        let any = cells.first + random.below(cells.last - cells.first + 1);
+        *random.pick(&[cells.first, cells.last, any])
+    }) as i64;
+    let other = *random.pick(&[
+        section.first as i64,
+        -cell,
+        cell + (1 << 32),
+        section.last as i64 + 1,
+        i64::from(i32::MIN),
+        i64::MIN,
+        i64::MAX,
+    ]);
+    let number = *random.pick(&[0, cell, cell, other]);
+    let mut image = image.to_vec();
+    put(&mut image, section.parents_at as usize + width * place, width, number);
+    Some((image, section))
 }
 
 /// Another number in place of a stored type: mostly near what is supported, now and then of as many nodes, or the same in its

@@ -2,13 +2,15 @@
 
 use std::fmt::Arguments;
 
+use reference::ENTRY_LENGTH;
+
 use crate::expected::{self, Told};
 use crate::guarded::{Arena, Guarded, Item};
 use crate::library::*;
 use crate::tally::Tally;
 
-/// The bytes of a section's nine numbers.
-pub const SECTION: usize = 72;
+/// The bytes of a section's numbers.
+pub const SECTION: usize = 8 * ENTRY_LENGTH;
 
 /// An image that both are asked about.
 pub struct Comparison<'a> {
@@ -31,10 +33,10 @@ fn tell<const N: usize>(answer: &mut [u8], told: impl FnOnce() -> Told<N>) -> u6
     rule
 }
 
-/// The nine numbers in front of a section's bytes, if there are as many.
-fn nine(section: &[u8]) -> Option<[u64; 9]> {
+/// The numbers in front of a section's bytes, if there are as many as it has.
+fn numbers_of(section: &[u8]) -> Option<[u64; ENTRY_LENGTH]> {
     let word = |k: usize| Some(u64::from_le_bytes(section.get(8 * k..8 * k + 8)?.try_into().ok()?));
-    let words: Option<Vec<u64>> = (0..9).map(word).collect();
+    let words: Option<Vec<u64>> = (0..ENTRY_LENGTH).map(word).collect();
     words?.try_into().ok()
 }
 
@@ -108,6 +110,36 @@ impl Comparison<'_> {
         );
     }
 
+    pub fn parents(&mut self, zone: u64, face: u64, room: usize) {
+        let (image, lent) = (self.image, self.lent);
+        self.hold::<u8>(
+            Call::Parents,
+            format_args!("zone {zone}, face {face}"),
+            (0, room),
+            |_, answer| unsafe { gongaurora_export_parents(lent, image.len(), zone, face, answer, room) },
+            |_, answer| tell(answer, || expected::parents(image, zone, face)),
+        );
+    }
+
+    pub fn parents_agree(&mut self, zone: u64, bytes: usize, room: usize) {
+        let (image, lent) = (self.image, self.lent);
+        let mut agrees = None;
+        self.hold(
+            Call::ParentsAgree,
+            format_args!("zone {zone}"),
+            (bytes, room),
+            |out, answer| unsafe { gongaurora_export_parents_agree(lent, image.len(), zone, out, bytes, answer, room) },
+            |out, answer| {
+                tell(answer, || {
+                    let told = expected::agreement(image, zone, out);
+                    agrees = (told.0 == 0).then_some(told.1[3] == 1);
+                    told
+                })
+            },
+        );
+        agrees.into_iter().for_each(|agrees| self.tally.agreement(agrees));
+    }
+
     pub fn path(&mut self, node: u64, bytes: usize, room: usize) {
         let (image, lent) = (self.image, self.lent);
         self.hold(
@@ -158,13 +190,13 @@ impl Comparison<'_> {
         let (at, bytes) = (self.place_section(section), section.len());
         self.hold::<u8>(
             Call::ReadCorner,
-            format_args!("{:?} of {bytes} bytes, element {element}, corner {corner}", nine(section)),
+            format_args!("{:?} of {bytes} bytes, element {element}, corner {corner}", numbers_of(section)),
             (0, room),
             |_, number| unsafe {
                 gongaurora_export_read_corner(lent, image.len(), at, bytes, element, corner, number, room)
             },
             |_, number| {
-                let (Some(section), Some(front)) = (nine(section), number.get_mut(..8)) else {
+                let (Some(section), Some(front)) = (numbers_of(section), number.get_mut(..8)) else {
                     return 46;
                 };
                 match expected::corner(image, &section, element, corner) {
@@ -191,7 +223,7 @@ impl Comparison<'_> {
             |out, answer| unsafe {
                 gongaurora_export_read_element(lent, image.len(), at.cast(), count, element, out, numbers, answer, room)
             },
-            |out, answer| match nine(&bytes) {
+            |out, answer| match numbers_of(&bytes) {
                 Some(section) => tell(answer, || expected::element(image, &section, element, out)),
                 None => 46,
             },
@@ -211,7 +243,7 @@ impl Comparison<'_> {
             |_, answer| unsafe {
                 gongaurora_export_element_type(lent, image.len(), at.cast(), count, element, answer, room)
             },
-            |_, answer| match nine(&bytes) {
+            |_, answer| match numbers_of(&bytes) {
                 Some(section) => tell(answer, || expected::element_type(image, &section, element)),
                 None => 46,
             },

@@ -1,8 +1,7 @@
 //! The reference's answers as the exports give them: the rule, and the words of the answer.
 
-use reference::{
-    array_value, data_size, element_corners, face_usage, path_into, section_entries, validate, Rejection, Value,
-};
+use reference::{array_value, data_size, element_corners, face_usage, path_into, section_entries, validate};
+use reference::{Rejection, Value, ENTRY_LENGTH};
 
 /// The rule, 0 where there is none, and the words of the answer.
 pub type Told<const N: usize> = (u64, [u64; N]);
@@ -23,7 +22,7 @@ pub fn validation(image: &[u8]) -> Told<6> {
     }
 }
 
-/// node, entry, count; nine numbers a section go to the front of `out`
+/// node, entry, count; eleven numbers a section go to the front of `out`
 pub fn sections(image: &[u8], zone: u64, out: &mut [u64]) -> Told<3> {
     let entries = match section_entries(image, zone) {
         Ok(entries) => entries,
@@ -41,10 +40,28 @@ pub fn sections(image: &[u8], zone: u64, out: &mut [u64]) -> Told<3> {
 pub fn usage(image: &[u8], zone: u64, out: &mut [u8]) -> Told<4> {
     match face_usage(image, zone, out) {
         Ok(count) => (0, [0, 0, 0, count as u64]),
-        Err(rejection) => {
-            let words = [rejection.node, rejection.entry, rejection.element, 0];
-            (u64::from(rejection.rule), words)
-        }
+        Err(rejection) => refusal_of_usage(rejection),
+    }
+}
+
+/// The same refusal with its element as a word behind the entry.
+fn refusal_of_usage(rejection: Rejection) -> Told<4> {
+    (u64::from(rejection.rule), [rejection.node, rejection.entry, rejection.element, 0])
+}
+
+/// node, entry, first, second
+pub fn parents(image: &[u8], zone: u64, face: u64) -> Told<4> {
+    match reference::parents(image, zone, face) {
+        Ok([first, second]) => (0, [0, 0, first, second]),
+        Err(rejection) => refusal(rejection),
+    }
+}
+
+/// node, entry, element, agrees; the usage of each face goes to the front of `out`
+pub fn agreement(image: &[u8], zone: u64, out: &mut [u8]) -> Told<4> {
+    match reference::parents_agree(image, zone, out) {
+        Ok(agrees) => (0, [0, 0, 0, u64::from(agrees)]),
+        Err(rejection) => refusal_of_usage(rejection),
     }
 }
 
@@ -87,12 +104,12 @@ pub fn value(image: &[u8], node: u64, k: u64) -> Told<4> {
 }
 
 /// The number, or the rule.
-pub fn corner(image: &[u8], section: &[u64; 9], element: u64, corner: u64) -> Result<i64, u64> {
+pub fn corner(image: &[u8], section: &[u64; ENTRY_LENGTH], element: u64, corner: u64) -> Result<i64, u64> {
     reference::corner(image, section, element, corner).map_err(|rejection| u64::from(rejection.rule))
 }
 
 /// count; the corners go to the front of `out`
-pub fn element(image: &[u8], section: &[u64; 9], element: u64, out: &mut [i64]) -> Told<1> {
+pub fn element(image: &[u8], section: &[u64; ENTRY_LENGTH], element: u64, out: &mut [i64]) -> Told<1> {
     match element_corners(image, section, element, out) {
         Ok(count) => (0, [count as u64]),
         Err(rejection) => (u64::from(rejection.rule), [0]),
@@ -100,7 +117,7 @@ pub fn element(image: &[u8], section: &[u64; 9], element: u64, out: &mut [i64]) 
 }
 
 /// type
-pub fn element_type(image: &[u8], section: &[u64; 9], element: u64) -> Told<1> {
+pub fn element_type(image: &[u8], section: &[u64; ENTRY_LENGTH], element: u64) -> Told<1> {
     match reference::element_type(image, section, element) {
         Ok(element_type) => (0, [element_type]),
         Err(rejection) => (u64::from(rejection.rule), [0]),

@@ -15,9 +15,20 @@ pub fn fixed(class: SizeClass) -> Vec<Vec<u8>> {
     let mut images: Vec<Vec<u8>> = cases().into_iter().chain(samples()).map(|(_, image)| image).collect();
     images.extend([of_length(MAX_IMAGE), of_length(MAX_IMAGE + 1), Vec::new()]);
     let meshes = match class {
-        SizeClass::Small => [("poly", 3, 4), ("hex", 2, 8), ("mixed", 3, 4), ("mixed", 2, 8), ("zones", 9, 4)],
-        SizeClass::Medium => [("poly", 8, 8), ("hex", 8, 4), ("mixed", 7, 4), ("mixed", 8, 8), ("zones", 60, 8)],
-        SizeClass::Large => [("poly", 30, 4), ("hex", 30, 8), ("mixed", 61, 4), ("mixed", 52, 8), ("zones", 1_000, 4)],
+        SizeClass::Small => {
+            [("poly", 3, 4), ("parents", 2, 4), ("hex", 2, 8), ("mixed", 3, 4), ("mixed", 2, 8), ("zones", 9, 4)]
+        }
+        SizeClass::Medium => {
+            [("poly", 8, 8), ("parents", 7, 8), ("hex", 8, 4), ("mixed", 7, 4), ("mixed", 8, 8), ("zones", 60, 8)]
+        }
+        SizeClass::Large => [
+            ("poly", 30, 4),
+            ("parents", 52, 4),
+            ("hex", 30, 8),
+            ("mixed", 61, 4),
+            ("mixed", 52, 8),
+            ("zones", 1_000, 4),
+        ],
     };
     images.extend(meshes.into_iter().filter_map(|(kind, n, width)| mesh(kind, n, width).ok()));
     images.push(long_names());

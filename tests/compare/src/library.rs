@@ -30,7 +30,7 @@ extern "C" {
         image: *const u8,
         length: usize,
         section: *const u64,
-        nine: usize,
+        eleven: usize,
         element: u64,
         out: *mut i64,
         numbers: usize,
@@ -41,12 +41,29 @@ extern "C" {
         image: *const u8,
         length: usize,
         section: *const u64,
-        nine: usize,
+        eleven: usize,
         element: u64,
         answer: *mut u8,
         room: usize,
     ) -> u64;
     pub fn gongaurora_export_face_usage(
+        image: *const u8,
+        length: usize,
+        zone: u64,
+        out: *mut u8,
+        bytes: usize,
+        answer: *mut u8,
+        room: usize,
+    ) -> u64;
+    pub fn gongaurora_export_parents(
+        image: *const u8,
+        length: usize,
+        zone: u64,
+        face: u64,
+        answer: *mut u8,
+        room: usize,
+    ) -> u64;
+    pub fn gongaurora_export_parents_agree(
         image: *const u8,
         length: usize,
         zone: u64,
@@ -90,6 +107,8 @@ pub enum Call {
     ReadElement,
     ElementType,
     FaceUsage,
+    Parents,
+    ParentsAgree,
     Path,
     NameBytes,
     DataSize,
@@ -97,13 +116,15 @@ pub enum Call {
 }
 
 /// Their names, in the same order.
-pub const CALLS: [&str; 10] = [
+pub const CALLS: [&str; 12] = [
     "validate",
     "sections",
     "read_corner",
     "read_element",
     "element_type",
     "face_usage",
+    "parents",
+    "parents_agree",
     "path",
     "name_bytes",
     "data_size",

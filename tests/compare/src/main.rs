@@ -1,5 +1,5 @@
 //! `compare SEED COUNT [small|medium|large]`: every call of the library held against the reference on generated images.
-//! Prints a summary; exit status 1 on any difference.
+//! Prints a summary; exit status 1 on any difference, and where a run has not met what every run should.
 
 mod changed;
 mod comparison;
@@ -17,11 +17,11 @@ use reference::generate::image;
 use reference::lawful::SizeClass;
 use reference::random::Random;
 
-use changed::{changed, changed_reference, Changed};
+use changed::{changed, changed_parent, changed_reference, Changed};
 use comparison::Comparison;
 use fixed::fixed;
 use guarded::Arena;
-use questions::{ask, ask_changed, ask_part, ask_reference};
+use questions::{ask, ask_changed, ask_parents, ask_part, ask_reference};
 use tally::{Place, Tally};
 
 const USAGE: &str = "compare SEED COUNT [small|medium|large]";
@@ -29,9 +29,10 @@ const USAGE: &str = "compare SEED COUNT [small|medium|large]";
 /// More than the longest image, which rule 1 is broken by.
 const LONGEST: usize = 16_777_216 + 64;
 
-/// How often a number of a MIXED section is changed, and how often a reference of any section.
+/// How often a number of a MIXED section is changed, how often a reference of any section, and how often a parent of a face.
 const CHANGES: usize = 6;
 const REFERENCES: usize = 2;
+const PARENTS: usize = 4;
 
 fn main() -> ExitCode {
     let arguments: Vec<String> = std::env::args().skip(1).collect();
@@ -46,7 +47,7 @@ fn main() -> ExitCode {
     };
     let tally = run(seed, count, class);
     tally.print();
-    ExitCode::from(u8::from(tally.differences > 0))
+    ExitCode::from(u8::from(tally.differences > 0 || !tally.unmet().is_empty()))
 }
 
 fn usage() -> ExitCode {
@@ -77,8 +78,8 @@ struct Arenas {
     sections: Arena,
 }
 
-/// Compares all calls on an image, some of them on the image with a number of a MIXED section or a reference changed and, now
-/// and then, on a part of it.
+/// Compares all calls on an image, some of them on the image with a number of a MIXED section, a reference or a parent changed
+/// and, now and then, on a part of it.
 fn compare(bytes: &[u8], random: &mut Random, class: SizeClass, arenas: &mut Arenas, tally: &mut Tally) {
     let Arenas { images, sections } = arenas;
     tally.image(bytes.len(), expected::validation(bytes).0);
@@ -93,6 +94,11 @@ fn compare(bytes: &[u8], random: &mut Random, class: SizeClass, arenas: &mut Are
         let Some(image) = changed_reference(bytes, &entries, random) else { break };
         let lent = place(images, &image, random.one_in(2));
         ask_reference(&mut Comparison { image: &image, lent, sections, tally }, random);
+    }
+    for _ in 0..PARENTS {
+        let Some((image, section)) = changed_parent(bytes, &entries, random) else { break };
+        let lent = place(images, &image, random.one_in(2));
+        ask_parents(&mut Comparison { image: &image, lent, sections, tally }, random, &section);
     }
     if random.one_in(4) {
         let part = &bytes[..random.index(bytes.len() + 1)];

@@ -1,12 +1,13 @@
 //! What is asked about an image: every call, with node numbers past the end, buffers of fitting and other lengths, and
 //! sections that no image gave.
 
+use reference::elements::NGON_N;
 use reference::labels::Label;
 use reference::lawful::SizeClass;
 use reference::random::Random;
 use reference::table::Table;
 use reference::validation::validated_tree;
-use reference::{path, section_entries, Section};
+use reference::{face_count, path, section_entries, Section, ENTRY_LENGTH};
 
 use crate::comparison::{Comparison, SECTION};
 
@@ -52,27 +53,42 @@ pub fn ask_reference(comparison: &mut Comparison, random: &mut Random) {
     asker.about_image_node(node);
 }
 
-/// How much is asked: nodes of either kind, zones, corner reads of a section.
+/// Asks about an image in which a parent of a face was changed: validation, and the calls about parents of the zone.
+pub fn ask_parents(comparison: &mut Comparison, random: &mut Random, section: &Section) {
+    let zone = Table::read(comparison.image).map_or(0, |table| table.nodes[section.node as usize].parent as u64);
+    let mut asker = Asker { comparison, random, limits: Limits::FEW };
+    asker.validations();
+    let inside = section.first + asker.random.below(section.last - section.first + 1);
+    asker.parents(zone, inside);
+    let faces = face_count(asker.comparison.image, zone).unwrap_or(4) as usize;
+    let short = asker.random.index(faces);
+    for bytes in [faces, faces + asker.random.index(9), short] {
+        asker.parents_agree(zone, bytes);
+    }
+}
+
+/// How much is asked: nodes of either kind, zones, corner reads of a section, faces of a section.
 struct Limits {
     nodes: usize,
     zones: usize,
     reads: u64,
+    faces: u64,
 }
 
 impl Limits {
-    const FEW: Limits = Limits { nodes: 2, zones: 1, reads: 12 };
+    const FEW: Limits = Limits { nodes: 2, zones: 1, reads: 12, faces: 2 };
 
     fn of(class: SizeClass) -> Limits {
         match class {
-            SizeClass::Small => Limits { nodes: 30, zones: 6, reads: 60 },
-            SizeClass::Medium => Limits { nodes: 16, zones: 6, reads: 60 },
-            SizeClass::Large => Limits { nodes: 8, zones: 3, reads: 400 },
+            SizeClass::Small => Limits { nodes: 30, zones: 6, reads: 60, faces: 8 },
+            SizeClass::Medium => Limits { nodes: 16, zones: 6, reads: 60, faces: 8 },
+            SizeClass::Large => Limits { nodes: 8, zones: 3, reads: 400, faces: 3 },
         }
     }
 }
 
 /// A section's numbers as bytes.
-fn bytes_of(section: &[u64; 9]) -> Vec<u8> {
+fn bytes_of(section: &[u64; ENTRY_LENGTH]) -> Vec<u8> {
     section.map(u64::to_le_bytes).concat()
 }
 
@@ -182,6 +198,11 @@ impl Asker<'_, '_> {
         let items = self.random.index(40);
         self.sections(node, items);
         self.face_usage(node, items);
+        if self.random.one_in(2) {
+            let face = self.random.below(9);
+            self.parents(node, face);
+            self.parents_agree(node, items);
+        }
     }
 
     fn data_size(&mut self, node: u64) {
@@ -202,16 +223,53 @@ impl Asker<'_, '_> {
         }
     }
 
+    fn parents(&mut self, zone: u64, face: u64) {
+        for room in self.answers(4) {
+            self.comparison.parents(zone, face, room);
+        }
+    }
+
+    fn parents_agree(&mut self, zone: u64, bytes: usize) {
+        for room in self.answers(4) {
+            self.comparison.parents_agree(zone, bytes, room);
+        }
+    }
+
+    /// Parents of faces of a zone's sections, all where they are few, and of numbers that are no faces.
+    fn parents_of_zone(&mut self, zone: u64, entries: &[Section]) {
+        let mut asked = vec![0, u64::MAX];
+        for entry in entries {
+            let count = entry.last - entry.first + 1;
+            let limit = if entry.element_type == NGON_N as u64 { self.limits.faces } else { 1 };
+            for k in 0..limit.min(count) {
+                asked.push(entry.first + if count <= limit { k } else { self.random.below(count) });
+            }
+            let odd = [entry.first - 1, entry.last + 1, entry.first + (1 << 32), entry.first.wrapping_neg()];
+            asked.extend([entry.last, *self.random.pick(&odd)]);
+        }
+        asked.sort_unstable();
+        asked.dedup();
+        if asked.len() > 40 {
+            self.random.shuffle(&mut asked);
+            asked.truncate(40);
+        }
+        for face in asked {
+            self.parents(zone, face);
+        }
+    }
+
     /// A zone with buffers of several lengths; answers its sections.
     fn about_zone(&mut self, zone: u64) -> Vec<Section> {
         let entries = section_entries(self.comparison.image, zone).unwrap_or_default();
-        for numbers in self.rooms(9 * entries.len()) {
+        for numbers in self.rooms(ENTRY_LENGTH * entries.len()) {
             self.sections(zone, numbers);
         }
         let faces = entries.iter().filter(|e| e.element_type == 22).map(|e| e.last - e.first + 1).sum::<u64>();
         for bytes in self.rooms(faces as usize) {
             self.face_usage(zone, bytes);
+            self.parents_agree(zone, bytes);
         }
+        self.parents_of_zone(zone, &entries);
         self.data_size(zone);
         entries
     }
@@ -223,7 +281,7 @@ impl Asker<'_, '_> {
             self.corners_of(entry, &numbers);
             for _ in 0..8 {
                 let mut other = numbers;
-                let place = self.random.index(9);
+                let place = self.random.index(ENTRY_LENGTH);
                 other[place] = self.odd_number(numbers[place]);
                 let inside = entry.first + self.random.below(entry.last - entry.first + 1);
                 let element = *self.random.pick(&[entry.first, entry.last, inside, other[2], other[3]]);
@@ -265,10 +323,10 @@ impl Asker<'_, '_> {
     }
 
     /// Reads of an element with fewer or more numbers lent than the section has, and with fewer bytes than the answer has.
-    fn short_numbers(&mut self, section: &[u64; 9], element: u64) {
-        let few = self.random.index(9);
+    fn short_numbers(&mut self, section: &[u64; ENTRY_LENGTH], element: u64) {
+        let few = self.random.index(ENTRY_LENGTH);
         let longer = [&section[..], &[0x55; 2]].concat();
-        for section in [&section[..few], &section[..8], section, &longer[..10], &longer] {
+        for section in [&section[..few], &section[..ENTRY_LENGTH - 1], section, &longer[..ENTRY_LENGTH + 1], &longer] {
             for room in self.answers(1) {
                 self.comparison.read_element(section, element, 8, room);
                 self.comparison.element_type(section, element, room);
@@ -277,20 +335,20 @@ impl Asker<'_, '_> {
     }
 
     /// One corner, with the room that it needs.
-    fn corner(&mut self, section: &[u64; 9], element: u64, corner: u64) {
+    fn corner(&mut self, section: &[u64; ENTRY_LENGTH], element: u64, corner: u64) {
         self.comparison.read_corner(&bytes_of(section), element, corner, 8);
     }
 
     /// All corners of an element, with room for about as many as elements mostly have, or for all of any element asked about; and
     /// its type.
-    fn element(&mut self, section: &[u64; 9], element: u64) {
+    fn element(&mut self, section: &[u64; ENTRY_LENGTH], element: u64) {
         let numbers = if self.random.one_in(4) { 40 } else { self.random.index(10) };
         self.comparison.read_element(section, element, numbers, 8);
         self.comparison.element_type(section, element, 8);
     }
 
     /// Corners of a section: its ends, all elements where they are few, else some.
-    fn corners_of(&mut self, entry: &Section, numbers: &[u64; 9]) {
+    fn corners_of(&mut self, entry: &Section, numbers: &[u64; ENTRY_LENGTH]) {
         for element in [0, entry.first - 1, entry.last + 1, u64::MAX] {
             self.corner(numbers, element, 1);
             self.element(numbers, element);
@@ -331,7 +389,7 @@ impl Asker<'_, '_> {
     /// Corners by sections that no image gave.
     fn absurd_corners(&mut self) {
         for _ in 0..16 {
-            let mut section = [0; 9];
+            let mut section = [0; ENTRY_LENGTH];
             for number in section.iter_mut() {
                 *number = self.odd_number(8);
             }

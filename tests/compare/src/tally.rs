@@ -28,7 +28,12 @@ pub struct Tally {
     /// Images by the rule of their verdict, calls by the rule of their answer; 0 is none.
     verdicts: BTreeMap<u64, u64>,
     answers: BTreeMap<u64, u64>,
+    /// Calls that answered that parents do not agree with the cells, and that they do.
+    agreements: [u64; 2],
 }
+
+/// The rules that calls of every run answer: the last one of validation, and those of the calls alone.
+const ANSWERED: [u64; 10] = [39, 40, 41, 42, 43, 44, 45, 46, 47, 54];
 
 impl Tally {
     /// Nothing met yet.
@@ -53,6 +58,19 @@ impl Tally {
     pub fn call(&mut self, call: Call, rule: u64) {
         self.calls[call as usize] += 1;
         *self.answers.entry(rule).or_default() += 1;
+    }
+
+    /// Counts an answer of whether parents agree with the cells.
+    pub fn agreement(&mut self, agrees: bool) {
+        self.agreements[usize::from(agrees)] += 1;
+    }
+
+    /// What the run should have met and has not: rules, and parents that agree and that do not.
+    pub fn unmet(&self) -> Vec<String> {
+        let rules = ANSWERED.iter().filter(|rule| !self.answers.contains_key(rule)).map(|rule| format!("rule {rule}"));
+        let answers = ["parents that do not agree", "parents that agree"].into_iter().zip(self.agreements);
+        let agreements = answers.filter(|(_, count)| *count == 0).map(|(what, _)| what.to_string());
+        rules.chain(agreements).collect()
     }
 
     /// How many calls were made.
@@ -80,6 +98,10 @@ impl Tally {
         println!("images by rule {}", pairs(&self.verdicts));
         println!("calls {}: {}", self.calls(), calls.join(", "));
         println!("calls by rule {}", pairs(&self.answers));
+        println!("parents agree {}, do not {}", self.agreements[1], self.agreements[0]);
+        for what in self.unmet() {
+            println!("not met: {what}");
+        }
         println!("differences {}", self.differences);
     }
 }

@@ -20,10 +20,14 @@ returns c =
     let u : k + 6 ≡ suc (suc (suc (suc (suc (suc k))))) = omega arith in
     let v : k + 7 ≡ suc (suc (suc (suc (suc (suc (suc k)))))) = omega arith in
     let w : k + 8 ≡ suc (suc (suc (suc (suc (suc (suc (suc k))))))) = omega arith in
-    rw (p, q, r, s, t, u, v, w)
+    let x : k + 9 ≡ suc (suc (suc (suc (suc (suc (suc (suc (suc k)))))))) = omega arith in
+    let y : k + 10 ≡ suc (suc (suc (suc (suc (suc (suc (suc (suc (suc k))))))))) = omega arith in
+    rw (p, q, r, s, t, u, v, w, x, y)
 
 pub put-entry-spec : {M : Type 1} → statement M
 put-entry-spec = tie.close (tie.spec (search needs) (search needs)
+    (search needs) (search needs) (λ c. simp length-set (omega arith))
+    (search needs) (search needs) (λ c. simp length-set (omega arith))
     (search needs) (search needs) (λ c. simp length-set (omega arith))
     (search needs) (search needs) (λ c. simp length-set (omega arith))
     (search needs) (search needs) (λ c. simp length-set (omega arith))

@@ -15,7 +15,7 @@ use Rattle.entries.proofs.section_in.Tie as tie
 returns : tie.Need-returns
 unfolding sectionIn sectionAt
 returns c =
-    let s = c .before .before .before .before .before .before .before .before .before .before .args .s .now in
+    let s = c .before .before .before .before .before .before .before .before .before .before .before .before .args .s .now in
     let w : (k : ℕ) → k < entryLength → le 8 (drop (8 * k) s) ≡ getD (numbers 8 entryLength s) k 0 = λ k h. sym (numbers-at 8 entryLength k s h) in
     cc (
       w 0 (omega arith),
@@ -27,9 +27,11 @@ returns c =
       w 6 (omega arith),
       w 7 (omega arith),
       w 8 (omega arith),
+      w 9 (omega arith),
+      w 10 (omega arith),
     )
 
 pub section-in-spec : {M : Type 1} → statement M
 section-in-spec =
     tie.close (tie.spec (search needs) (search needs) (search needs) (search needs) (search needs) (search needs) (search needs) (search needs) (search needs)
-    returns)
+    (search needs) (search needs) returns)

@@ -11,10 +11,10 @@ use Rattle.validation.proofs.every_node.Statement.{statement}
 use Rattle.validation.proofs.every_node.Tie as tie
 
 abbrev Inv-loop : tie.InvT-loop
-Inv-loop image index overlap firsts reach faces levels₀ n i₀ levels i = (length levels ≡ length levels₀) × NodesLeft (treeOf image) n i
+Inv-loop image index overlap parents firsts reach faces levels₀ n i₀ levels i = (length levels ≡ length levels₀) × NodesLeft (treeOf image) n i
 
 abbrev μ-loop : tie.MeasureT-loop
-μ-loop image index overlap firsts reach faces levels₀ n i₀ levels i = n - i
+μ-loop image index overlap parents firsts reach faces levels₀ n i₀ levels i = n - i
 
 loop-holds : tie.Need-loop-holds Inv-loop μ-loop
 unfolding treeOf
@@ -38,7 +38,7 @@ loop-again : tie.Need-loop-again Inv-loop μ-loop
 loop-again c =
     let s = c .before .before .before .before in
     let l = s .before .before .before .loop .inv in
-    (s .node-stage .kept .1 .1 .1 .1 .1 .1 .1 .0 ∙ l .0, nodes-on (l .1) (omega arith) (passes (s .node-stage .ensures) (c .enum-told .given .1)))
+    (s .node-stage .kept .1 .1 .1 .1 .1 .1 .1 .1 .0 ∙ l .0, nodes-on (l .1) (omega arith) (passes (s .node-stage .ensures) (c .enum-told .given .1)))
 
 returns-2 : tie.Need-returns-2 Inv-loop μ-loop
 returns-2 c = sym (nodes-end (c .before .loop .inv .1) (omega arith))

@@ -5,7 +5,7 @@ use borrow.Author.Needs.{needs}
 use Rattle.model.specs.Rules.{rejected}
 use Rattle.model.specs.Answers.{rejectionOf}
 use Rattle.face_places.proofs.Gathering.{all-faces}
-use Rattle.faces.proofs.Runs.{tables-kept}
+use Rattle.face_uses.proofs.Runs.{tables-kept}
 use Rattle.faces.proofs.Whole.{run-passed, run-refused}
 use Rattle.faces.proofs.zone.fill.Statement.{statement}
 use Rattle.faces.proofs.zone.fill.Tie as tie

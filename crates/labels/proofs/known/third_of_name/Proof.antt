@@ -21,4 +21,4 @@ pub third-of-name-spec : {M : Type 1} → statement M
 unfolding everyFrom among fieldWord le knownTexts knownNames knownLabels text
 third-of-name-spec =
     tie.close (tie.spec (λ c. arm (c .match .keys1)) (λ c. arm (c .match .keys2)) (λ c. arm (c .match .keys3))
-    (λ c. eqb-true _ _ (last-of (6 ∷ 5 ∷ 0 ∷ []) (λ (k : ℕ). eqb 0x2020202020202020 (textWord 2 (14 + k))) 9 refl (omega arith) (c .match .rest))))
+    (λ c. eqb-true _ _ (last-of (6 ∷ 5 ∷ 0 ∷ []) (λ (k : ℕ). eqb 0x2020202020202020 (textWord 2 (14 + k))) 10 refl (omega arith) (c .match .rest))))

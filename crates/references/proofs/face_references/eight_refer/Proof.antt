@@ -4,9 +4,9 @@ use mathlib.Core.Path.{_≡_}
 use borrow.Author.Tests.{not-false}
 use Rattle.model.specs.Image.{treeOf}
 use Rattle.model.proofs.Logic.{untrue}
-use Rattle.references.specs.Arrays.{Passed}
+use Rattle.section_data.specs.Passing.{Passed}
 use Rattle.references.specs.Arrays.{refersFace}
-use Rattle.references.proofs.Failing.{passed-none, passed-more}
+use Rattle.section_data.proofs.Passing.{passed-none, passed-more}
 use native.Mathlib.Omega.{arith}
 use borrow.Author.Needs.{needs}
 use Rattle.references.proofs.face_references.eight_refer.Statement.{statement}

@@ -3,7 +3,8 @@ use mathlib.Core.Path.{sym, _∙_}
 use native.Mathlib.Omega.{arith}
 use borrow.Author.Needs.{needs}
 use Rattle.model.proofs.Logic.{untrue}
-use Rattle.references.proofs.FaceLaws.{refers-by, held-face}
+use Rattle.section_data.proofs.TableLaws.{held-is}
+use Rattle.references.proofs.FaceLaws.{refers-by}
 use Rattle.references.proofs.face_references.entry_refers.Statement.{statement}
 use Rattle.references.proofs.face_references.entry_refers.Tie as tie
 
@@ -16,7 +17,7 @@ returns-2 c e =
     let i = c .before .before in
     let p = i .before .before .before .before .before .pre in
     refers-by _ _ _ _ _ _ (i .before .magnitude-at .ensures)
-    (held-face (p .1 .1) _ _ (omega (arith, i .if1 .left)) (c .before .key .ensures .0) (sym (c .entry-holds .ensures) ∙ e))
+    (held-is (p .1 .1) _ _ (omega (arith, i .if1 .left)) (c .before .key .ensures .0) (sym (c .entry-holds .ensures) ∙ e))
 
 pub entry-refers-spec : {M : Type 1} → statement M
 entry-refers-spec = tie.close (tie.spec (λ c κs. search needs) (λ c e. untrue e) key-requires

@@ -3,11 +3,12 @@ use Prim.Native.Nat.{_-_}
 use Rattle.model.specs.Image.{treeOf}
 use Rattle.ranges.specs.Tables.{Covered}
 use Rattle.ranges.proofs.Intervals.{none-covered}
-use Rattle.references.specs.Arrays.{Passed}
+use Rattle.section_data.specs.Passing.{Passed}
 use Rattle.references.specs.Arrays.{refersFace}
-use Rattle.section_data.proofs.RangeLaws.{too-great}
-use Rattle.references.proofs.Failing.{passed-none, passed-more, passed-on, failing-here, failing-none}
-use Rattle.references.proofs.FaceLaws.{refers-by, found-face, no-face, known-faces}
+use Rattle.section_data.proofs.TableLaws.{found-is, missed-is}
+use Rattle.section_data.proofs.Passing.{passed-none, passed-more, passed-on}
+use Rattle.references.proofs.Failing.{failing-here, failing-none}
+use Rattle.references.proofs.FaceLaws.{refers-by, known-faces}
 use native.Mathlib.Omega.{arith}
 use borrow.Author.Needs.{needs}
 use Rattle.references.proofs.face_references.first_no_face.Statement.{statement}
@@ -27,7 +28,7 @@ returns : tie.Need-returns Inv-loop μ-loop
 returns c =
     let l = c .before .before .before in
     failing-here (l .loop .inv .1)
-    (refers-by _ _ _ _ _ _ (c .before .magnitude-at .ensures) (too-great (l .before .before .before .before .before .pre .0 .0) _ _ (c .if1 .taken)))
+    (refers-by _ _ _ _ _ _ (c .before .magnitude-at .ensures) (l .before .before .before .before .before .pre .1 .0 .1 .small _ _ (c .if1 .taken)))
 
 interval-around-requires : tie.Need-interval-around-requires Inv-loop μ-loop
 interval-around-requires c κs =
@@ -40,7 +41,7 @@ returns-2 c =
     let m = a .before .before in
     let l = m .before .before in
     failing-here (l .loop .inv .1)
-    (refers-by _ _ _ _ _ _ (m .magnitude-at .ensures) (no-face (l .before .before .before .before .before .pre .1 .0 .1) _ (omega (arith, a .before .if1 .left))
+    (refers-by _ _ _ _ _ _ (m .magnitude-at .ensures) (missed-is (l .before .before .before .before .before .pre .1 .0 .1) _ (omega (arith, a .before .if1 .left))
     (a .interval-around .ensures .1) (c .if2 .taken)))
 
 first-outside-requires : tie.Need-first-outside-requires Inv-loop μ-loop
@@ -74,8 +75,8 @@ loop-again c =
     let i = l .loop .inv in (
       a .interval-around .ensures .0,
       passed-on (passed-on (passed-more (i .1) (omega (arith, m .before .loop-test .taken)) (refers-by _ _ _ _ _ _ (m .magnitude-at .ensures)
-          (found-face g _ (omega (arith, a .before .if1 .left)) (a .interval-around .ensures .1) (c .before .before .before .if2 .left))))
-          (known-faces g _ _ _ (c .before .before .first-outside .ensures) (a .interval-around .ensures .0) (i .0))) (c .guessed-to .ensures),
+          (found-is g _ (omega (arith, a .before .if1 .left)) (a .interval-around .ensures .1) (c .before .before .before .if2 .left))))
+          (known-faces _ g _ _ _ (c .before .before .first-outside .ensures) (a .interval-around .ensures .0) (i .0))) (c .guessed-to .ensures),
     )
 
 pub first-no-face-spec : {M : Type 1} → statement M

@@ -2,8 +2,9 @@
 use Prim.Native.Nat.{_-_}
 use mathlib.Core.Path.{sym, _∙_}
 use borrow.Author.Tests.{not-false}
-use Rattle.references.specs.Arrays.{knownAt, Passed}
-use Rattle.references.proofs.Failing.{passed-none, passed-more}
+use Rattle.section_data.specs.Passing.{Passed}
+use Rattle.references.specs.Arrays.{knownAt}
+use Rattle.section_data.proofs.Passing.{passed-none, passed-more}
 use native.Mathlib.Omega.{arith}
 use borrow.Author.Needs.{needs}
 use Rattle.references.proofs.face_references.first_outside.Statement.{statement}

@@ -4,9 +4,9 @@ use mathlib.Core.Path.{_≡_, refl, sym, _∙_}
 use lib.ListN.{length}
 use borrow.Author.Tests.{not-false}
 use Rattle.model.specs.Image.{treeOf}
-use Rattle.references.specs.Arrays.{Passed}
+use Rattle.section_data.specs.Passing.{Passed}
 use Rattle.references.specs.Arrays.{refersFace}
-use Rattle.references.proofs.Failing.{passed-none, passed-on}
+use Rattle.section_data.proofs.Passing.{passed-none, passed-on}
 use native.Mathlib.Omega.{arith}
 use borrow.Author.Needs.{needs}
 use Rattle.references.proofs.face_references.guessed_to.Statement.{statement}

@@ -4,8 +4,10 @@ use mathlib.Core.Path.{refl, sym, _∙_}
 use native.Mathlib.Omega.{arith}
 use borrow.Author.Needs.{needs}
 use borrow.Author.Tests.{not-true, not-false}
-use Rattle.references.specs.Arrays.{isWithin, Passed}
-use Rattle.references.proofs.Failing.{passed-none, passed-more, failing-place, failing-no-place}
+use Rattle.section_data.specs.Passing.{Passed}
+use Rattle.references.specs.Arrays.{isWithin}
+use Rattle.section_data.proofs.Passing.{passed-none, passed-more}
+use Rattle.references.proofs.Failing.{failing-place, failing-no-place}
 use Rattle.references.proofs.mixed.place_outside.Statement.{statement}
 use Rattle.references.proofs.mixed.place_outside.Tie as tie
 

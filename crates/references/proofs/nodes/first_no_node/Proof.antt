@@ -4,8 +4,10 @@ use mathlib.Core.Path.{sym, _∙_}
 use native.Mathlib.Omega.{arith}
 use borrow.Author.Needs.{needs}
 use borrow.Author.Tests.{not-true, not-false}
-use Rattle.references.specs.Arrays.{isWithin, Passed}
-use Rattle.references.proofs.Failing.{passed-none, passed-two, failing-two, failing-last, failing-none}
+use Rattle.section_data.specs.Passing.{Passed}
+use Rattle.references.specs.Arrays.{isWithin}
+use Rattle.section_data.proofs.Passing.{passed-none}
+use Rattle.references.proofs.Failing.{passed-two, failing-two, failing-last, failing-none}
 use Rattle.references.proofs.nodes.first_no_node.Statement.{statement}
 use Rattle.references.proofs.nodes.first_no_node.Tie as tie
 

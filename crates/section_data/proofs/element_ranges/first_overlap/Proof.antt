@@ -1,7 +1,6 @@
 -- No node before i meets an earlier one, and their ranges are gathered.
 use Prim.Native.Nat.{_-_}
 use mathlib.Core.Path.{_≡_, refl, sym, _∙_}
-use mathlib.Core.Bool.{false}
 use lib.ListN.{length}
 use Rattle.model.specs.Lists.{seekFrom}
 use Rattle.model.specs.Image.{treeOf}
@@ -17,7 +16,7 @@ use Rattle.section_data.proofs.element_ranges.first_overlap.Tie as tie
 abbrev Inv-loop : tie.InvT-loop
 Inv-loop image index firsts₀ reach₀ nodes n₀ i₀ firsts reach n i = ((length firsts ≡ length firsts₀) × (length reach ≡ length reach₀))
     × (SeekLeft (overlapAt (treeOf image)) nodes i (seekFrom (overlapAt (treeOf image)) nodes 0)
-    × Gathered (isRanged (treeOf image) false) (firstKey (treeOf image)) (lastKey (treeOf image)) firsts reach n i)
+    × Gathered (isRanged (treeOf image) 0) (firstKey (treeOf image)) (lastKey (treeOf image)) firsts reach n i)
 
 abbrev μ-loop : tie.MeasureT-loop
 μ-loop image index firsts₀ reach₀ nodes n₀ i₀ firsts reach n i = nodes - i

@@ -18,7 +18,7 @@ returns c =
 
 module _ (c : tie.Else1) where
   is-ranged : isRanged (treeOf (c .before .before .before .before .before .before .before .args .image .now))
-      (c .before .before .before .before .before .before .before .args .faces) (c .before .before .before .before .before .before .before .args .i) ≡ true
+      (c .before .before .before .before .before .before .before .args .element-type) (c .before .before .before .before .before .before .before .args .i) ≡ true
   is-ranged = has-range (c .before .before .range-if .ensures) (omega (arith, c .if1 .left, c .before .node-count .ensures .0))
 
 keys-of-requires : tie.Need-keys-of-requires

@@ -1,6 +1,6 @@
 -- The ranges gathered are those of the earlier sections.
 use mathlib.Core.Path.{_≡_}
-use mathlib.Core.Bool.{true, false}
+use mathlib.Core.Bool.{true}
 use Rattle.model.specs.Image.{treeOf}
 use Rattle.section_data.specs.Ranges.{isRanged}
 use Rattle.section_data.proofs.RangeLaws.{has-range, no-range, ranged, zone-inside, overlap-by, no-overlap}
@@ -15,7 +15,7 @@ returns c =
     no-overlap _ _ (no-range r (omega (arith, c .if1 .taken, c .before .node-count .ensures .0)))
 
 module _ (c : tie.Else1) where
-  is-ranged : isRanged (treeOf (c .before .before .before .before .before .before .before .args .image .now)) false
+  is-ranged : isRanged (treeOf (c .before .before .before .before .before .before .before .args .image .now)) 0
       (c .before .before .before .before .before .before .before .args .i) ≡ true
   is-ranged = has-range (c .before .before .range-if .ensures) (omega (arith, c .if1 .left, c .before .node-count .ensures .0))
 

@@ -180,13 +180,13 @@ module _ (κs : Lfts 2) (qs : Shares 2) where
         (aside (g-back-arr-shr 𝓤 H A W E half _ 4 16384 3 (λ x. x) (as-is 𝓤 H A (arr-shr half 16384 3)) refl) (forgets 3 refl (here Read
         (does (t-use 𝓤 H A W E 𝓣 _ (oFld 9 (field 0 ∷ []) word 0 (fieldV T.the-type T′.the-laws 0)) 7 number word (valS (sInt w64)) (sInt w64 .of)
         (reads-field 𝓤 H A W T.the-type T′.the-laws 0 word 0 refl, refl) gone (holds-sc 𝓤 H A W (sInt w64)) refl (λ u. refl) (λ u. tt))
-        (does (t-op2 𝓤 H A W E 𝓣 _ (mul unsigned) (oAt 8 word (valS (sInt w64))) (oInt w64 72) 16 number word (valS (sInt w64)) (sInt w64 .of) (num, refl) tt
+        (does (t-op2 𝓤 H A W E 𝓣 _ (mul unsigned) (oAt 8 word (valS (sInt w64))) (oInt w64 88) 16 number word (valS (sInt w64)) (sInt w64 .of) (num, refl) tt
         (room-gone 𝓤 H A word) (holds-sc 𝓤 H A W (sInt w64)) refl (λ u. refl) (λ u. tt))
         (does (t-op2 𝓤 H A W E 𝓣 _ offset (oFld 1 (field 0 ∷ []) list-ref 0 ptrVal) (oAt 16 word (valS (sInt w64))) 17 (sc-here sPtr) tyPtr (valS sPtr)
         (sPtr .of) (reads-mslice-ptr 𝓤 H A W T.the-row list-ref 0 0 refl, refl) (num, refl) (room-gone 𝓤 H A tyPtr) (holds-sc 𝓤 H A W sPtr) refl (λ u. refl)
         (λ u. tt))
-        (does (t-sl-set-from 𝓤 H A W E T.the-row 𝓣 refl (λ ρ. Unit {0}) _ 1 17 9 0 list-ref (lease (κs .0) (qs .0)) T′.mir T′.mir entry-row (bySize 72)
-        (λ u. u .1 .1 .1 .1 .1 .1 .1 .1 .0) (λ x. x) (λ x. x) (λ x. x) (λ x. x) (λ i o. at-mul o 72 i) refl refl (told-none 𝓤 H A _)
+        (does (t-sl-set-from 𝓤 H A W E T.the-row 𝓣 refl (λ ρ. Unit {0}) _ 1 17 9 0 list-ref (lease (κs .0) (qs .0)) T′.mir T′.mir entry-row (bySize 88)
+        (λ u. u .1 .1 .1 .1 .1 .1 .1 .1 .0) (λ x. x) (λ x. x) (λ x. x) (λ x. x) (λ i o. at-mul o 88 i) refl refl (told-none 𝓤 H A _)
         (as-is 𝓤 H A (mslice T.the-row list-ref 0)) (as-is 𝓤 H A (sc-here sPtr)) stores refl tt refl refl)
         (frees 9 T′.mir (room-whole 𝓤 H A W T.the-row T′.mir refl) (frees 16 word gone (frees 17 tyPtr (room-sc 𝓤 H A W sPtr)
         (last tt (t-op2 𝓤 H A W E 𝓣 Head (add unsigned) (oAt 8 word (valS (sInt w64))) (oInt w64 _) 8 number word (valS (sInt w64)) (sInt w64 .of) (num, refl)
@@ -232,7 +232,7 @@ module _ (κs : Lfts 2) (qs : Shares 2) where
         (λ yes γ₁.
         let h = ltb-true (vs .1 .1) (t .1) yes in
         let within : vs .1 .1 < length (a .0 .now) = omega (arith, d .few) in
-        ap (vint w64) (sym len) and (λ κs′. onward d f h) and λ k. scaled-fits (vs .1 .1) (length (a .0 .now)) 72 within (good .0 .1) and tt and
+        ap (vint w64) (sym len) and (λ κs′. onward d f h) and λ k. scaled-fits (vs .1 .1) (length (a .0 .now)) 88 within (good .0 .1) and tt and
         (refl, refl, omega (arith, f .same)) and (record { fits = omega (arith, good .0 .0) }) and
         (t .1 - (vs .1 .1 + 1), omega arith, ((_, (_, _)), refl, one-stored d f h (k .5), refl))) and
         (λ no. ((fix-len (a .0 .ptr) (a .0 .name) (vs .0) (a .0 .now) (f .same), (refl, (tt, tt))) and
