@@ -77,23 +77,24 @@ module _ {b : List ℕ} (a : Accepted b) {z s n : ℕ} {firsts reach arrays : Li
             let d = face-ranged a z s h e .up in
             apart a z i s (omega arith) h f e (omega arith) (omega arith)
 
+-- the section of a face that an entry holds
+pub face-section : {b : List ℕ} {z n f j : ℕ} {firsts places : List ℕ} → At b z firsts places n f j → faceSection (treeOf b) z (sectionWithFace (treeOf b) z f) ≡ true
+unfolding hasFace
+face-section {b} {z} {n} {f} at = and-first (faceSection (treeOf b) z (sectionWithFace (treeOf b) z f)) _ (at .has)
+
 -- all of them: beside the entry of a face stands the ParentElements of its section
 module _ {b : List ℕ} (a : Accepted b) {z n : ℕ} {firsts arrays : List ℕ} (r : Arrays (treeOf b) z (nodeCount b) n firsts arrays)
     {places : List ℕ} {f j : ℕ} (at : At b z firsts places n f j) where
   abbrev s : ℕ
   s = sectionWithFace (treeOf b) z f
 
-  face-section : faceSection (treeOf b) z s ≡ true
-  unfolding hasFace
-  face-section = and-first (faceSection (treeOf b) z s) _ (at .has)
-
   pub array-is : getD arrays j 0 ≡ parentsOf (treeOf b) s
-  array-is = r .each s j (at .known) face-section (at .inside) (at .first-is)
+  array-is = r .each s j (at .known) (face-section at) (at .inside) (at .first-is)
 
   -- where there is one, its section has the array, and it stores two columns
   pub array-has : getD arrays j 0 < nodeCount b → hasParents (treeOf b) z s ≡ true
   unfolding hasParents found treeOf
-  array-has l = and-both _ _ face-section (lt-ltb _ _ (rw array-is at l))
+  array-has l = and-both _ _ (face-section at) (lt-ltb _ _ (rw array-is at l))
 
   pub array-none : nodeCount b ≤ getD arrays j 0 → hasParents (treeOf b) z s ≡ false
   unfolding hasParents found treeOf

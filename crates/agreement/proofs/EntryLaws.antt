@@ -11,11 +11,11 @@ use borrow.Author.Tests.{ltb-true, lt-ltb}
 use Rattle.model.specs.Image.{treeOf, nodeCount, number}
 use Rattle.model.specs.Given.{Accepted}
 use Rattle.model.specs.Containment.{found}
-use Rattle.model.specs.Elements.{firstElement, elementCount, faceSection, hasFace, faceOf, sectionWithFace, parentsOf, firstParent, secondParent}
+use Rattle.model.specs.Elements.{firstElement, elementCount, faceSection, faceOf, sectionWithFace, parentsOf, firstParent, secondParent}
 use Rattle.model.specs.FaceUsage.{faceCount, facePlace}
 use Rattle.model.specs.Corner.{numberAt}
 use Rattle.model.specs.ParentElements.{storedParents, hasParents}
-use Rattle.model.proofs.Logic.{untrue, and-first, and-second, and-both}
+use Rattle.model.proofs.Logic.{untrue, and-second, and-both}
 use Rattle.ranges.proofs.Cases.{both}
 use Rattle.rows.specs.declared.Row.{Row}
 use Rattle.ranges.specs.Tables.{Found}
@@ -27,6 +27,7 @@ use Rattle.face_uses.specs.declared.uses.Faces.{Faces}
 use Rattle.face_uses.specs.Uses.{Tables}
 use Rattle.face_parents.specs.Parents.{ParentRow}
 use Rattle.agreement.specs.Matching.{Matched, withUser}
+use Rattle.agreement.proofs.ArrayLaws.{face-section}
 use Rattle.agreement.proofs.Steps.{inside, use-unasked, use-asked}
 
 -- the entry that holds a face
@@ -38,12 +39,8 @@ module _ {b : List ℕ} (a : Accepted b) {z n f j : ℕ} {firsts places : List �
   abbrev s : ℕ
   s = sectionWithFace (treeOf b) z f
 
-  face-section : faceSection (treeOf b) z s ≡ true
-  unfolding hasFace
-  face-section = and-first (faceSection (treeOf b) z s) _ (at .has)
-
   near : f - getD firsts j 0 < elementCount (treeOf b) s
-  near = let i = inside a z s f (at .has) in omega (arith, i .1, faces-are a z s (at .known) face-section, at .first-is)
+  near = let i = inside a z s f (at .has) in omega (arith, i .1, faces-are a z s (at .known) (face-section at), at .first-is)
 
   module _ {array : Row} (r : ParentRow b (parentsOf (treeOf b) s) (elementCount (treeOf b) s) array) where
     -- no number: no parents
@@ -77,5 +74,5 @@ module _ {b : List ℕ} (a : Accepted b) {z n f j : ℕ} {firsts places : List �
       matched-use {p} {x} {y} cell bytes q u v room w left =
           let c : x ≡ firstParent (treeOf b) s (f - firstElement (treeOf b) s) = u ∙ sym (r .stored _ first-inside) ∙ rw (at .first-is) in
           let d : y ≡ secondParent (treeOf b) s (f - firstElement (treeOf b) s) = v ∙ sym (r .stored _ second-inside) ∙ rw (half, at .first-is) in
-          use-asked a z s f cell (at .known) (at .has) bytes left (and-both _ _ face-section (lt-ltb _ _ there)) (omega (arith, at .below))
+          use-asked a z s f cell (at .known) (at .has) bytes left (and-both _ _ (face-section at) (lt-ltb _ _ there)) (omega (arith, at .below))
           (rw (← c, ← d, ← q) (w .0)) (rw (← c, ← d, ← q) (w .1))

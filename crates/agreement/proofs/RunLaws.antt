@@ -14,7 +14,7 @@ use Rattle.model.specs.Bytes.{magnitude, text}
 use Rattle.model.specs.Image.{Tree, treeOf, nodeCount, dimensions}
 use Rattle.model.specs.Containment.{sectionOf, isChild, child, orMissing, DataArray}
 use Rattle.model.specs.Values.{offsetsOf, connectivityOf}
-use Rattle.model.specs.Elements.{NFACE, NGON, hasOffsets, elementType, elementCount, startOffset, startsAtZero, allRise, endsAtLength, connectivityLength, elementRules, faceNumber, sectionWithFace, parentsOf}
+use Rattle.model.specs.Elements.{NFACE, NGON, elementType, elementCount, startOffset, startsAtZero, allRise, endsAtLength, connectivityLength, elementRules, faceNumber, sectionWithFace, parentsOf}
 use Rattle.model.specs.Corner.{numberAt}
 use Rattle.model.specs.FaceUsage.{elementHolding, usesIn}
 use Rattle.model.specs.ParentElements.{usersIn, usersFrom}
@@ -29,7 +29,7 @@ use Rattle.face_places.specs.declared.zone_sections.Span.{Span}
 use Rattle.face_places.specs.ZoneSections.{Cells, Spans}
 use Rattle.face_places.proofs.Accepted.{own-zone, count-read}
 use Rattle.face_uses.specs.Uses.{RowOf, Reference, References}
-use Rattle.face_uses.proofs.Arrays.{element-read}
+use Rattle.face_uses.proofs.Arrays.{has-offsets, element-read}
 use Rattle.agreement.proofs.Steps.{matched-none, matched-same}
 use Rattle.agreement.specs.declared.cells.Cell.{Cell}
 use Rattle.agreement.specs.Arrays.{ArrayRow, Filled, AtMost}
@@ -101,21 +101,17 @@ module _ {b : List ℕ} {o : Row} {n : ℕ} (g : Filled b o n) where
 
 -- those of a cell section of an accepted image
 module _ {b index : List ℕ} {s : ℕ} (c : Cells b index s) {p : Span} (g : Spans b s p) {o : Row} (w : RowOf b (offsetsOf (treeOf b) s) (p .last - p .first + 2) o) where
-  has-offsets : hasOffsets (elementType (treeOf b) s) ≡ true
-  unfolding hasOffsets
-  has-offsets = rw (c .cells)
-
   first-is : startsAtZero (treeOf b) s ≡ true
   unfolding elementRules
-  first-is = when _ _ (section-rule (own-zone (c .section)) 30) has-offsets
+  first-is = when _ _ (section-rule (own-zone (c .section)) 30) (has-offsets c)
 
   all-rise : allRise (treeOf b) s ≡ true
   unfolding elementRules
-  all-rise = when _ _ (section-rule (own-zone (c .section)) 31) has-offsets
+  all-rise = when _ _ (section-rule (own-zone (c .section)) 31) (has-offsets c)
 
   last-is : endsAtLength (treeOf b) s ≡ true
   unfolding elementRules
-  last-is = when _ _ (section-rule (own-zone (c .section)) 32) has-offsets
+  last-is = when _ _ (section-rule (own-zone (c .section)) 32) (has-offsets c)
 
   offset-is : (k : ℕ) → k ≤ elementCount (treeOf b) s → startOffset (treeOf b) s k ≡ numberAt b (o .at) (o .width) k
   unfolding startOffset

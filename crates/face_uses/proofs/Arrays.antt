@@ -48,7 +48,7 @@ cells-by {b} a i z s h e =
     record { section = section-by a i z s h (and-first (sectionOf (treeOf b) z s) _ e); cells = eqb-true _ _ (and-second (sectionOf (treeOf b) z s) _ e) }
 
 module _ {b index : List ℕ} {s : ℕ} (c : Cells b index s) where
-  has-offsets : hasOffsets (elementType (treeOf b) s) ≡ true
+  pub has-offsets : hasOffsets (elementType (treeOf b) s) ≡ true
   unfolding hasOffsets
   has-offsets = rw (c .cells)
 
