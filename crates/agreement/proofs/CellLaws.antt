@@ -21,8 +21,8 @@ module _ {b : List ℕ} {o : Row} {n k : ℕ} (g : Filled b o n) (h : k < n) {pl
         | no d ↦ omega (arith, m.inside)
       ]
 
-  pub next-cell : {e : ℕ} → e ≡ number_at b o.at o.width (place + 1 + 1) → AtMost b o k (record { place = place + 1; end = e }) × (k < e)
-  next-cell {e} q =
+  pub next_cell : {e : ℕ} → e ≡ number_at b o.at o.width (place + 1 + 1) → AtMost b o k (record { place = place + 1; end = e }) × (k < e)
+  next_cell {e} q =
       let r = g.rise (place + 1) (omega (arith, next-inside)) in
       let u : k < e = rw (q, add-one) (omega (arith, r, at-end)) in
       (record { inside = next-inside; ends = q; from = omega (arith, at-end); to = omega (arith, u) }, u)

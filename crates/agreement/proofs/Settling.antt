@@ -59,21 +59,21 @@ more false true false true g e = refl
 more false true false false g e = refl
 more false false fd sd g e = refl
 
-no-mark : (none : Bool) → complete none 0 ≡ false
+no_mark : (none : Bool) → complete none 0 ≡ false
 unfolding complete
-no-mark none = refl
+no_mark none = refl
 
-all-marks : (none : Bool) → complete none 3 ≡ true
+all_marks : (none : Bool) → complete none 3 ≡ true
 unfolding complete
-all-marks true = refl
-all-marks false = refl
+all_marks true = refl
+all_marks false = refl
 
 pub agree-settles : (p : FaceParents) (cells : List ℕ) → agree cells p ≡ settles p 0 cells
 unfolding agree settles
-agree-settles p [] = sym (no-mark (eqb p.second 0))
+agree-settles p [] = sym (no_mark (eqb p.second 0))
 agree-settles p (c ∷ []) = one (eqb p.first c) (eqb p.second c) (eqb p.second 0)
 agree-settles p (c ∷ d ∷ []) =
-    two (eqb p.first c) (eqb p.second c) (eqb p.first d) (eqb p.second d) (complete (eqb p.second 0)) (all-marks (eqb p.second 0))
+    two (eqb p.first c) (eqb p.second c) (eqb p.first d) (eqb p.second d) (complete (eqb p.second 0)) (all_marks (eqb p.second 0))
     (λ i j k. eq-eqb _ d (eqb-true _ c k ∙ sym (eqb-true _ c i) ∙ eqb-true _ d j))
 agree-settles p (c ∷ d ∷ e ∷ cells) =
     sym (more (eqb p.first c) (eqb p.second c) (eqb p.first d) (eqb p.second d) (λ m. settles p m (e ∷ cells))

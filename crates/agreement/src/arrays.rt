@@ -1,6 +1,6 @@
 // The arrays of parents of a zone's face sections: beside each entry of the tables the ParentElements of its section, the node count where it has none.
 ghost use Rattle.std.specs.Prelude.{◌≡◌, ◌+◌, ◌≤◌, ◌<◌, length, get_or};
-ghost use Rattle.model.specs.Image.{tree_of, nodeCount};
+ghost use Rattle.model.specs.Image.{tree_of, node_count};
 ghost use Rattle.model.specs.Given.{Sound, Accepted};
 ghost use Rattle.index.specs.Index.{Index};
 ghost use Rattle.agreement.specs.Arrays.{Arrays, InTables, StoresColumns, ArrayRow};
@@ -21,7 +21,7 @@ fn put_array(
     n: usize,
     arrays: &mut [u16],
 )
-    requires accepted { Accepted image.now × (Index image.now index.now × (s < nodeCount image.now)) }
+    requires accepted { Accepted image.now × (Index image.now index.now × (s < node_count image.now)) }
     requires in_tables { InTables image.now z firsts.now reach.now n }
     requires arrays { Arrays (tree_of image.now) z s n firsts.now arrays.old }
     ensures { Arrays (tree_of image.now) z (s + 1) n firsts.now arrays.new }
@@ -46,7 +46,7 @@ pub fn gather_arrays(
 )
     requires accepted { (Accepted image.now × Index image.now index.now) × (n ≤ length arrays.old) }
     requires in_tables { InTables image.now z firsts.now reach.now n }
-    ensures { Arrays (tree_of image.now) z (nodeCount image.now) n firsts.now arrays.new }
+    ensures { Arrays (tree_of image.now) z (node_count image.now) n firsts.now arrays.new }
 {
     let nodes = labels::node_count(image);
     let mut i: usize = 0;
@@ -58,7 +58,7 @@ pub fn gather_arrays(
 
 // The parents beside entry j; `row` has them already where j is the last entry that was asked for.
 pub fn array_at(image: &[u8], arrays: &[u16], j: usize, last: usize, row: Row) -> Row
-    requires sound { (Sound image.now × (j < length arrays.now)) × (get_or arrays.now j 0 ≤ nodeCount image.now) }
+    requires sound { (Sound image.now × (j < length arrays.now)) × (get_or arrays.now j 0 ≤ node_count image.now) }
     requires stores_columns { StoresColumns image.now (get_or arrays.now j 0) × (j ≡ last → ArrayRow image.now (get_or arrays.now j 0) row) }
     ensures { ArrayRow image.now (get_or arrays.now j 0) result }
 {

@@ -1,13 +1,13 @@
 // Whether each parent of a zone's faces is matched, after all uses.
 ghost use Rattle.std.specs.Prelude.{◌≡◌, [], ℕ, ◌+◌, ◌*◌, ◌≤◌, ◌<◌, length};
-ghost use Rattle.model.specs.Lists.{everyFrom, sumBefore};
-ghost use Rattle.model.specs.Image.{tree_of, nodeCount};
+ghost use Rattle.model.specs.Lists.{every_from, sum_before};
+ghost use Rattle.model.specs.Image.{tree_of, node_count};
 ghost use Rattle.model.specs.Given.{Accepted};
-ghost use Rattle.model.specs.FaceUsage.{facesIn, faceCount};
-ghost use Rattle.model.specs.ParentElements.{sectionAgrees, allAgree};
+ghost use Rattle.model.specs.FaceUsage.{faces_in, face_count};
+ghost use Rattle.model.specs.ParentElements.{section_agrees, all_agree};
 ghost use Rattle.rows.specs.Rows.{Numbers};
 ghost use Rattle.index.specs.Index.{Index};
-ghost use Rattle.agreement.specs.Matching.{completeAt, Matching};
+ghost use Rattle.agreement.specs.Matching.{complete_at, Matching};
 
 use element_types::NGON;
 use face_parents::parents_row;
@@ -18,7 +18,7 @@ use usage_bytes::parent_marks::is_complete;
 // Are the parents of each of n faces matched? The row has the first parents, then the second ones; the faces' bytes begin at `place`.
 fn faces_complete(image: &[u8], row: Row, n: usize, place: usize, out: &[u8]) -> bool
     requires { Numbers image.now row.at row.width row.n × ((row.n ≡ n * 2) × (place + n ≤ length out.now)) }
-    ensures { result ≡ everyFrom (completeAt image.now row n place out.now) n 0 }
+    ensures { result ≡ every_from (complete_at image.now row n place out.now) n 0 }
 {
     let mut d: usize = 0;
     while d < n {
@@ -33,8 +33,8 @@ fn faces_complete(image: &[u8], row: Row, n: usize, place: usize, out: &[u8]) ->
 
 // The faces that node s brings to zone z.
 fn faces_of(image: &[u8], index: &[u16], z: usize, s: usize) -> usize
-    requires { Accepted image.now × (Index image.now index.now × (s < nodeCount image.now)) }
-    ensures { result ≡ facesIn (tree_of image.now) z s }
+    requires { Accepted image.now × (Index image.now index.now × (s < node_count image.now)) }
+    ensures { result ≡ faces_in (tree_of image.now) z s }
 {
     if !has_type(image, index, z, s, NGON) {
         return 0;
@@ -53,10 +53,10 @@ fn section_agrees(
     place: usize,
     out: &[u8],
 ) -> bool
-    requires accepted { Accepted image.now × (Index image.now index.now × (s < nodeCount image.now)) }
-    requires n_value { (n ≡ facesIn (tree_of image.now) z s) × (place ≡ sumBefore (facesIn (tree_of image.now) z) s) }
-    requires z_in_bounds { (faceCount (tree_of image.now) z ≤ length out.now) × Matching image.now z (λ (f : ℕ). []) out.now }
-    ensures { result ≡ sectionAgrees (tree_of image.now) z s }
+    requires accepted { Accepted image.now × (Index image.now index.now × (s < node_count image.now)) }
+    requires n_value { (n ≡ faces_in (tree_of image.now) z s) × (place ≡ sum_before (faces_in (tree_of image.now) z) s) }
+    requires z_in_bounds { (face_count (tree_of image.now) z ≤ length out.now) × Matching image.now z (λ (f : ℕ). []) out.now }
+    ensures { result ≡ section_agrees (tree_of image.now) z s }
 {
     if n == 0 {
         return true;
@@ -71,8 +71,8 @@ fn section_agrees(
 // Do all faces whose sections have parents agree with the zone's cells?
 pub fn zone_complete(image: &[u8], index: &[u16], z: usize, out: &[u8]) -> bool
     requires accepted { Accepted image.now × Index image.now index.now }
-    requires z_in_bounds { (faceCount (tree_of image.now) z ≤ length out.now) × Matching image.now z (λ (f : ℕ). []) out.now }
-    ensures { result ≡ allAgree (tree_of image.now) z }
+    requires z_in_bounds { (face_count (tree_of image.now) z ≤ length out.now) × Matching image.now z (λ (f : ℕ). []) out.now }
+    ensures { result ≡ all_agree (tree_of image.now) z }
 {
     let nodes = labels::node_count(image);
     let mut place: usize = 0;

@@ -2,14 +2,14 @@
 ghost use Rattle.std.specs.Prelude.{◌≡◌, true, List, ℕ, ◌+◌, ◌≤◌, ◌<◌, length};
 ghost use Rattle.model.specs.Bytes.{magnitude};
 ghost use Rattle.model.specs.Corner.{number_at};
-ghost use Rattle.model.specs.Image.{tree_of, nodeCount};
-ghost use Rattle.model.specs.Elements.{elementCount, faceOf, sectionWithFace, parentsOf};
+ghost use Rattle.model.specs.Image.{tree_of, node_count};
+ghost use Rattle.model.specs.Elements.{element_count, face_of, section_with_face, parents_of};
 ghost use Rattle.rows.specs.Rows.{Numbers};
 ghost use Rattle.index.specs.Index.{Index};
 ghost use Rattle.face_uses.specs.Uses.{Tables, FoundFor};
 ghost use Rattle.face_parents.specs.Parents.{ParentRow};
 ghost use Rattle.agreement.specs.Arrays.{Arrays};
-ghost use Rattle.agreement.specs.Matching.{Matched, withUser, usersOn};
+ghost use Rattle.agreement.specs.Matching.{Matched, with_user, users_on};
 
 use super::arrays::array_at;
 use super::cells::{cell_at, first_cell};
@@ -35,15 +35,15 @@ fn match_entry(
     out: &mut [u8],
 ) -> bool
     requires numbers { Numbers image.now row.at row.width row.n × (k < row.n) }
-    requires k_value { faceOf (tree_of image.now) faces.zone (magnitude row.width (number_at image.now row.at row.width k)) ≡ true }
+    requires k_value { face_of (tree_of image.now) faces.zone (magnitude row.width (number_at image.now row.at row.width k)) ≡ true }
     requires tables { Tables image.now faces firsts.now reach.now places.now (length out.old) }
     requires found_for { FoundFor image.now row k firsts.now reach.now faces.count j }
     requires parent_row { ParentRow image.now
-        (parentsOf (tree_of image.now) (sectionWithFace (tree_of image.now) faces.zone (magnitude row.width (number_at image.now row.at row.width k))))
-        (elementCount (tree_of image.now) (sectionWithFace (tree_of image.now) faces.zone (magnitude row.width (number_at image.now row.at row.width k))))
+        (parents_of (tree_of image.now) (section_with_face (tree_of image.now) faces.zone (magnitude row.width (number_at image.now row.at row.width k))))
+        (element_count (tree_of image.now) (section_with_face (tree_of image.now) faces.zone (magnitude row.width (number_at image.now row.at row.width k))))
         array }
     ensures { (left : ℕ → List ℕ) → Matched image.now faces.zone
-        (withUser (magnitude row.width (number_at image.now row.at row.width k)) cell left) left out.old result out.new }
+        (with_user (magnitude row.width (number_at image.now row.at row.width k)) cell left) left out.old result out.new }
 {
     if array.n == 0 {
         return true;
@@ -69,11 +69,11 @@ fn match_entries(
     arrays: &[u16],
     out: &mut [u8],
 ) -> bool
-    requires index { (Index image.now index.now × (s < nodeCount image.now)) × (2048 ≤ length levels.now) }
+    requires index { (Index image.now index.now × (s < node_count image.now)) × (2048 ≤ length levels.now) }
     requires tables { Tables image.now faces firsts.now reach.now places.now (length out.old) }
-    requires arrays { Arrays (tree_of image.now) faces.zone (nodeCount image.now) faces.count firsts.now arrays.now }
-    ensures { Matched image.now faces.zone (usersOn (tree_of image.now) faces.zone s)
-        (usersOn (tree_of image.now) faces.zone (s + 1)) out.old result out.new }
+    requires arrays { Arrays (tree_of image.now) faces.zone (node_count image.now) faces.count firsts.now arrays.now }
+    ensures { Matched image.now faces.zone (users_on (tree_of image.now) faces.zone s)
+        (users_on (tree_of image.now) faces.zone (s + 1)) out.old result out.new }
 {
     let row = references_of(image, index, faces.zone, s);
     if row.n == 0 {
@@ -130,9 +130,9 @@ pub fn match_nodes(
 ) -> bool
     requires index { Index image.now index.now × (2048 ≤ length levels.now) }
     requires tables { Tables image.now faces firsts.now reach.now places.now (length out.old) }
-    requires arrays { Arrays (tree_of image.now) faces.zone (nodeCount image.now) faces.count firsts.now arrays.now }
-    ensures { Matched image.now faces.zone (usersOn (tree_of image.now) faces.zone 0)
-        (usersOn (tree_of image.now) faces.zone (nodeCount image.now)) out.old result out.new }
+    requires arrays { Arrays (tree_of image.now) faces.zone (node_count image.now) faces.count firsts.now arrays.now }
+    ensures { Matched image.now faces.zone (users_on (tree_of image.now) faces.zone 0)
+        (users_on (tree_of image.now) faces.zone (node_count image.now)) out.old result out.new }
 {
     let nodes = labels::node_count(image);
     let mut i: usize = 0;

@@ -1,8 +1,8 @@
 // Whether the parents of a zone's faces agree with its cells.
 ghost use Rattle.std.specs.Prelude.{◌≡◌, ℕ, ◌≤◌, ◌<◌, length, get_or};
-ghost use Rattle.model.specs.Image.{tree_of, nodeCount};
-ghost use Rattle.model.specs.FaceUsage.{faceCount};
-ghost use Rattle.model.specs.ParentElements.{allAgree};
+ghost use Rattle.model.specs.Image.{tree_of, node_count};
+ghost use Rattle.model.specs.FaceUsage.{face_count};
+ghost use Rattle.model.specs.ParentElements.{all_agree};
 ghost use Rattle.index.specs.Index.{Index};
 ghost use Rattle.face_uses.specs.Uses.{Tables};
 ghost use Rattle.agreement.specs.Arrays.{Arrays};
@@ -28,10 +28,10 @@ fn all_agree(
 ) -> bool
     requires index { Index image.now index.now × (2048 ≤ length levels.now) }
     requires tables { Tables image.now faces firsts.now reach.now places.now (length out.old) }
-    requires arrays { Arrays (tree_of image.now) faces.zone (nodeCount image.now) faces.count firsts.now arrays.now }
-    requires by_index { (p : ℕ) → p < faceCount (tree_of image.now) faces.zone → get_or out.old p 0 < 4 }
-    ensures { (result ≡ allAgree (tree_of image.now) faces.zone)
-        × Signs (faceCount (tree_of image.now) faces.zone) out.old out.new }
+    requires arrays { Arrays (tree_of image.now) faces.zone (node_count image.now) faces.count firsts.now arrays.now }
+    requires by_index { (p : ℕ) → p < face_count (tree_of image.now) faces.zone → get_or out.old p 0 < 4 }
+    ensures { (result ≡ all_agree (tree_of image.now) faces.zone)
+        × Signs (face_count (tree_of image.now) faces.zone) out.old out.new }
 {
     if !match_nodes(
         image, index, faces, firsts, reach, places, levels, arrays, out,
@@ -54,8 +54,8 @@ pub fn zone_agrees(
 ) -> bool
     requires index { Index image.now index.now × (2048 ≤ length levels.now) }
     requires tables { Tables image.now faces firsts.now reach.now places.now (length out.old) }
-    requires by_index { (p : ℕ) → p < faceCount (tree_of image.now) faces.zone → get_or out.old p 0 < 4 }
-    ensures { (result ≡ allAgree (tree_of image.now) faces.zone) × (out.new ≡ out.old) }
+    requires by_index { (p : ℕ) → p < face_count (tree_of image.now) faces.zone → get_or out.old p 0 < 4 }
+    ensures { (result ≡ all_agree (tree_of image.now) faces.zone) × (out.new ≡ out.old) }
 {
     let count = faces.count;
     let mut arrays: [u16; 2048] = [0; 2048];

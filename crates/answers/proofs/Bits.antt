@@ -24,6 +24,6 @@ pub bits_above : (z : ℤ) → SFits w64 z → lt_z (to_z w64 (of_z w64 z)) (pos
 bits_above (pos n) f t = refl
 bits_above (negsuc n) f t = absurd (up w64 (negsuc n) f t).0
 
-pub one-if : (y : Bool) → bool_byte y ≡ cond y 1 0
-one-if true = refl
-one-if false = refl
+pub one_if : (y : Bool) → bool_byte y ≡ cond y 1 0
+one_if true = refl
+one_if false = refl

@@ -4,9 +4,9 @@ ghost use Rattle.std.specs.Int.{w64};
 ghost use Rattle.std.proofs.Common.{of_z};
 ghost use Rattle.model.specs.Lists.{over};
 ghost use Rattle.model.specs.Bytes.{le_bytes, all_bytes};
-ghost use Rattle.model.specs.ReadList.{ruleOf};
-ghost use Rattle.model.specs.Answers.{validationTells, countTells, usageTells, parentsTells, agreementTells, cornerTells, valueTells, dataSizeTells, NanCases};
-ghost use Rattle.model.specs.Exports.{validationWords, countWords, usageWords, parentWords, agreementWords, valueWords, sizeWords, numberBytes, countWord};
+ghost use Rattle.model.specs.ReadList.{rule_of};
+ghost use Rattle.model.specs.Answers.{validation_tells, count_tells, usage_tells, parents_tells, agreement_tells, corner_tells, value_tells, data_size_tells, NanCases};
+ghost use Rattle.model.specs.Exports.{validation_words, count_words, usage_words, parent_words, agreement_words, value_words, size_words, number_bytes, count_word};
 
 use model::{
     Agreement, ArrayValue, Corner, Count, DataSize, FaceUsage, ParentPair, Rejection, Validation,
@@ -70,7 +70,7 @@ fn whole_bits(x: i64) -> u64
 
 // Validation: node, entry and the four counts.
 pub fn validation_answer(v: Validation) -> ExportAnswer
-    ensures { (result.rule ≡ ruleOf (validationTells v)) × (take 6 result.words ≡ validationWords (validationTells v)) }
+    ensures { (result.rule ≡ rule_of (validation_tells v)) × (take 6 result.words ≡ validation_words (validation_tells v)) }
 {
     match v {
         Validation::Accepted {
@@ -85,7 +85,7 @@ pub fn validation_answer(v: Validation) -> ExportAnswer
 
 // A count: node, entry, count.
 pub fn count_answer(c: Count) -> ExportAnswer
-    ensures { (result.rule ≡ ruleOf (countTells c)) × (take 3 result.words ≡ countWords (countTells c)) }
+    ensures { (result.rule ≡ rule_of (count_tells c)) × (take 3 result.words ≡ count_words (count_tells c)) }
 {
     match c {
         Count::Of(n) => answered(n, 0, 0, 0),
@@ -95,7 +95,7 @@ pub fn count_answer(c: Count) -> ExportAnswer
 
 // Face usage: node, entry, element, count.
 pub fn usage_answer(u: FaceUsage) -> ExportAnswer
-    ensures { (result.rule ≡ ruleOf (usageTells u)) × (take 4 result.words ≡ usageWords (usageTells u)) }
+    ensures { (result.rule ≡ rule_of (usage_tells u)) × (take 4 result.words ≡ usage_words (usage_tells u)) }
 {
     match u {
         FaceUsage::Faces(n) => answered(0, n, 0, 0),
@@ -105,7 +105,7 @@ pub fn usage_answer(u: FaceUsage) -> ExportAnswer
 
 // The parents of a face: node, entry, first, second.
 pub fn parents_answer(p: ParentPair) -> ExportAnswer
-    ensures { (result.rule ≡ ruleOf (parentsTells p)) × (take 4 result.words ≡ parentWords (parentsTells p)) }
+    ensures { (result.rule ≡ rule_of (parents_tells p)) × (take 4 result.words ≡ parent_words (parents_tells p)) }
 {
     match p {
         ParentPair::Of { first, second } => answered(first, second, 0, 0),
@@ -115,7 +115,7 @@ pub fn parents_answer(p: ParentPair) -> ExportAnswer
 
 // Agreement: node, entry, element, then 1 where the parents agree and 0 where they do not.
 pub fn agreement_answer(a: Agreement) -> ExportAnswer
-    ensures { (result.rule ≡ ruleOf (agreementTells a)) × (take 4 result.words ≡ agreementWords (agreementTells a)) }
+    ensures { (result.rule ≡ rule_of (agreement_tells a)) × (take 4 result.words ≡ agreement_words (agreement_tells a)) }
 {
     match a {
         Agreement::Agrees(y) => answered(0, y as u64, 0, 0),
@@ -133,7 +133,7 @@ fn single_answer(bits: u32) -> ExportAnswer
 // An array value: node, entry, kind, bits.
 pub fn value_answer(v: ArrayValue) -> ExportAnswer
     requires { NanCases v }
-    ensures { (result.rule ≡ ruleOf (valueTells v)) × (take 4 result.words ≡ valueWords (valueTells v)) }
+    ensures { (result.rule ≡ rule_of (value_tells v)) × (take 4 result.words ≡ value_words (value_tells v)) }
 {
     match v {
         ArrayValue::Whole(x) => answered(1, whole_bits(x), 0, 0),
@@ -147,7 +147,7 @@ pub fn value_answer(v: ArrayValue) -> ExportAnswer
 
 // A DataSize: node, entry, directions and the size in each.
 pub fn size_answer(d: DataSize) -> ExportAnswer
-    ensures { (result.rule ≡ ruleOf (dataSizeTells d)) × (take 6 result.words ≡ sizeWords (dataSizeTells d)) }
+    ensures { (result.rule ≡ rule_of (data_size_tells d)) × (take 6 result.words ≡ size_words (data_size_tells d)) }
 {
     match d {
         DataSize::Sizes {
@@ -163,7 +163,7 @@ pub fn size_answer(d: DataSize) -> ExportAnswer
 // Writes a corner's number in front of lent bytes and answers 0; a refusal answers its rule and leaves the bytes as they were.
 pub fn put_corner(c: Corner, number: &mut [u8]) -> u64
     requires { 8 ≤ length number.old }
-    ensures { (result ≡ ruleOf (cornerTells c)) × (number.new ≡ numberBytes (cornerTells c) number.old) }
+    ensures { (result ≡ rule_of (corner_tells c)) × (number.new ≡ number_bytes (corner_tells c) number.old) }
 {
     match c {
         Corner::Number(n) => {
@@ -177,7 +177,7 @@ pub fn put_corner(c: Corner, number: &mut [u8]) -> u64
 // Writes an element's size or type in front of lent bytes, 0 of a refusal, and answers the rule.
 pub fn put_count(c: Count, count: &mut [u8]) -> u64
     requires { 8 ≤ length count.old }
-    ensures { (result ≡ ruleOf (countTells c)) × (count.new ≡ over count.old (le_bytes 8 (countWord (countTells c)))) }
+    ensures { (result ≡ rule_of (count_tells c)) × (count.new ≡ over count.old (le_bytes 8 (count_word (count_tells c)))) }
 {
     match c {
         Count::Of(n) => {

@@ -5,12 +5,12 @@ ghost use Rattle.std.specs.Float.Ieee.{nan_bits};
 ghost use Rattle.model.specs.Lists.{among};
 ghost use Rattle.model.specs.Bytes.{signed};
 ghost use Rattle.model.specs.Rules.{answer};
-ghost use Rattle.model.specs.Image.{tree_of, nodeCount, node, dimensions, dataType, width, number};
+ghost use Rattle.model.specs.Image.{tree_of, node_count, node, dimensions, data_type_of, width, number};
 ghost use Rattle.model.specs.Records.{product};
-ghost use Rattle.model.specs.ArrayValue.{single, double, value_at, valueAnswer};
-ghost use Rattle.model.specs.Answers.{valueTells, NanCases};
+ghost use Rattle.model.specs.ArrayValue.{single, double, value_at, value_answer};
+ghost use Rattle.model.specs.Answers.{value_tells, NanCases};
 ghost use Rattle.model.specs.Given.{Sound};
-ghost use Rattle.words.specs.Width.{isWidth};
+ghost use Rattle.words.specs.Width.{is_width};
 ghost use Rattle.array_values.specs.Readable.{readable};
 
 use model::{ArrayValue, Rejection, Stage};
@@ -32,7 +32,7 @@ fn nan_double(bits: u64) -> bool
 
 // The single with these bits; the bits themselves where they are a NaN's.
 fn single_of(bits: u32) -> ArrayValue
-    ensures { (valueTells result ≡ answer (single bits)) × NanCases result }
+    ensures { (value_tells result ≡ answer (single bits)) × NanCases result }
 {
     if nan_single(bits) {
         return ArrayValue::SingleNan(bits);
@@ -42,7 +42,7 @@ fn single_of(bits: u32) -> ArrayValue
 
 // The double with these bits; the bits themselves where they are a NaN's.
 fn double_of(bits: u64) -> ArrayValue
-    ensures { (valueTells result ≡ answer (double bits)) × NanCases result }
+    ensures { (value_tells result ≡ answer (double bits)) × NanCases result }
 {
     if nan_double(bits) {
         return ArrayValue::DoubleNan(bits);
@@ -68,7 +68,7 @@ fn is_readable(data_type: u64) -> bool
 
 // How many values node i has; `wide` is its width, 4 or 8.
 fn array_length(image: &[u8], i: usize, wide: u64) -> u64
-    requires { (Sound image.now × (i < nodeCount image.now)) × ((T (isWidth wide)) × (wide ≡ width (tree_of image.now) i)) }
+    requires { (Sound image.now × (i < node_count image.now)) × ((T (is_width wide)) × (wide ≡ width (tree_of image.now) i)) }
     ensures { result ≡ product (dimensions (tree_of image.now) i) }
 {
     let size = RecordNumbers::read(image, i).data_size;
@@ -77,8 +77,8 @@ fn array_length(image: &[u8], i: usize, wide: u64) -> u64
 
 // Value k of node i as a signed number, counted from 0; `wide` is the node's width, 4 or 8.
 fn whole_at(image: &[u8], i: usize, k: usize, wide: usize) -> i64
-    requires sound { (Sound image.now × (i < nodeCount image.now)) × ((T (isWidth wide)) × (wide ≡ width (tree_of image.now) i)) }
-    requires wide_bound { wide * k + wide ≤ (node (tree_of image.now) i).dataSize }
+    requires sound { (Sound image.now × (i < node_count image.now)) × ((T (is_width wide)) × (wide ≡ width (tree_of image.now) i)) }
+    requires wide_bound { wide * k + wide ≤ (node (tree_of image.now) i).data_size }
     ensures { result ≡ signed (width (tree_of image.now) i) (number (tree_of image.now) i k) }
 {
     words::signed_at(image, records::data_start(image, i) + wide * k, wide)
@@ -86,9 +86,9 @@ fn whole_at(image: &[u8], i: usize, k: usize, wide: usize) -> i64
 
 // Value k of node i, counted from 0; `data_type` is the node's, one whose values are handed out.
 fn value_at(image: &[u8], i: usize, k: usize, data_type: u64) -> ArrayValue
-    requires sound { (Sound image.now × (i < nodeCount image.now)) × ((among data_type readable ≡ true) × (data_type ≡ dataType (tree_of image.now) i)) }
+    requires sound { (Sound image.now × (i < node_count image.now)) × ((among data_type readable ≡ true) × (data_type ≡ data_type_of (tree_of image.now) i)) }
     requires k_bound { k < product (dimensions (tree_of image.now) i) }
-    ensures { (valueTells result ≡ answer (value_at (tree_of image.now) i k)) × NanCases result }
+    ensures { (value_tells result ≡ answer (value_at (tree_of image.now) i k)) × NanCases result }
 {
     if data_type == data_types::R4 {
         return single_of(records::number(image, i, k, 4) as u32);
@@ -102,8 +102,8 @@ fn value_at(image: &[u8], i: usize, k: usize, data_type: u64) -> ArrayValue
 
 // Value k of node i, counted from 1: rule 47, then 42, then the value.
 fn node_value(image: &[u8], i: usize, k: u64) -> ArrayValue
-    requires { Sound image.now × (i < nodeCount image.now) }
-    ensures { (valueTells result ≡ valueAnswer image.now i k) × NanCases result }
+    requires { Sound image.now × (i < node_count image.now) }
+    ensures { (value_tells result ≡ value_answer image.now i k) × NanCases result }
 {
     let data_type = records::data_type_of(image, i);
     if !is_readable(data_type) {
@@ -121,7 +121,7 @@ fn node_value(image: &[u8], i: usize, k: u64) -> ArrayValue
 // Value k of a node of an image in which rules 1 to 18 hold: rule 40, then 47 and 42, then the value.
 fn sound_value(image: &[u8], node: u64, k: u64) -> ArrayValue
     requires { Sound image.now }
-    ensures { (valueTells result ≡ valueAnswer image.now node k) × NanCases result }
+    ensures { (value_tells result ≡ value_answer image.now node k) × NanCases result }
 {
     let count = words::u32_at(image, Header::NODE_COUNT);
     if count <= node {
@@ -132,7 +132,7 @@ fn sound_value(image: &[u8], node: u64, k: u64) -> ArrayValue
 
 // Value k of a node's array, counted from 1: rules 1 to 18, then 40, 47 and 42, then the value.
 pub fn array_value(image: &[u8], node: u64, k: u64) -> ArrayValue
-    ensures { (valueTells result ≡ valueAnswer image.now node k) × NanCases result }
+    ensures { (value_tells result ≡ value_answer image.now node k) × NanCases result }
 {
     let stage = table::table_stage(image);
     let Stage::Pass = stage else {

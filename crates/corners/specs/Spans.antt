@@ -4,9 +4,9 @@ use Rattle.model.specs.declared.Section.{Section}
 use Rattle.model.specs.Bytes.{negative, below, signed}
 use Rattle.model.specs.Lists.{over}
 use Rattle.model.specs.Rules.{◌unless◌, Answer, check, ◌gives◌, leaves}
-use Rattle.model.specs.Elements.{MIXED, fitsLength, cornerPlace}
-use Rattle.model.specs.Corner.{inside, number_at, layoutIn, entryStart, readable}
-use Rattle.model.specs.ReadList.{valuesFrom}
+use Rattle.model.specs.Elements.{MIXED, fits_length, corner_place}
+use Rattle.model.specs.Corner.{inside, number_at, layout_in, entry_start, readable}
+use Rattle.model.specs.ReadList.{values_from}
 use Rattle.rows.specs.declared.Row.{Row}
 use Rattle.corners.specs.declared.spans.Span.{Span}
 use Rattle.corners.specs.declared.spans.Span.TheVariants as Span
@@ -17,31 +17,31 @@ provided true s = s
 provided false s = Span.Unreadable
 
 -- an element of a type with a fixed number of nodes
-unfoldable pub fixedSpan : ℕ → ℕ → ℕ → Span
-fixedSpan k nodes length =
+unfoldable pub fixed_span : ℕ → ℕ → ℕ → Span
+fixed_span k nodes length =
     provided (ltb (k * nodes) (suc k * nodes) && leb (suc k * nodes) length) (Span.Range (k * nodes) (suc k * nodes))
 
 -- an element between two start offsets, as their bits: start is not negative and before end
-unfoldable pub rangeBetween : ℕ → ℕ → ℕ → ℕ → Span
-rangeBetween w start end length =
+unfoldable pub range_between : ℕ → ℕ → ℕ → ℕ → Span
+range_between w start end length =
     provided ((not (negative w start) && below w start end) && leb end length) (Span.Range start end)
 
-unfoldable pub offsetSpan : List ℕ → ℕ → ℕ → ℕ → ℕ → Span
-offsetSpan b at w k length =
-    provided (inside b at w (k + 2)) (rangeBetween w (number_at b at w k) (number_at b at w (suc k)) length)
+unfoldable pub offset_span : List ℕ → ℕ → ℕ → ℕ → ℕ → Span
+offset_span b at w k length =
+    provided (inside b at w (k + 2)) (range_between w (number_at b at w k) (number_at b at w (suc k)) length)
 
 -- an element of a MIXED section begins with a type of the fixed list that has as many nodes as numbers follow; these are its corners
-unfoldable pub behindType : List ℕ → ℕ → ℕ → Span → Span
-behindType b at w (Span.Range start end) =
-    provided (fitsLength (number_at b at w start) (end - start)) (Span.Range (start + 1) end)
-behindType b at w Span.Unreadable = Span.Unreadable
+unfoldable pub behind_type : List ℕ → ℕ → ℕ → Span → Span
+behind_type b at w (Span.Range start end) =
+    provided (fits_length (number_at b at w start) (end - start)) (Span.Range (start + 1) end)
+behind_type b at w Span.Unreadable = Span.Unreadable
 
-unfoldable pub mixedSpan : List ℕ → ℕ → ℕ → ℕ → Span → Span
-mixedSpan b type at w s = provided (eqb type MIXED) (behindType b at w s)
+unfoldable pub mixed_span : List ℕ → ℕ → ℕ → ℕ → Span → Span
+mixed_span b type at w s = provided (eqb type MIXED) (behind_type b at w s)
 
 -- the corners of the k-th element of a section, where rule 43 is kept
 unfoldable pub span_of : List ℕ → Section → ℕ → Span
-span_of b e k = provided (readable b e k) (Span.Range (cornerPlace (layoutIn b e) k 1) (entryStart b e (suc k)))
+span_of b e k = provided (readable b e k) (Span.Range (corner_place (layout_in b e) k 1) (entry_start b e (suc k)))
 
 -- a range has a corner, and lies within the connectivity
 abbrev pub SpanIn : ℕ → Span → Type 0
@@ -57,24 +57,24 @@ SpanInside b e (Span.Range start end) = (start < end) × (end ≤ e.connectivity
 SpanInside b e Span.Unreadable = Unit
 
 -- what is left to check once the element's range is known: 42, and the number
-unfoldable pub cornerIn : List ℕ → Section → ℕ → ℕ → ℕ → Answer ℤ
-cornerIn b e start end corner =
+unfoldable pub corner_in : List ℕ → Section → ℕ → ℕ → ℕ → Answer ℤ
+corner_in b e start end corner =
     check 0 (42 unless (leb 1 corner && leb corner (end - start)) ∷ [])
     gives signed e.connectivity_width (number_at b e.connectivity_at e.connectivity_width (start + (corner - 1)))
 
 -- n numbers of a row, from number `start` on, signed; those of an entry's connectivity
-abbrev pub rowValues : List ℕ → Row → ℕ → ℕ → List ℤ
-rowValues b r start n = valuesFrom (λ k. signed r.width (number_at b r.at r.width (start + k))) n 0
+abbrev pub row_values : List ℕ → Row → ℕ → ℕ → List ℤ
+row_values b r start n = values_from (λ k. signed r.width (number_at b r.at r.width (start + k))) n 0
 
-abbrev pub elementValues : List ℕ → Section → ℕ → ℕ → List ℤ
-elementValues b e start n =
-    rowValues b (record { at = e.connectivity_at; width = e.connectivity_width; n = e.connectivity_length }) start n
+abbrev pub element_values : List ℕ → Section → ℕ → ℕ → List ℤ
+element_values b e start n =
+    row_values b (record { at = e.connectivity_at; width = e.connectivity_width; n = e.connectivity_length }) start n
 
 -- the same of all corners at once: 46, and how many they are; the numbers in front of the lent memory
-unfoldable pub cornersIn : ℕ → ℕ → ℕ → Answer ℕ
-cornersIn start end room = check 0 (46 unless leb (end - start) room ∷ []) gives (end - start)
+unfoldable pub corners_in : ℕ → ℕ → ℕ → Answer ℕ
+corners_in start end room = check 0 (46 unless leb (end - start) room ∷ []) gives (end - start)
 
-unfoldable pub cornersInMemory : List ℕ → Section → ℕ → ℕ → List ℤ → List ℤ
-cornersInMemory b e start end out =
-    leaves (cornersIn start end (length out)) out
-    (over out (elementValues b e start (end - start)))
+unfoldable pub corners_in_memory : List ℕ → Section → ℕ → ℕ → List ℤ → List ℤ
+corners_in_memory b e start end out =
+    leaves (corners_in start end (length out)) out
+    (over out (element_values b e start (end - start)))

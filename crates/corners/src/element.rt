@@ -2,9 +2,9 @@
 ghost use Rattle.std.specs.Prelude.{◌≡◌, ◌+◌, ◌≤◌, ◌<◌, true, length};
 ghost use Rattle.model.specs.Lists.{over};
 ghost use Rattle.rows.specs.Rows.{Numbers};
-ghost use Rattle.model.specs.ElementCorners.{elementCornersAnswer, elementCornersMemory};
-ghost use Rattle.model.specs.Answers.{countTells};
-ghost use Rattle.corners.specs.Spans.{held, rowValues, cornersIn, cornersInMemory};
+ghost use Rattle.model.specs.ElementCorners.{element_corners_answer, element_corners_memory};
+ghost use Rattle.model.specs.Answers.{count_tells};
+ghost use Rattle.corners.specs.Spans.{held, row_values, corners_in, corners_in_memory};
 
 use super::spans::{Span, behind_type, fixed_span, offset_span};
 use element_types::{nodes_per, of_any_size};
@@ -14,7 +14,7 @@ use rows::{Row, inside, signed_number_at};
 // Writes n numbers of a row, from number `start` on, in front of lent memory; the rest stays.
 fn put_row(image: &[u8], row: Row, start: usize, n: usize, out: &mut [i64])
     requires { Numbers image.now row.at row.width row.n × ((start + n ≤ row.n) × (n ≤ length out.old)) }
-    ensures { out.new ≡ over out.old (rowValues image.now row start n) }
+    ensures { out.new ≡ over out.old (row_values image.now row start n) }
 {
     let mut k: usize = 0;
     while k < n {
@@ -26,7 +26,7 @@ fn put_row(image: &[u8], row: Row, start: usize, n: usize, out: &mut [i64])
 // The same for either width: each has a loop of its own.
 fn put_numbers(image: &[u8], row: Row, start: usize, n: usize, out: &mut [i64])
     requires { Numbers image.now row.at row.width row.n × ((start + n ≤ row.n) × (n ≤ length out.old)) }
-    ensures { out.new ≡ over out.old (rowValues image.now row start n) }
+    ensures { out.new ≡ over out.old (row_values image.now row start n) }
 {
     let at = row.at;
     let count = row.n;
@@ -61,8 +61,8 @@ fn put_numbers(image: &[u8], row: Row, start: usize, n: usize, out: &mut [i64])
 fn corners_in(image: &[u8], section: Section, start: u64, end: u64, out: &mut [i64]) -> Count
     requires { (start < end) × (end ≤ section.connectivity_length)
         × (held image.now section ≡ true) }
-    ensures { (countTells result ≡ cornersIn start end (length out.old))
-        × (out.new ≡ cornersInMemory image.now section start end out.old) }
+    ensures { (count_tells result ≡ corners_in start end (length out.old))
+        × (out.new ≡ corners_in_memory image.now section start end out.old) }
 {
     let n = end - start;
     if (out.len() as u64) < n {
@@ -79,8 +79,8 @@ fn corners_in(image: &[u8], section: Section, start: u64, end: u64, out: &mut [i
 
 // Writes all corners of an element in front of `out` and answers how many they are; 41, then 43, then 46. A refusal leaves `out` as it was.
 pub fn element_corners(image: &[u8], section: Section, element: u64, out: &mut [i64]) -> Count
-    ensures result_value { countTells result ≡ elementCornersAnswer image.now section element (length out.old) }
-    ensures out_after { out.new ≡ elementCornersMemory image.now section element out.old }
+    ensures result_value { count_tells result ≡ element_corners_answer image.now section element (length out.old) }
+    ensures out_after { out.new ≡ element_corners_memory image.now section element out.old }
 {
     let first = section.first;
     let last = section.last;

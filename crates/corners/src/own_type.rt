@@ -1,7 +1,7 @@
 // An element's own type, asked for as the corner reader asks for corners: no verdict first, nothing is assumed of the image or of the entry.
 ghost use Rattle.std.specs.Prelude.{◌≡◌};
-ghost use Rattle.model.specs.OwnType.{ownTypeAnswer};
-ghost use Rattle.model.specs.Answers.{countTells};
+ghost use Rattle.model.specs.OwnType.{own_type_answer};
+ghost use Rattle.model.specs.Answers.{count_tells};
 
 use super::spans::{Span, behind_type, fixed_span, offset_span};
 use element_types::{MIXED, nodes_per, of_any_size};
@@ -11,7 +11,7 @@ use rows::{Row, inside, number_at};
 // In a MIXED section the type that the element begins with, in others the section's; 41, then 43. The span is found as in `element_corners`, written
 // out: a function that both call would be compiled into neither, and each read would take longer.
 pub fn element_type(image: &[u8], section: Section, element: u64) -> Count
-    ensures { countTells result ≡ ownTypeAnswer image.now section element }
+    ensures { count_tells result ≡ own_type_answer image.now section element }
 {
     let first = section.first;
     let last = section.last;

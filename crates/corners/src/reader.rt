@@ -1,8 +1,8 @@
 // The corner reader: no verdict first, nothing is assumed of the image or of the entry.
 ghost use Rattle.std.specs.Prelude.{◌≡◌, true, ◌≤◌, ◌<◌};
-ghost use Rattle.model.specs.Answers.{cornerTells};
+ghost use Rattle.model.specs.Answers.{corner_tells};
 ghost use Rattle.model.specs.Reads.{CornerRead};
-ghost use Rattle.corners.specs.Spans.{held, cornerIn};
+ghost use Rattle.corners.specs.Spans.{held, corner_in};
 
 use super::spans::{Span, element_span};
 use model::{Corner, Rejection, Section};
@@ -12,7 +12,7 @@ use rows::{Row, signed_number_at};
 fn corner_in(image: &[u8], section: Section, start: u64, end: u64, corner: u64) -> Corner
     requires { (start < end) × (end ≤ section.connectivity_length)
         × (held image.now section ≡ true) }
-    ensures { cornerTells result ≡ cornerIn image.now section start end corner }
+    ensures { corner_tells result ≡ corner_in image.now section start end corner }
 {
     if corner < 1 {
         return Corner::Rejected(Rejection::at(42, 0));

@@ -1,8 +1,8 @@
 // Where an element's corners stand in its section's connectivity.
 ghost use Rattle.std.specs.Prelude.{◌≡◌, ◌≤◌, ◌<◌, ◌^◌, T, true};
-ghost use Rattle.words.specs.Width.{isWidth};
+ghost use Rattle.words.specs.Width.{is_width};
 ghost use Rattle.model.specs.Corner.{inside};
-ghost use Rattle.corners.specs.Spans.{SpanIn, SpanInside, fixedSpan, rangeBetween, offsetSpan, mixedSpan, span_of};
+ghost use Rattle.corners.specs.Spans.{SpanIn, SpanInside, fixed_span, range_between, offset_span, mixed_span, span_of};
 
 use element_types::{MIXED, fits_length, nodes_per, of_any_size};
 use model::Section;
@@ -18,7 +18,7 @@ pub enum Span {
 // The k-th element of a type with `nodes` per element, in a connectivity of `length` numbers.
 pub fn fixed_span(k: u64, nodes: u64, length: u64) -> Span
     requires { (nodes ≤ 27) × (length < 2 ^ 62) }
-    ensures { (result ≡ fixedSpan k nodes length) × SpanIn length result }
+    ensures { (result ≡ fixed_span k nodes length) × SpanIn length result }
 {
     if nodes == 0 {
         return Span::Unreadable;
@@ -39,8 +39,8 @@ pub fn fixed_span(k: u64, nodes: u64, length: u64) -> Span
 
 // An element from a start offset to the next one, as their bits.
 fn range_between(start: u64, end: u64, width: usize, length: u64) -> Span
-    requires { T (isWidth width) }
-    ensures { (result ≡ rangeBetween width start end length) × SpanIn length result }
+    requires { T (is_width width) }
+    ensures { (result ≡ range_between width start end length) × SpanIn length result }
 {
     if half_of(width) <= end {
         return Span::Unreadable;
@@ -56,7 +56,7 @@ fn range_between(start: u64, end: u64, width: usize, length: u64) -> Span
 
 // The k-th element by its start offsets, in a connectivity of `length` numbers.
 pub fn offset_span(image: &[u8], at: u64, width: u64, k: u64, length: u64) -> Span
-    ensures { (result ≡ offsetSpan image.now at width k length) × SpanIn length result }
+    ensures { (result ≡ offset_span image.now at width k length) × SpanIn length result }
 {
     // no image has so many numbers; below it k + 2 fits in 64 bits
     if 0x4000_0000_0000_0000 <= k {
@@ -87,7 +87,7 @@ pub fn behind_type(
     span: Span,
 ) -> Span
     requires { (inside image.now at width length ≡ true) × SpanIn length span }
-    ensures { (result ≡ mixedSpan image.now element_type at width span) × SpanIn length result }
+    ensures { (result ≡ mixed_span image.now element_type at width span) × SpanIn length result }
 {
     if element_type != MIXED {
         return Span::Unreadable;

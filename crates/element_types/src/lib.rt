@@ -1,6 +1,6 @@
 // Element types by their number: nodes per element, which types have start offsets, which are supported; the length of an element of a MIXED section.
 ghost use Rattle.std.specs.Prelude.{◌≡◌, ◌≤◌, ◌||◌, eqb};
-ghost use Rattle.model.specs.Elements.{NGON, NFACE, nodesPer, hasOffsets, taken, fitsLength};
+ghost use Rattle.model.specs.Elements.{NGON, NFACE, nodes_per, has_offsets, taken, fits_length};
 
 pub const MIXED: u64 = 20;
 
@@ -10,7 +10,7 @@ pub const NFACE: u64 = 23;
 
 // Nodes per element of a type; 0 for a type with no fixed number.
 pub fn nodes_per(element_type: u64) -> u64
-    ensures { (result ≡ nodesPer element_type) × (result ≤ 27) }
+    ensures { (result ≡ nodes_per element_type) × (result ≤ 27) }
 {
     match element_type {
         2 => 1,
@@ -45,7 +45,7 @@ pub fn of_any_size(element_type: u64) -> bool
 
 // Whether the elements of a type are found by start offsets.
 pub fn has_offsets(element_type: u64) -> bool
-    ensures { result ≡ hasOffsets element_type }
+    ensures { result ≡ has_offsets element_type }
 {
     if element_type == MIXED {
         return true;
@@ -62,7 +62,7 @@ pub fn is_supported(element_type: u64) -> bool
 
 // Whether an element of a MIXED section that begins with this type may have this length: the type is of the fixed list, and the length 1 + its nodes.
 pub fn fits_length(element_type: u64, length: u64) -> bool
-    ensures { result ≡ fitsLength element_type length }
+    ensures { result ≡ fits_length element_type length }
 {
     let nodes = nodes_per(element_type);
     if nodes == 0 {

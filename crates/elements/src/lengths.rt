@@ -1,19 +1,19 @@
 // Rules 29 to 33: the lengths and the start offsets of a section.
 ghost use Rattle.std.specs.Prelude.{◌≡◌, true, ◌&&◌, ◌-◌, ◌≤◌, ◌<◌, T, leb};
-ghost use Rattle.words.specs.Width.{isWidth};
-ghost use Rattle.model.specs.Lists.{everyFrom};
+ghost use Rattle.words.specs.Width.{is_width};
+ghost use Rattle.model.specs.Lists.{every_from};
 ghost use Rattle.model.specs.Bytes.{half, below};
 ghost use Rattle.model.specs.Corner.{number_at};
 ghost use Rattle.model.specs.Image.{tree_of};
 ghost use Rattle.model.specs.Given.{Sound};
-ghost use Rattle.model.specs.Elements.{hasOffsets, elementType, elementCount, connectivityLength, leastSize};
+ghost use Rattle.model.specs.Elements.{has_offsets, element_type_of, element_count, connectivity_length, least_size};
 ghost use Rattle.model.specs.Rules.{check};
-ghost use Rattle.model.specs.Answers.{stageTells};
+ghost use Rattle.model.specs.Answers.{stage_tells};
 ghost use Rattle.index.specs.Index.{Index};
 ghost use Rattle.rows.specs.Rows.{Numbers};
-ghost use Rattle.elements.specs.Arrays.{risesBy, offsetRules};
+ghost use Rattle.elements.specs.Arrays.{rises_by, offset_rules};
 ghost use Rattle.section_data.specs.Given.{SectionContext};
-ghost use Rattle.references.specs.Groups.{shapeRules};
+ghost use Rattle.references.specs.Groups.{shape_rules};
 
 use element_types::{NFACE, NGON, has_offsets, nodes_per};
 use model::{Rejection, Stage};
@@ -23,7 +23,7 @@ use sids::offsets_of;
 
 // Is y above x, and by at least `least`, of two numbers of a width of which x is not negative?
 fn rises(x: u64, y: u64, width: usize, least: u64) -> bool
-    requires { (T (isWidth width) × (x < half width)) × (least ≤ 4) }
+    requires { (T (is_width width) × (x < half width)) × (least ≤ 4) }
     ensures { result ≡ (below width x y && leb least (y - x)) }
 {
     if rows::half_of(width) <= y {
@@ -39,7 +39,7 @@ fn rises(x: u64, y: u64, width: usize, least: u64) -> bool
 fn all_rise(image: &[u8], row: Row, least: u64) -> bool
     requires numbers { Numbers image.now row.at row.width row.n × (0 < row.n) }
     requires width_value { (number_at image.now row.at row.width 0 ≡ 0) × (least ≤ 4) }
-    ensures { result ≡ everyFrom (risesBy image.now row.at row.width least) (row.n - 1) 0 }
+    ensures { result ≡ every_from (rises_by image.now row.at row.width least) (row.n - 1) 0 }
 {
     let n = row.n - 1;
     let width = row.width;
@@ -60,7 +60,7 @@ fn all_rise(image: &[u8], row: Row, least: u64) -> bool
 // neighbours are less than `least` apart. One pass over lawful ones; where it fails, another asks rule 31 alone.
 fn offsets_stage(image: &[u8], s: usize, row: Row, length: u64, least: u64) -> Stage
     requires { (Numbers image.now row.at row.width row.n × (0 < row.n)) × (least ≤ 4) }
-    ensures { stageTells result ≡ check s (offsetRules image.now row.at row.width (row.n - 1) length least) }
+    ensures { stage_tells result ≡ check s (offset_rules image.now row.at row.width (row.n - 1) length least) }
 {
     let n = row.n - 1;
     if rows::number_at(image, row, 0) != 0 {
@@ -85,8 +85,8 @@ fn offsets_stage(image: &[u8], s: usize, row: Row, length: u64, least: u64) -> S
 // The least size of an element of section s; 0 where rule 33 asks nothing.
 fn least_size(image: &[u8], s: usize, element_type: u64) -> u64
     requires sound { Sound image.now × SectionContext image.now s }
-    requires element_type_value { element_type ≡ elementType (tree_of image.now) s }
-    ensures { (result ≡ leastSize (tree_of image.now) s) × (result ≤ 4) }
+    requires element_type_value { element_type ≡ element_type_of (tree_of image.now) s }
+    ensures { (result ≡ least_size (tree_of image.now) s) × (result ≤ 4) }
 {
     let base = records::parent_of(image, records::parent_of(image, s));
     if types::whole(image, base, 0) != 3 {
@@ -111,9 +111,9 @@ fn offset_shape(
     length: u64,
 ) -> Stage
     requires index { Index image.now index.now × SectionContext image.now s }
-    requires n_value { (n ≡ elementCount (tree_of image.now) s) × (length ≡ connectivityLength (tree_of image.now) s) }
-    requires element_type_value { (element_type ≡ elementType (tree_of image.now) s) × (hasOffsets (elementType (tree_of image.now) s) ≡ true) }
-    ensures { stageTells result ≡ check s (shapeRules (tree_of image.now) s) }
+    requires n_value { (n ≡ element_count (tree_of image.now) s) × (length ≡ connectivity_length (tree_of image.now) s) }
+    requires element_type_value { (element_type ≡ element_type_of (tree_of image.now) s) × (has_offsets (element_type_of (tree_of image.now) s) ≡ true) }
+    ensures { stage_tells result ≡ check s (shape_rules (tree_of image.now) s) }
 {
     let offsets = offsets_of(image, index, s);
     if size_of(image, offsets) != n + 1 {
@@ -133,9 +133,9 @@ pub fn shape_stage(
     length: u64,
 ) -> Stage
     requires index { Index image.now index.now × SectionContext image.now s }
-    requires n_value { (n ≡ elementCount (tree_of image.now) s) × (length ≡ connectivityLength (tree_of image.now) s) }
-    requires element_type_value { element_type ≡ elementType (tree_of image.now) s }
-    ensures { stageTells result ≡ check s (shapeRules (tree_of image.now) s) }
+    requires n_value { (n ≡ element_count (tree_of image.now) s) × (length ≡ connectivity_length (tree_of image.now) s) }
+    requires element_type_value { element_type ≡ element_type_of (tree_of image.now) s }
+    ensures { stage_tells result ≡ check s (shape_rules (tree_of image.now) s) }
 {
     if has_offsets(element_type) {
         return offset_shape(image, index, s, element_type, n, length);

@@ -1,18 +1,18 @@
 // Rules 27 to 39 at a section, in the order of the model: 38 between 33 and 34.
 ghost use Rattle.std.specs.Prelude.{◌≡◌, true, ◌≤◌, length};
-ghost use Rattle.model.specs.Image.{tree_of, nodeCount};
+ghost use Rattle.model.specs.Image.{tree_of, node_count};
 ghost use Rattle.model.specs.Given.{NodesTo};
 ghost use Rattle.model.specs.Containment.{role, validated, Elements};
-ghost use Rattle.model.specs.Values.{sidsRules};
-ghost use Rattle.model.specs.Elements.{elementType, elementCount, elementRules, referenceCheck, parentRules};
+ghost use Rattle.model.specs.Values.{sids_rules};
+ghost use Rattle.model.specs.Elements.{element_type_of, element_count, element_rules, reference_check, parent_rules};
 ghost use Rattle.model.specs.Rules.{check, passed, ◌then◌};
-ghost use Rattle.model.specs.Answers.{stageTells};
-ghost use Rattle.model.specs.Lists.{seekFrom};
+ghost use Rattle.model.specs.Answers.{stage_tells};
+ghost use Rattle.model.specs.Lists.{seek_from};
 ghost use Rattle.index.specs.Index.{Index};
-ghost use Rattle.section_data.specs.Ranges.{overlapAt, Faces};
+ghost use Rattle.section_data.specs.Ranges.{overlap_at, Faces};
 ghost use Rattle.section_data.specs.Given.{SectionContext};
-ghost use Rattle.references.specs.Groups.{shapeRules, connectivityCheck};
-ghost use Rattle.parents.specs.Parents.{parentsBroken};
+ghost use Rattle.references.specs.Groups.{shape_rules, connectivity_check};
+ghost use Rattle.parents.specs.Parents.{parents_broken};
 
 use super::lengths::shape_stage;
 use element_types::is_supported;
@@ -34,9 +34,9 @@ fn array_stage(
     levels: &mut [u32],
 ) -> Stage
     requires index { Index image.now index.now × SectionContext image.now s }
-    requires element_type_value { (element_type ≡ elementType (tree_of image.now) s) × (n ≡ elementCount (tree_of image.now) s) }
+    requires element_type_value { (element_type ≡ element_type_of (tree_of image.now) s) × (n ≡ element_count (tree_of image.now) s) }
     requires faces { Faces (tree_of image.now) firsts.now reach.now faces × (2048 ≤ length levels.old) }
-    ensures { stageTells result ≡ (check s (shapeRules (tree_of image.now) s) then connectivityCheck (tree_of image.now) s) }
+    ensures { stage_tells result ≡ (check s (shape_rules (tree_of image.now) s) then connectivity_check (tree_of image.now) s) }
 {
     let row = row_of(image, connectivity_of(image, index, s));
     let shape = shape_stage(image, index, s, element_type, n, row.n as u64);
@@ -71,12 +71,12 @@ pub fn element_stage(
 ) -> Stage
     requires nodes_to { NodesTo image.now s × Index image.now index.now }
     requires s_value { (validated (tree_of image.now) s ≡ true) × (role (tree_of image.now) s ≡ Elements) }
-    requires s_value_2 { check s (sidsRules (tree_of image.now) s) ≡ passed }
-    requires overlap_value { (overlap ≡ seekFrom (overlapAt (tree_of image.now)) (nodeCount image.now) 0)
-        × (parents ≡ seekFrom (parentsBroken (tree_of image.now)) (nodeCount image.now) 0) }
+    requires s_value_2 { check s (sids_rules (tree_of image.now) s) ≡ passed }
+    requires overlap_value { (overlap ≡ seek_from (overlap_at (tree_of image.now)) (node_count image.now) 0)
+        × (parents ≡ seek_from (parents_broken (tree_of image.now)) (node_count image.now) 0) }
     requires faces { Faces (tree_of image.now) firsts.now reach.now faces × (2048 ≤ length levels.old) }
-    ensures { stageTells result ≡ (check s (elementRules (tree_of image.now) s) then referenceCheck (tree_of image.now) s
-        then check s (parentRules (tree_of image.now) s)) }
+    ensures { stage_tells result ≡ (check s (element_rules (tree_of image.now) s) then reference_check (tree_of image.now) s
+        then check s (parent_rules (tree_of image.now) s)) }
 {
     let element_type = types::whole(image, s, 0);
     if !is_supported(element_type) {

@@ -1,9 +1,9 @@
 // Section entries as numbers and as bytes: written to a list of numbers, read from one, read from bytes.
 ghost use Rattle.std.specs.Prelude.{◌≡◌, ◌+◌, ◌≤◌, ◌<◌, length};
 ghost use Rattle.std.proofs.lemmas.List.Edits.{sets};
-ghost use Rattle.model.specs.Sections.{entryLength, entryNumbers};
-ghost use Rattle.model.specs.Reads.{entriesIn, sectionAt};
-ghost use Rattle.model.specs.Exports.{sectionSize, sectionIn};
+ghost use Rattle.model.specs.Sections.{entry_length, entry_numbers};
+ghost use Rattle.model.specs.Reads.{entries_in, section_at};
+ghost use Rattle.model.specs.Exports.{section_size, section_in};
 
 use model::Section;
 
@@ -14,8 +14,8 @@ pub const ENTRY_BYTES: usize = 88;
 
 // Writes the numbers of an entry to `out` from k on; the rest stays.
 pub fn put_entry(out: &mut [u64], k: usize, e: Section)
-    requires { k + entryLength ≤ length out.old }
-    ensures { out.new ≡ sets out.old k (entryNumbers e) }
+    requires { k + entry_length ≤ length out.old }
+    ensures { out.new ≡ sets out.old k (entry_numbers e) }
 {
     out[k] = e.node;
     out[k + 1] = e.element_type;
@@ -32,8 +32,8 @@ pub fn put_entry(out: &mut [u64], k: usize, e: Section)
 
 // The k-th entry of a list.
 pub fn section_at(entries: &[u64], k: usize) -> Section
-    requires { k < entriesIn entries.now }
-    ensures { result ≡ sectionAt entries.now k }
+    requires { k < entries_in entries.now }
+    ensures { result ≡ section_at entries.now k }
 {
     let i = ENTRY_LENGTH * k;
     Section {
@@ -53,8 +53,8 @@ pub fn section_at(entries: &[u64], k: usize) -> Section
 
 // The entry in the first bytes, as 64-bit words.
 pub fn section_in(s: &[u8]) -> Section
-    requires { sectionSize ≤ length s.now }
-    ensures { result ≡ sectionIn s.now }
+    requires { section_size ≤ length s.now }
+    ensures { result ≡ section_in s.now }
 {
     Section {
         node: words::u64_at(s, 0),

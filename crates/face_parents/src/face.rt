@@ -1,13 +1,13 @@
 // One face of a zone of an accepted image: the section that brings it, and the parents that it has there.
 ghost use Rattle.std.specs.Prelude.{◌≡◌, true, [], ◌∷◌, ◌≤◌, ◌<◌};
-ghost use Rattle.model.specs.Lists.{someFrom};
+ghost use Rattle.model.specs.Lists.{some_from};
 ghost use Rattle.model.specs.Rules.{◌unless◌, answer, check, ◌gives◌};
-ghost use Rattle.model.specs.Answers.{parentsTells};
-ghost use Rattle.model.specs.Image.{tree_of, nodeCount};
+ghost use Rattle.model.specs.Answers.{parents_tells};
+ghost use Rattle.model.specs.Image.{tree_of, node_count};
 ghost use Rattle.model.specs.Given.{Accepted};
 ghost use Rattle.model.specs.Containment.{found};
-ghost use Rattle.model.specs.Elements.{elementCount, in_range, hasFace, faceOf, sectionWithFace, parentsOf};
-ghost use Rattle.model.specs.ParentElements.{storedParents, hasParents};
+ghost use Rattle.model.specs.Elements.{element_count, in_range, has_face, face_of, section_with_face, parents_of};
+ghost use Rattle.model.specs.ParentElements.{stored_parents, has_parents};
 ghost use Rattle.index.specs.Index.{Index};
 ghost use Rattle.face_places.specs.ZoneSections.{Section};
 ghost use Rattle.face_parents.specs.Parents.{Columns};
@@ -20,8 +20,8 @@ use rows::number_at;
 
 // Does node s bring face f to zone z?
 fn has_face(image: &[u8], index: &[u16], z: usize, f: u64, s: usize) -> bool
-    requires { Accepted image.now × (Index image.now index.now × (s < nodeCount image.now)) }
-    ensures { result ≡ hasFace (tree_of image.now) z f s }
+    requires { Accepted image.now × (Index image.now index.now × (s < node_count image.now)) }
+    ensures { result ≡ has_face (tree_of image.now) z f s }
 {
     if !has_type(image, index, z, s, NGON) {
         return false;
@@ -36,7 +36,7 @@ fn has_face(image: &[u8], index: &[u16], z: usize, f: u64, s: usize) -> bool
 // The section that brings face f to zone z; the node count where none does.
 pub fn section_with_face(image: &[u8], index: &[u16], z: usize, f: u64) -> usize
     requires { Accepted image.now × Index image.now index.now }
-    ensures { (result ≡ sectionWithFace (tree_of image.now) z f) × (result ≤ nodeCount image.now) }
+    ensures { (result ≡ section_with_face (tree_of image.now) z f) × (result ≤ node_count image.now) }
 {
     let nodes = labels::node_count(image);
     let mut s: usize = 0;
@@ -52,7 +52,7 @@ pub fn section_with_face(image: &[u8], index: &[u16], z: usize, f: u64) -> usize
 // Does a face section of zone z have the parents of its faces?
 pub fn any_parents(image: &[u8], index: &[u16], z: usize) -> bool
     requires { Accepted image.now × Index image.now index.now }
-    ensures { result ≡ someFrom (hasParents (tree_of image.now) z) (nodeCount image.now) 0 }
+    ensures { result ≡ some_from (has_parents (tree_of image.now) z) (node_count image.now) 0 }
 {
     let nodes = labels::node_count(image);
     let mut s: usize = 0;
@@ -68,8 +68,8 @@ pub fn any_parents(image: &[u8], index: &[u16], z: usize) -> bool
 // The parents of face f, which section s stores in node a.
 fn stored_parents(image: &[u8], index: &[u16], s: usize, a: usize, f: u64) -> ParentPair
     requires section { Section image.now index.now s × (in_range (tree_of image.now) s f ≡ true) }
-    requires a_value { (a ≡ parentsOf (tree_of image.now) s) × Columns image.now a (elementCount (tree_of image.now) s) }
-    ensures { parentsTells result ≡ answer (storedParents (tree_of image.now) s f) }
+    requires a_value { (a ≡ parents_of (tree_of image.now) s) × Columns image.now a (element_count (tree_of image.now) s) }
+    ensures { parents_tells result ≡ answer (stored_parents (tree_of image.now) s f) }
 {
     let span = span_of(image, index, s);
     let row = parents_row(image, a);
@@ -83,11 +83,11 @@ fn stored_parents(image: &[u8], index: &[u16], s: usize, a: usize, f: u64) -> Pa
 // The parents of face f of zone z, as its section stores them: 41 where f is no face of the zone, 54 where its section has no parents.
 pub fn parents_of_face(image: &[u8], index: &[u16], z: usize, f: u64) -> ParentPair
     requires { Accepted image.now × Index image.now index.now }
-    ensures { parentsTells result
-        ≡ (check 0 (41 unless faceOf (tree_of image.now) z f
-        ∷ 54 unless found (tree_of image.now) (parentsOf (tree_of image.now) (sectionWithFace (tree_of image.now) z f))
+    ensures { parents_tells result
+        ≡ (check 0 (41 unless face_of (tree_of image.now) z f
+        ∷ 54 unless found (tree_of image.now) (parents_of (tree_of image.now) (section_with_face (tree_of image.now) z f))
         ∷ [])
-        gives storedParents (tree_of image.now) (sectionWithFace (tree_of image.now) z f) f) }
+        gives stored_parents (tree_of image.now) (section_with_face (tree_of image.now) z f) f) }
 {
     let nodes = labels::node_count(image);
     let s = section_with_face(image, index, z, f);

@@ -1,8 +1,8 @@
 // The parents that a face section stores, as a row of numbers: the first parents of its faces, then the second ones.
 ghost use Rattle.std.specs.Prelude.{◌≡◌, ◌≤◌, ◌<◌, get_or};
-ghost use Rattle.model.specs.Image.{tree_of, nodeCount, dimensions};
+ghost use Rattle.model.specs.Image.{tree_of, node_count, dimensions};
 ghost use Rattle.model.specs.Given.{Sound, Accepted};
-ghost use Rattle.model.specs.ParentElements.{hasParents};
+ghost use Rattle.model.specs.ParentElements.{has_parents};
 ghost use Rattle.index.specs.Index.{Index};
 ghost use Rattle.face_parents.specs.Parents.{Columns, ParentRow};
 
@@ -12,8 +12,8 @@ use rows::Row;
 
 // The numbers of node a, which stores two columns; none where there is no such node.
 pub fn parents_row(image: &[u8], a: usize) -> Row
-    requires sound { Sound image.now × (a ≤ nodeCount image.now) }
-    requires columns { a < nodeCount image.now → Columns image.now a (get_or (dimensions (tree_of image.now) a) 0 0) }
+    requires sound { Sound image.now × (a ≤ node_count image.now) }
+    requires columns { a < node_count image.now → Columns image.now a (get_or (dimensions (tree_of image.now) a) 0 0) }
     ensures { ParentRow image.now a (get_or (dimensions (tree_of image.now) a) 0 0) result }
 {
     if labels::node_count(image) <= a {
@@ -35,8 +35,8 @@ pub fn parents_row(image: &[u8], a: usize) -> Row
 
 // Is node s a face section of zone z with the parents of its faces?
 pub fn has_parents(image: &[u8], index: &[u16], z: usize, s: usize) -> bool
-    requires { Accepted image.now × (Index image.now index.now × (s < nodeCount image.now)) }
-    ensures { result ≡ hasParents (tree_of image.now) z s }
+    requires { Accepted image.now × (Index image.now index.now × (s < node_count image.now)) }
+    ensures { result ≡ has_parents (tree_of image.now) z s }
 {
     if !has_type(image, index, z, s, NGON) {
         return false;

@@ -1,6 +1,6 @@
 // The zone's faces by ranges, in ascending order: entry j begins with face firsts[j], whose place is places[j]; `reach` as the crate `ranges` has it.
 ghost use Rattle.std.specs.Prelude.{◌≡◌, ◌+◌, ◌≤◌, ◌<◌, length, get_or};
-ghost use Rattle.model.specs.Image.{tree_of, nodeCount};
+ghost use Rattle.model.specs.Image.{tree_of, node_count};
 ghost use Rattle.model.specs.Given.{Accepted};
 ghost use Rattle.index.specs.Index.{Index};
 ghost use Rattle.ranges.specs.Tables.{Placed};
@@ -32,7 +32,7 @@ fn add_section(
     places: &mut [u64],
     n: usize,
 ) -> usize
-    requires accepted { Accepted image.now × (Index image.now index.now × (s < nodeCount image.now)) }
+    requires accepted { Accepted image.now × (Index image.now index.now × (s < node_count image.now)) }
     requires ranges { Ranges (tree_of image.now) z s firsts.old reach.old places.old n }
     requires in_bounds { (2048 ≤ length firsts.old) × (2048 ≤ length reach.old) × (2049 ≤ length places.old) }
     ensures { Ranges (tree_of image.now) z (s + 1) firsts.new reach.new places.new result }
@@ -57,7 +57,7 @@ pub fn gather(
 ) -> usize
     requires accepted { Accepted image.now × Index image.now index.now }
     requires in_bounds { (2048 ≤ length firsts.old) × (2048 ≤ length reach.old) × (2049 ≤ length places.old) }
-    ensures { Ranges (tree_of image.now) z (nodeCount image.now) firsts.new reach.new places.new result }
+    ensures { Ranges (tree_of image.now) z (node_count image.now) firsts.new reach.new places.new result }
 {
     let nodes = labels::node_count(image);
     places[0] = 0;

@@ -1,9 +1,9 @@
 // The sections of a zone of an accepted image.
 ghost use Rattle.std.specs.Prelude.{◌≡◌, ◌&&◌, ◌<◌, eqb};
-ghost use Rattle.model.specs.Image.{tree_of, nodeCount};
+ghost use Rattle.model.specs.Image.{tree_of, node_count};
 ghost use Rattle.model.specs.Given.{Accepted};
-ghost use Rattle.model.specs.Containment.{sectionOf};
-ghost use Rattle.model.specs.Elements.{elementType};
+ghost use Rattle.model.specs.Containment.{section_of};
+ghost use Rattle.model.specs.Elements.{element_type_of};
 ghost use Rattle.index.specs.Index.{Index};
 ghost use Rattle.face_places.specs.ZoneSections.{Section, Spans};
 
@@ -16,8 +16,8 @@ pub struct Span {
 
 // Is node s a section of node z, of element type e?
 pub fn has_type(image: &[u8], index: &[u16], z: usize, s: usize, e: u64) -> bool
-    requires { Accepted image.now × (Index image.now index.now × (s < nodeCount image.now)) }
-    ensures { result ≡ (sectionOf (tree_of image.now) z s && eqb (elementType (tree_of image.now) s) e) }
+    requires { Accepted image.now × (Index image.now index.now × (s < node_count image.now)) }
+    ensures { result ≡ (section_of (tree_of image.now) z s && eqb (element_type_of (tree_of image.now) s) e) }
 {
     if !index::section_of(image, index, z, s) {
         return false;

@@ -7,103 +7,103 @@ use native.Mathlib.Omega.{arith}
 use lib.ListN.{get_or}
 use lib.Dec.{eqb}
 use borrow.Author.Tests.{eqb-true, lt-ltb}
-use Rattle.model.specs.Lists.{seekFrom}
-use Rattle.model.specs.Image.{tree_of, nodeCount, wordCount, node, dimensions, width}
+use Rattle.model.specs.Lists.{seek_from}
+use Rattle.model.specs.Image.{tree_of, node_count, word_count, node, dimensions, width}
 use Rattle.model.specs.Given.{Sound, Accepted}
-use Rattle.model.specs.Containment.{found, sectionOf}
-use Rattle.model.specs.Values.{flat, size, offsetsOf, connectivityOf}
-use Rattle.model.specs.Elements.{NFACE, hasOffsets, elementType, elementCount, startOffset, elementStart, connectivityLength, reference}
+use Rattle.model.specs.Containment.{found, section_of}
+use Rattle.model.specs.Values.{flat, size, offsets_of, connectivity_of}
+use Rattle.model.specs.Elements.{NFACE, has_offsets, element_type_of, element_count, start_offset, element_start, connectivity_length, reference}
 use Rattle.model.specs.Elements.{start_of, layout_of}
-use Rattle.model.specs.FaceUsage.{endsAfter, elementHolding, usesIn}
+use Rattle.model.specs.FaceUsage.{ends_after, element_holding, uses_in}
 use Rattle.model.proofs.Logic.{and_first, and_second}
 use Rattle.model.proofs.Bounds.{node-placed}
 use Rattle.model.proofs.Conforming.{section-is}
 use Rattle.model.proofs.InZone.{role-is, connectivity, offsets, offsets-size}
 use Rattle.rows.specs.declared.Row.{Row}
-use Rattle.rows.specs.Rows.{endsAfterAt}
+use Rattle.rows.specs.Rows.{ends_after_at}
 use Rattle.index.specs.Index.{Index}
 use Rattle.section_data.specs.Given.{Stores, Indexed}
-use Rattle.section_data.proofs.Stored.{dataFrom, stores_row, stores-number, connectivity-stores, offsets-stores}
+use Rattle.section_data.proofs.Stored.{data_from_lem, stores_row, stores-number, connectivity-stores, offsets-stores}
 use Rattle.face_places.specs.declared.zone_sections.Span.{Span}
 use Rattle.face_places.specs.ZoneSections.{Cells, Spans}
 use Rattle.face_uses.specs.Uses.{RowOf, References}
-use Rattle.face_places.proofs.Accepted.{section-by, own-zone, count-read, cells-faces}
+use Rattle.face_places.proofs.Accepted.{section_by, own-zone, count_read, cells_faces}
 use Rattle.model.proofs.Reading.{rank_is}
 
 -- the numbers of node j, as they were read
-pub row_read : {b : List ℕ} → Sound b → {j n : ℕ} → Stores b j n → {at w : ℕ} → at ≡ dataFrom b j → w ≡ width (tree_of b) j
+pub row_read : {b : List ℕ} → Sound b → {j n : ℕ} → Stores b j n → {at w : ℕ} → at ≡ data_from_lem b j → w ≡ width (tree_of b) j
     → RowOf b j n (record { at = at; width = w; n = n })
 row_read s g p q = rw (p, q) (record { long = refl; numbers = stores_row s g; wide = refl; stored = stores-number s g })
 
 -- two searches with tests that agree
-seek-same : (p q : ℕ → Bool) (k i : ℕ) → ((j : ℕ) → i ≤ j → j < i + k → p j ≡ q j) → seekFrom p k i ≡ seekFrom q k i
-unfolding seekFrom
-seek-same p q zero i e = refl
-seek-same p q (suc k) i e = rw (e i (omega arith) (omega arith), seek-same p q k (suc i) (λ j l h. e j (omega arith) (omega arith)))
+seek_same : (p q : ℕ → Bool) (k i : ℕ) → ((j : ℕ) → i ≤ j → j < i + k → p j ≡ q j) → seek_from p k i ≡ seek_from q k i
+unfolding seek_from
+seek_same p q zero i e = refl
+seek_same p q (suc k) i e = rw (e i (omega arith) (omega arith), seek_same p q k (suc i) (λ j l h. e j (omega arith) (omega arith)))
 
 -- a section of type 23
-pub cells-by : {b index : List ℕ} → Accepted b → Index b index → (z s : ℕ) → s < nodeCount b
-    → (sectionOf (tree_of b) z s && eqb (elementType (tree_of b) s) NFACE) ≡ true → Cells b index s
-cells-by {b} a i z s h e =
-    record { section = section-by a i z s h (and_first (sectionOf (tree_of b) z s) _ e); cells = eqb-true _ _ (and_second (sectionOf (tree_of b) z s) _ e) }
+pub cells_by : {b index : List ℕ} → Accepted b → Index b index → (z s : ℕ) → s < node_count b
+    → (section_of (tree_of b) z s && eqb (element_type_of (tree_of b) s) NFACE) ≡ true → Cells b index s
+cells_by {b} a i z s h e =
+    record { section = section_by a i z s h (and_first (section_of (tree_of b) z s) _ e); cells = eqb-true _ _ (and_second (section_of (tree_of b) z s) _ e) }
 
 module _ {b index : List ℕ} {s : ℕ} (c : Cells b index s) where
-  pub has-offsets : hasOffsets (elementType (tree_of b) s) ≡ true
-  unfolding hasOffsets
+  pub has-offsets : has_offsets (element_type_of (tree_of b) s) ≡ true
+  unfolding has_offsets
   has-offsets = rw c.cells
 
   -- its start offsets, and the element that holds an entry
   module _ {r : Span} (g : Spans b s r) where
-    pub cells-offsets : {j : ℕ} → j ≡ offsetsOf (tree_of b) s → Stores b j (r.last - r.first + 2)
+    pub cells-offsets : {j : ℕ} → j ≡ offsets_of (tree_of b) s → Stores b j (r.last - r.first + 2)
     unfolding found tree_of
     cells-offsets q =
         let o = own-zone c.section in
-        let e : elementCount (tree_of b) s + 1 ≡ r.last - r.first + 2 = omega (arith, count-read g) in
+        let e : element_count (tree_of b) s + 1 ≡ r.last - r.first + 2 = omega (arith, count_read g) in
         rw (q, ← e, ← offsets-size o has-offsets)
         (offsets-stores c.section.accepted.sound s (role-is o) (lt-ltb _ _ (offsets o has-offsets).inside-table)).numbers
 
-    pub element-read : {j : ℕ} {row : Row} → j ≡ offsetsOf (tree_of b) s → RowOf b j (r.last - r.first + 2) row → (k : ℕ) {x : ℕ}
-        → x ≡ seekFrom (endsAfterAt b row k) (row.n - 1) 0 → r.first + x ≡ elementHolding (tree_of b) s k
-    unfolding elementHolding endsAfter endsAfterAt elementStart start_of layout_of startOffset
-    element-read {j} {row} q w k f =
-        let e : row.n - 1 ≡ elementCount (tree_of b) s = omega (arith, w.long, count-read g) in
-        rw (f, e, g.is-first, seek-same (endsAfterAt b row k) (endsAfter (tree_of b) s k) (elementCount (tree_of b) s) 0 (λ i l h. ends_same i (omega arith)))
+    pub element_read : {j : ℕ} {row : Row} → j ≡ offsets_of (tree_of b) s → RowOf b j (r.last - r.first + 2) row → (k : ℕ) {x : ℕ}
+        → x ≡ seek_from (ends_after_at b row k) (row.n - 1) 0 → r.first + x ≡ element_holding (tree_of b) s k
+    unfolding element_holding ends_after ends_after_at element_start start_of layout_of start_offset
+    element_read {j} {row} q w k f =
+        let e : row.n - 1 ≡ element_count (tree_of b) s = omega (arith, w.long, count_read g) in
+        rw (f, e, g.is-first, seek_same (ends_after_at b row k) (ends_after (tree_of b) s k) (element_count (tree_of b) s) 0 (λ i l h. ends_same i (omega arith)))
       where
-        ends_same : (i : ℕ) → i < elementCount (tree_of b) s → endsAfterAt b row k i ≡ endsAfter (tree_of b) s k i
-        ends_same i h = rw (has-offsets, ← w.stored (suc i) (omega (arith, count-read g)), q)
+        ends_same : (i : ℕ) → i < element_count (tree_of b) s → ends_after_at b row k i ≡ ends_after (tree_of b) s k i
+        ends_same i h = rw (has-offsets, ← w.stored (suc i) (omega (arith, count_read g)), q)
 
   -- its connectivity
-  pub connectivity-inside : connectivityOf (tree_of b) s < nodeCount b
+  pub connectivity-inside : connectivity_of (tree_of b) s < node_count b
   connectivity-inside = (connectivity (own-zone c.section)).inside-table
 
-  cells-connectivity : Indexed b (connectivityOf (tree_of b) s)
+  cells-connectivity : Indexed b (connectivity_of (tree_of b) s)
   unfolding found tree_of
   cells-connectivity = connectivity-stores c.section.accepted.sound s (role-is (own-zone c.section)) (lt-ltb _ _ connectivity-inside)
 
-  pub connectivity-dimension : {j : ℕ} → j ≡ connectivityOf (tree_of b) s
-      → (0 < (node (tree_of b) j).rank) × ((node (tree_of b) j).firstWord + (node (tree_of b) j).rank ≤ wordCount b)
+  pub connectivity_dimension : {j : ℕ} → j ≡ connectivity_of (tree_of b) s
+      → (0 < (node (tree_of b) j).rank) × ((node (tree_of b) j).first_word + (node (tree_of b) j).rank ≤ word_count b)
   unfolding flat
-  connectivity-dimension e =
-      let q = sym (rank_is (tree_of b) (connectivityOf (tree_of b) s)) ∙ eqb-true _ 1 cells-connectivity.one-dimension in
-      rw e (omega (arith, q), (node-placed b c.section.accepted.sound.table (connectivityOf (tree_of b) s) connectivity-inside).words-in)
+  connectivity_dimension e =
+      let q = sym (rank_is (tree_of b) (connectivity_of (tree_of b) s)) ∙ eqb-true _ 1 cells-connectivity.one_dimension in
+      rw e (omega (arith, q), (node-placed b c.section.accepted.sound.table (connectivity_of (tree_of b) s) connectivity-inside).words_in)
 
   -- as it was read
-  module _ {j n : ℕ} (e : j ≡ connectivityOf (tree_of b) s) (q : n ≡ get_or (dimensions (tree_of b) j) 0 0) where
-    length-read : n ≡ connectivityLength (tree_of b) s
-    unfolding connectivityLength size
-    length-read = q ∙ ap (λ (j : ℕ). get_or (dimensions (tree_of b) j) 0 0) e
+  module _ {j n : ℕ} (e : j ≡ connectivity_of (tree_of b) s) (q : n ≡ get_or (dimensions (tree_of b) j) 0 0) where
+    length_read : n ≡ connectivity_length (tree_of b) s
+    unfolding connectivity_length size
+    length_read = q ∙ ap (λ (j : ℕ). get_or (dimensions (tree_of b) j) 0 0) e
 
-    pub connectivity-stores-n : Stores b j n
-    unfolding connectivityLength
-    connectivity-stores-n = rw (e, length-read) cells-connectivity.numbers
+    pub connectivity-stores_n : Stores b j n
+    unfolding connectivity_length
+    connectivity-stores_n = rw (e, length_read) cells-connectivity.numbers
 
-    pub references : {z : ℕ} → (sectionOf (tree_of b) z s && eqb (elementType (tree_of b) s) NFACE) ≡ true → {r : Row} → RowOf b j n r → References b index z s r
-    unfolding usesIn reference
+    pub references : {z : ℕ} → (section_of (tree_of b) z s && eqb (element_type_of (tree_of b) s) NFACE) ≡ true → {r : Row} → RowOf b j n r → References b index z s r
+    unfolding uses_in reference
     references {z} o {r} w =
-        let p = (section-is (tree_of b) z s (and_first (sectionOf (tree_of b) z s) _ o)).parent_is in
+        let p = (section-is (tree_of b) z s (and_first (section_of (tree_of b) z s) _ o)).parent_is in
         record {
           numbers = w.numbers;
-          long = w.long ∙ length-read ∙ rw o;
+          long = w.long ∙ length_read ∙ rw o;
           each =
               λ k h.
               record {
@@ -111,12 +111,12 @@ module _ {b index : List ℕ} {s : ℕ} (c : Cells b index s) where
                 zone = p;
                 wide = rw (← e) w.wide;
                 stored = rw (← e) (w.stored k (omega (arith, w.long)));
-                face = cells-faces c.section.accepted z s c.section.inside o k (omega (arith, w.long, length-read));
+                face = cells_faces c.section.accepted z s c.section.inside o k (omega (arith, w.long, length_read));
               };
         }
 
 -- a node that brings none
-pub no-references : (b index : List ℕ) (z s : ℕ) → (sectionOf (tree_of b) z s && eqb (elementType (tree_of b) s) NFACE) ≡ false
+pub no_references : (b index : List ℕ) (z s : ℕ) → (section_of (tree_of b) z s && eqb (element_type_of (tree_of b) s) NFACE) ≡ false
     → References b index z s (record { at = 0; width = 4; n = 0 })
-unfolding usesIn
-no-references b index z s e = record { numbers = record { wide = tt; inside = omega arith }; long = rw e; each = λ k h. absurd (omega arith) }
+unfolding uses_in
+no_references b index z s e = record { numbers = record { wide = tt; inside = omega arith }; long = rw e; each = λ k h. absurd (omega arith) }

@@ -14,25 +14,25 @@ use Rattle.model.specs.Bytes.{negative, magnitude}
 use Rattle.model.specs.Rules.{Answer, rejected, answer, repetition, ◌into◌}
 use Rattle.model.specs.Image.{Tree, tree_of}
 use Rattle.model.specs.Given.{Accepted}
-use Rattle.model.specs.Elements.{faceOf, faceNumber}
+use Rattle.model.specs.Elements.{face_of, face_number}
 use Rattle.model.specs.Corner.{number_at}
-use Rattle.model.specs.FaceUsage.{facePlace, faceCount, unused, elementHolding, usePlace, useSign, useEntry, useEntries, usesIn, useNodes}
+use Rattle.model.specs.FaceUsage.{face_place, face_count, unused, element_holding, use_place, use_sign, use_entry, use_entries, uses_in, use_nodes}
 use Rattle.rows.specs.declared.Row.{Row}
-use Rattle.usage_bytes.specs.Marks.{sign_of, afterUse}
+use Rattle.usage_bytes.specs.Marks.{sign_of, after_use}
 use Rattle.face_uses.specs.Uses.{Tables, UsedAt, used, Used, Reference}
 use Rattle.face_uses.specs.declared.uses.Faces.{Faces}
 use Rattle.face_places.proofs.Accepted.{place-below}
 
 -- memory of the same length serves the tables as well
-pub tables-kept : {b : List ℕ} {f : Faces} {firsts reach places : List ℕ} {o o' : ℕ} → Tables b f firsts reach places o → o' ≡ o
+pub tables_kept : {b : List ℕ} {f : Faces} {firsts reach places : List ℕ} {o o' : ℕ} → Tables b f firsts reach places o → o' ≡ o
     → Tables b f firsts reach places o'
-tables-kept t e = rw e t
+tables_kept t e = rw e t
 
 -- one use, as it was made
-pub use-is : (t : Tree) (z w x : ℕ) (bytes : List ℕ) {f p : ℕ} {minus u : Bool} {after : List ℕ}
-    → f ≡ magnitude w x → p ≡ facePlace t z f → minus ≡ negative w x
-    → (u ≡ unused (sign_of minus) (get_or bytes p 0)) × (after ≡ afterUse u (sign_of minus) p bytes) → UsedAt t z w x bytes u after
-use-is t z w x bytes e q m h = let p = q ∙ ap (facePlace t z) e in record { tells = rw (← p, ← m) h.0; leaves = rw (← p, ← m) h.1 }
+pub use_is : (t : Tree) (z w x : ℕ) (bytes : List ℕ) {f p : ℕ} {minus u : Bool} {after : List ℕ}
+    → f ≡ magnitude w x → p ≡ face_place t z f → minus ≡ negative w x
+    → (u ≡ unused (sign_of minus) (get_or bytes p 0)) × (after ≡ after_use u (sign_of minus) p bytes) → UsedAt t z w x bytes u after
+use_is t z w x bytes e q m h = let p = q ∙ ap (face_place t z) e in record { tells = rw (← p, ← m) h.0; leaves = rw (← p, ← m) h.1 }
 
 -- a run that has come to these bytes: the whole is the rest from here
 pub record Left (faces : ℕ) (whole : Answer (List ℕ)) (start : List ℕ) (rest : Answer (List ℕ)) (bytes : List ℕ) : Type 0 where
@@ -41,18 +41,18 @@ pub record Left (faces : ℕ) (whole : Answer (List ℕ)) (start : List ℕ) (re
   pub beyond : drop faces bytes ≡ drop faces start
 
 module _ {faces : ℕ} {whole rest : Answer (List ℕ)} {start bytes : List ℕ} (l : Left faces whole start rest bytes) where
-  -- one step, as a stage run-tells it
+  -- one step, as a stage run_tells it
   module _ {one : Answer (List ℕ)} (f : List ℕ → Answer (List ℕ)) {s : Stage} {after : List ℕ} (e : rest ≡ (one into f))
       (u : Used faces one bytes s after) where
-    pub left-more : s ≡ Stage.Pass → length after ≡ length bytes → Left faces whole start (f after) after
+    pub left_more : s ≡ Stage.Pass → length after ≡ length bytes → Left faces whole start (f after) after
     unfolding ◌into◌
-    left-more q n =
+    left_more q n =
         let a : one ≡ answer after = u.tells ∙ ap (λ (x : Stage). used x after) q in
         record { same = sym (e ∙ ap (λ (x : Answer (List ℕ)). x into f) a) ∙ l.same; long = n ∙ l.long; beyond = u.rest ∙ l.beyond }
 
-    pub left-stop : {r : Rejection} → s ≡ Stage.Rejected r → Used faces whole start s after
+    pub left_stop : {r : Rejection} → s ≡ Stage.Rejected r → Used faces whole start s after
     unfolding ◌into◌
-    left-stop {r} q =
+    left_stop {r} q =
         let a : one ≡ rejected r = u.tells ∙ ap (λ (x : Stage). used x after) q in
         record {
           tells = sym (sym (e ∙ ap (λ (x : Answer (List ℕ)). x into f) a) ∙ l.same) ∙ sym (ap (λ (x : Stage). used x after) q);
@@ -64,21 +64,21 @@ module _ {faces : ℕ} {whole rest : Answer (List ℕ)} {start bytes : List ℕ}
 
 -- a section's entries
 module _ (t : Tree) (s n : ℕ) where
-  pub entries-start : {m : ℕ} → m ≡ n → (faces : ℕ) (bytes : List ℕ) → Left faces (useEntries t s n 0 bytes) bytes (useEntries t s (m - 0) 0 bytes) bytes
-  entries-start {m} q faces bytes = let e : m - 0 ≡ n = omega arith in record { same = rw e; long = refl; beyond = refl }
+  pub entries_start : {m : ℕ} → m ≡ n → (faces : ℕ) (bytes : List ℕ) → Left faces (use_entries t s n 0 bytes) bytes (use_entries t s (m - 0) 0 bytes) bytes
+  entries_start {m} q faces bytes = let e : m - 0 ≡ n = omega arith in record { same = rw e; long = refl; beyond = refl }
 
   module _ (k : ℕ) (bytes : List ℕ) where
-    pub entries-step : k < n → useEntries t s (n - k) k bytes ≡ (useEntry t s k bytes into λ later. useEntries t s (n - (k + 1)) (k + 1) later)
-    unfolding useEntries
-    entries-step h = let e : n - k ≡ suc (n - (k + 1)) = omega arith in rw (e, add-one)
+    pub entries_step : k < n → use_entries t s (n - k) k bytes ≡ (use_entry t s k bytes into λ later. use_entries t s (n - (k + 1)) (k + 1) later)
+    unfolding use_entries
+    entries_step h = let e : n - k ≡ suc (n - (k + 1)) = omega arith in rw (e, add-one)
 
-    pub entries-end : n ≤ k → useEntries t s (n - k) k bytes ≡ answer bytes
-    unfolding useEntries
+    pub entries-end : n ≤ k → use_entries t s (n - k) k bytes ≡ answer bytes
+    unfolding use_entries
     entries-end h = let e : n - k ≡ 0 = omega arith in rw e
 
 module _ {b index : List ℕ} {z s : ℕ} {row : Row} {k : ℕ} (r : Reference b index z s row k) where
-  pub entry-face : faceOf (tree_of b) z (magnitude row.width (number_at b row.at row.width k)) ≡ true
-  unfolding faceNumber
+  pub entry-face : face_of (tree_of b) z (magnitude row.width (number_at b row.at row.width k)) ≡ true
+  unfolding face_number
   entry-face = rw (r.wide, r.stored) at r.face
 
   -- what entry k does is what the reference there does
@@ -87,45 +87,45 @@ module _ {b index : List ℕ} {z s : ℕ} {row : Row} {k : ℕ} (r : Reference b
     sign = sign_of (negative row.width (number_at b row.at row.width k))
 
     p : ℕ
-    p = facePlace (tree_of b) z (magnitude row.width (number_at b row.at row.width k))
+    p = face_place (tree_of b) z (magnitude row.width (number_at b row.at row.width k))
 
     again : Answer (List ℕ)
-    again = rejected (repetition s (elementHolding (tree_of b) s k))
+    again = rejected (repetition s (element_holding (tree_of b) s k))
 
-    entry-is : useEntry (tree_of b) s k bytes ≡ cond free (answer after) again
-    unfolding useEntry usePlace useSign faceNumber sign p again
-    entry-is = rw (r.zone, r.wide, r.stored, ← u.tells, u.leaves) (by-test free)
+    entry-is : use_entry (tree_of b) s k bytes ≡ cond free (answer after) again
+    unfolding use_entry use_place use_sign face_number sign p again
+    entry-is = rw (r.zone, r.wide, r.stored, ← u.tells, u.leaves) (by_test free)
       where
-        by-test : (u : Bool) → cond u (answer (set bytes p (get_or bytes p 0 + sign))) again ≡ cond u (answer (afterUse u sign p bytes)) again
-        by-test true = refl
-        by-test false = refl
+        by_test : (u : Bool) → cond u (answer (set bytes p (get_or bytes p 0 + sign))) again ≡ cond u (answer (after_use u sign p bytes)) again
+        by_test true = refl
+        by_test false = refl
 
-    after-rest : Accepted b → drop (faceCount (tree_of b) z) after ≡ drop (faceCount (tree_of b) z) bytes
+    after-rest : Accepted b → drop (face_count (tree_of b) z) after ≡ drop (face_count (tree_of b) z) bytes
     unfolding sign p
-    after-rest a = ap (drop (faceCount (tree_of b) z)) u.leaves ∙ by-test free
+    after-rest a = ap (drop (face_count (tree_of b) z)) u.leaves ∙ by_test free
       where
-        by-test : (f : Bool) → drop (faceCount (tree_of b) z) (afterUse f sign p bytes) ≡ drop (faceCount (tree_of b) z) bytes
-        by-test true = drop-set-lt (faceCount (tree_of b) z) bytes _ _ (place-below a z _ entry-face)
-        by-test false = refl
+        by_test : (f : Bool) → drop (face_count (tree_of b) z) (after_use f sign p bytes) ≡ drop (face_count (tree_of b) z) bytes
+        by_test true = drop-set-lt (face_count (tree_of b) z) bytes _ _ (place-below a z _ entry-face)
+        by_test false = refl
 
-    pub entry-used : Accepted b → free ≡ true → Used (faceCount (tree_of b) z) (useEntry (tree_of b) s k bytes) bytes Stage.Pass after
+    pub entry-used : Accepted b → free ≡ true → Used (face_count (tree_of b) z) (use_entry (tree_of b) s k bytes) bytes Stage.Pass after
     entry-used a e = record { tells = entry-is ∙ ap (λ (f : Bool). cond f (answer after) again) e; rest = after-rest a }
 
-    pub entry-repeated : Accepted b → free ≡ false → {q : Rejection} → q ≡ repetition s (elementHolding (tree_of b) s k)
-        → Used (faceCount (tree_of b) z) (useEntry (tree_of b) s k bytes) bytes (Stage.Rejected q) after
+    pub entry_repeated : Accepted b → free ≡ false → {q : Rejection} → q ≡ repetition s (element_holding (tree_of b) s k)
+        → Used (face_count (tree_of b) z) (use_entry (tree_of b) s k bytes) bytes (Stage.Rejected q) after
     unfolding again
-    entry-repeated a e {q} p = record { tells = entry-is ∙ ap (λ (f : Bool). cond f (answer after) again) e ∙ ap rejected (sym p); rest = after-rest a }
+    entry_repeated a e {q} p = record { tells = entry-is ∙ ap (λ (f : Bool). cond f (answer after) again) e ∙ ap rejected (sym p); rest = after-rest a }
 
 -- a zone's nodes
 module _ (t : Tree) (z n : ℕ) where
-  pub nodes-start : (faces : ℕ) (bytes : List ℕ) → Left faces (useNodes t z n 0 bytes) bytes (useNodes t z (n - 0) 0 bytes) bytes
-  nodes-start faces bytes = let e : n - 0 ≡ n = omega arith in record { same = rw e; long = refl; beyond = refl }
+  pub nodes_start : (faces : ℕ) (bytes : List ℕ) → Left faces (use_nodes t z n 0 bytes) bytes (use_nodes t z (n - 0) 0 bytes) bytes
+  nodes_start faces bytes = let e : n - 0 ≡ n = omega arith in record { same = rw e; long = refl; beyond = refl }
 
   module _ (i : ℕ) (bytes : List ℕ) where
-    pub nodes-step : i < n → useNodes t z (n - i) i bytes ≡ (useEntries t i (usesIn t z i) 0 bytes into λ later. useNodes t z (n - (i + 1)) (i + 1) later)
-    unfolding useNodes
-    nodes-step h = let e : n - i ≡ suc (n - (i + 1)) = omega arith in rw (e, add-one)
+    pub nodes_step : i < n → use_nodes t z (n - i) i bytes ≡ (use_entries t i (uses_in t z i) 0 bytes into λ later. use_nodes t z (n - (i + 1)) (i + 1) later)
+    unfolding use_nodes
+    nodes_step h = let e : n - i ≡ suc (n - (i + 1)) = omega arith in rw (e, add-one)
 
-    pub nodes-end : n ≤ i → useNodes t z (n - i) i bytes ≡ answer bytes
-    unfolding useNodes
+    pub nodes-end : n ≤ i → use_nodes t z (n - i) i bytes ≡ answer bytes
+    unfolding use_nodes
     nodes-end h = let e : n - i ≡ 0 = omega arith in rw e

@@ -4,17 +4,17 @@ use Rattle.model.specs.declared.Stage.{Stage}
 use Rattle.model.specs.declared.Stage.TheVariants as Stage
 use Rattle.model.specs.Bytes.{negative, magnitude}
 use Rattle.model.specs.Rules.{Answer, rejected, answer}
-use Rattle.model.specs.Image.{Tree, tree_of, nodeCount, parent, width, number}
+use Rattle.model.specs.Image.{Tree, tree_of, node_count, parent, width, number}
 use Rattle.model.specs.Given.{Accepted}
-use Rattle.model.specs.Values.{connectivityOf}
-use Rattle.model.specs.Elements.{reference, faceNumber, faceOf}
+use Rattle.model.specs.Values.{connectivity_of}
+use Rattle.model.specs.Elements.{reference, face_number, face_of}
 use Rattle.model.specs.Corner.{number_at}
-use Rattle.model.specs.FaceUsage.{faceCount, facePlace, unused, usesIn}
+use Rattle.model.specs.FaceUsage.{face_count, face_place, unused, uses_in}
 use Rattle.rows.specs.declared.Row.{Row}
 use Rattle.rows.specs.Rows.{Numbers}
 use Rattle.ranges.specs.Tables.{Found}
 use Rattle.ranges.specs.SearchTree.{Built}
-use Rattle.usage_bytes.specs.Marks.{sign_of, afterUse}
+use Rattle.usage_bytes.specs.Marks.{sign_of, after_use}
 use Rattle.face_uses.specs.declared.uses.Faces.{Faces}
 use Rattle.face_places.specs.ZoneSections.{Cells}
 use Rattle.face_places.specs.Ranges.{Ranges}
@@ -22,9 +22,9 @@ use Rattle.face_places.specs.Ranges.{Ranges}
 -- the tables hold the faces of a zone, and there is room for a byte a face
 pub record Tables (b : List ℕ) (f : Faces) (firsts reach places : List ℕ) (out : ℕ) : Type 0 where
   pub accepted : Accepted b
-  pub ranges : Ranges (tree_of b) f.zone (nodeCount b) firsts reach places f.count
+  pub ranges : Ranges (tree_of b) f.zone (node_count b) firsts reach places f.count
   pub tree : Built f.tree
-  pub room : faceCount (tree_of b) f.zone ≤ out
+  pub room : face_count (tree_of b) f.zone ≤ out
 
 -- entry j of n is what a search for the magnitude of number k of a row finds
 abbrev pub FoundFor : List ℕ → Row → ℕ → List ℕ → List ℕ → ℕ → ℕ → Type 0
@@ -33,8 +33,8 @@ FoundFor b row k firsts reach n j =
 
 -- what the reference x of w bytes does to the bytes
 pub record UsedAt (t : Tree) (z w x : ℕ) (bytes : List ℕ) (free : Bool) (after : List ℕ) : Type 0 where
-  pub tells : free ≡ unused (sign_of (negative w x)) (get_or bytes (facePlace t z (magnitude w x)) 0)
-  pub leaves : after ≡ afterUse free (sign_of (negative w x)) (facePlace t z (magnitude w x)) bytes
+  pub tells : free ≡ unused (sign_of (negative w x)) (get_or bytes (face_place t z (magnitude w x)) 0)
+  pub leaves : after ≡ after_use free (sign_of (negative w x)) (face_place t z (magnitude w x)) bytes
 
 -- what a stage tells of a run of uses: the bytes that it left, or its rejection
 abbrev pub used : Stage → List ℕ → Answer (List ℕ)
@@ -57,12 +57,12 @@ pub record RowOf (b : List ℕ) (j n : ℕ) (r : Row) : Type 0 where
 pub record Reference (b index : List ℕ) (z s : ℕ) (r : Row) (k : ℕ) : Type 0 where
   pub cells : Cells b index s
   pub zone : parent (tree_of b) s ≡ z
-  pub wide : width (tree_of b) (connectivityOf (tree_of b) s) ≡ r.width
+  pub wide : width (tree_of b) (connectivity_of (tree_of b) s) ≡ r.width
   pub stored : reference (tree_of b) s k ≡ number_at b r.at r.width k
-  pub face : faceOf (tree_of b) z (faceNumber (tree_of b) s k) ≡ true
+  pub face : face_of (tree_of b) z (face_number (tree_of b) s k) ≡ true
 
 -- the row of the references that node s brings to zone z
 pub record References (b index : List ℕ) (z s : ℕ) (r : Row) : Type 0 where
   pub numbers : Numbers b r.at r.width r.n
-  pub long : r.n ≡ usesIn (tree_of b) z s
+  pub long : r.n ≡ uses_in (tree_of b) z s
   pub each : (k : ℕ) → k < r.n → Reference b index z s r k

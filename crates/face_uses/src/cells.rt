@@ -1,9 +1,9 @@
 // The cell sections of a zone: the references that they bring, and which element holds one.
 ghost use Rattle.std.specs.Prelude.{◌≡◌, ◌+◌, ◌-◌, ◌<◌};
-ghost use Rattle.model.specs.Image.{tree_of, nodeCount};
+ghost use Rattle.model.specs.Image.{tree_of, node_count};
 ghost use Rattle.model.specs.Given.{Sound, Accepted};
-ghost use Rattle.model.specs.Values.{offsetsOf};
-ghost use Rattle.model.specs.FaceUsage.{elementHolding};
+ghost use Rattle.model.specs.Values.{offsets_of};
+ghost use Rattle.model.specs.FaceUsage.{element_holding};
 ghost use Rattle.section_data.specs.Given.{Stores};
 ghost use Rattle.index.specs.Index.{Index};
 ghost use Rattle.face_places.specs.ZoneSections.{Cells, Spans};
@@ -25,7 +25,7 @@ fn row_of(image: &[u8], j: usize, n: usize) -> Row
 
 // The references of node s, where it is a cell section of zone z; none where it is not.
 pub fn references_of(image: &[u8], index: &[u16], z: usize, s: usize) -> Row
-    requires { Accepted image.now × (Index image.now index.now × (s < nodeCount image.now)) }
+    requires { Accepted image.now × (Index image.now index.now × (s < node_count image.now)) }
     ensures { References image.now index.now z s result }
 {
     if !has_type(image, index, z, s, NFACE) {
@@ -43,7 +43,7 @@ pub fn references_of(image: &[u8], index: &[u16], z: usize, s: usize) -> Row
 // The start offsets of cell section s, whose elements are the span.
 pub fn cell_offsets(image: &[u8], index: &[u16], s: usize, span: Span) -> Row
     requires { Cells image.now index.now s × Spans image.now s span }
-    ensures { RowOf image.now (offsetsOf (tree_of image.now) s) (span.last - span.first + 2) result }
+    ensures { RowOf image.now (offsets_of (tree_of image.now) s) (span.last - span.first + 2) result }
 {
     let n = (span.last - span.first) as usize + 2;
     row_of(image, sids::offsets_of(image, index, s), n)
@@ -52,7 +52,7 @@ pub fn cell_offsets(image: &[u8], index: &[u16], s: usize, span: Span) -> Row
 // The element of cell section s whose entries hold entry k.
 pub fn element_holding(image: &[u8], index: &[u16], s: usize, k: usize) -> u64
     requires { Cells image.now index.now s }
-    ensures { result ≡ elementHolding (tree_of image.now) s k }
+    ensures { result ≡ element_holding (tree_of image.now) s k }
 {
     let span = span_of(image, index, s);
     let offsets = cell_offsets(image, index, s, span);

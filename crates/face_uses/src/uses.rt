@@ -2,9 +2,9 @@
 ghost use Rattle.std.specs.Prelude.{◌≡◌, true, ◌+◌, ◌-◌, ◌≤◌, ◌<◌, length, get_or};
 ghost use Rattle.model.specs.Bytes.{magnitude};
 ghost use Rattle.model.specs.Corner.{number_at};
-ghost use Rattle.model.specs.Image.{tree_of, nodeCount};
-ghost use Rattle.model.specs.Elements.{faceOf};
-ghost use Rattle.model.specs.FaceUsage.{faceCount, usesIn, useEntries, useNodes};
+ghost use Rattle.model.specs.Image.{tree_of, node_count};
+ghost use Rattle.model.specs.Elements.{face_of};
+ghost use Rattle.model.specs.FaceUsage.{face_count, uses_in, use_entries, use_nodes};
 ghost use Rattle.rows.specs.Rows.{Numbers};
 ghost use Rattle.ranges.specs.Tables.{Ordered};
 ghost use Rattle.ranges.specs.SearchTree.{Built};
@@ -98,7 +98,7 @@ fn use_entry(
     out: &mut [u8],
 ) -> bool
     requires numbers { Numbers image.now row.at row.width row.n × (k < row.n) }
-    requires k_value { faceOf (tree_of image.now) faces.zone (magnitude row.width (number_at image.now row.at row.width k)) ≡ true }
+    requires k_value { face_of (tree_of image.now) faces.zone (magnitude row.width (number_at image.now row.at row.width k)) ≡ true }
     requires tables { Tables image.now faces firsts.now reach.now places.now (length out.old) }
     requires found_for { FoundFor image.now row k firsts.now reach.now faces.count j }
     ensures { UsedAt (tree_of image.now) faces.zone row.width (number_at image.now row.at row.width k)
@@ -121,10 +121,10 @@ fn use_entries(
     levels: &[u32],
     out: &mut [u8],
 ) -> Stage
-    requires index { (Index image.now index.now × (s < nodeCount image.now)) × (2048 ≤ length levels.now) }
+    requires index { (Index image.now index.now × (s < node_count image.now)) × (2048 ≤ length levels.now) }
     requires tables { Tables image.now faces firsts.now reach.now places.now (length out.old) }
-    ensures { Used (faceCount (tree_of image.now) faces.zone)
-        (useEntries (tree_of image.now) s (usesIn (tree_of image.now) faces.zone s) 0 out.old)
+    ensures { Used (face_count (tree_of image.now) faces.zone)
+        (use_entries (tree_of image.now) s (uses_in (tree_of image.now) faces.zone s) 0 out.old)
         out.old result out.new }
 {
     let row = references_of(image, index, faces.zone, s);
@@ -166,8 +166,8 @@ pub fn use_nodes(
 ) -> Stage
     requires index { Index image.now index.now × (2048 ≤ length levels.now) }
     requires tables { Tables image.now faces firsts.now reach.now places.now (length out.old) }
-    ensures { Used (faceCount (tree_of image.now) faces.zone)
-        (useNodes (tree_of image.now) faces.zone (nodeCount image.now) 0 out.old)
+    ensures { Used (face_count (tree_of image.now) faces.zone)
+        (use_nodes (tree_of image.now) faces.zone (node_count image.now) 0 out.old)
         out.old result out.new }
 {
     let nodes = labels::node_count(image);

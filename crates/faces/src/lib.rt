@@ -2,9 +2,9 @@
 // section stores them, and whether they agree with the cells.
 ghost use Rattle.std.specs.Prelude.{◌≡◌, ◌≤◌, length};
 ghost use Rattle.model.specs.Rules.{passed};
-ghost use Rattle.model.specs.Answers.{stageTells, usageTells};
-ghost use Rattle.model.specs.FaceUsage.{usageAnswer, usageMemory};
-ghost use Rattle.model.specs.Validation.{imageCheck};
+ghost use Rattle.model.specs.Answers.{stage_tells, usage_tells};
+ghost use Rattle.model.specs.FaceUsage.{usage_answer, usage_memory};
+ghost use Rattle.model.specs.Validation.{image_check};
 ghost use Rattle.index.specs.Index.{Index};
 
 mod parent_calls; // parent_calls.rt: the parents of a face, and whether they agree with the cells
@@ -26,10 +26,10 @@ fn usage_after(
     levels: &mut [u32],
     out: &mut [u8],
 ) -> FaceUsage
-    requires verdict_value { (stageTells verdict ≡ imageCheck image.now) × (stageTells verdict ≡ passed → Index image.now index.now) }
+    requires verdict_value { (stage_tells verdict ≡ image_check image.now) × (stage_tells verdict ≡ passed → Index image.now index.now) }
     requires in_bounds { (2048 ≤ length firsts.old) × (2048 ≤ length reach.old) × (2048 ≤ length levels.old) }
-    ensures { (usageTells result ≡ usageAnswer image.now zone (length out.old))
-        × (out.new ≡ usageMemory image.now zone out.old) }
+    ensures { (usage_tells result ≡ usage_answer image.now zone (length out.old))
+        × (out.new ≡ usage_memory image.now zone out.old) }
 {
     let Stage::Pass = verdict else {
         return FaceUsage::Rejected(verdict.rejection());
@@ -43,8 +43,8 @@ fn usage_after(
 // The usage of a zone's faces: validation's rejection, then 40, 44, 45, or how many faces the zone has, a byte for each written in front of `out`. On 45
 // those bytes are 0; every other rejection leaves `out` as it was, and bytes after them never change.
 pub fn face_usage(image: &[u8], zone: u64, out: &mut [u8]) -> FaceUsage
-    ensures { (usageTells result ≡ usageAnswer image.now zone (length out.old))
-        × (out.new ≡ usageMemory image.now zone out.old) }
+    ensures { (usage_tells result ≡ usage_answer image.now zone (length out.old))
+        × (out.new ≡ usage_memory image.now zone out.old) }
 {
     let mut index: [u16; 16384] = [0; 16384];
     let mut firsts: [u64; 2048] = [0; 2048];

@@ -2,11 +2,11 @@
 ghost use Rattle.std.specs.Prelude.{◌≡◌, true, ◌≤◌, length};
 ghost use Rattle.model.specs.Lists.{over};
 ghost use Rattle.model.specs.Rules.{answer, ◌into◌};
-ghost use Rattle.model.specs.Answers.{usageTells};
+ghost use Rattle.model.specs.Answers.{usage_tells};
 ghost use Rattle.model.specs.Image.{tree_of};
 ghost use Rattle.model.specs.Given.{Accepted};
-ghost use Rattle.model.specs.Containment.{isZone};
-ghost use Rattle.model.specs.FaceUsage.{faceCount, usage, usageBytes, usageAnswer, usageMemory};
+ghost use Rattle.model.specs.Containment.{is_zone};
+ghost use Rattle.model.specs.FaceUsage.{face_count, usage, usage_bytes, usage_answer, usage_memory};
 ghost use Rattle.index.specs.Index.{Index};
 ghost use Rattle.face_uses.specs.Uses.{Tables};
 
@@ -31,10 +31,10 @@ pub fn fill(
 ) -> FaceUsage
     requires index { Index image.now index.now × (2048 ≤ length levels.now) }
     requires tables { Tables image.now faces firsts.now reach.now places.now (length out.old) }
-    ensures result_value { usageTells result
-        ≡ (usage (tree_of image.now) faces.zone into λ bytes. answer (faceCount (tree_of image.now) faces.zone)) }
+    ensures result_value { usage_tells result
+        ≡ (usage (tree_of image.now) faces.zone into λ bytes. answer (face_count (tree_of image.now) faces.zone)) }
     ensures out_after { out.new
-        ≡ over out.old (usageBytes (faceCount (tree_of image.now) faces.zone) (usage (tree_of image.now) faces.zone)) }
+        ≡ over out.old (usage_bytes (face_count (tree_of image.now) faces.zone) (usage (tree_of image.now) faces.zone)) }
 {
     let count = faces.count;
     let n = places[count];
@@ -58,10 +58,10 @@ pub fn zone_usage(
     levels: &mut [u32],
     out: &mut [u8],
 ) -> FaceUsage
-    requires accepted { (Accepted image.now × Index image.now index.now) × (isZone (tree_of image.now) z ≡ true) }
+    requires accepted { (Accepted image.now × Index image.now index.now) × (is_zone (tree_of image.now) z ≡ true) }
     requires in_bounds { (2048 ≤ length firsts.old) × (2048 ≤ length reach.old) × (2048 ≤ length levels.old) }
-    ensures { (usageTells result ≡ usageAnswer image.now z (length out.old))
-        × (out.new ≡ usageMemory image.now z out.old) }
+    ensures { (usage_tells result ≡ usage_answer image.now z (length out.old))
+        × (out.new ≡ usage_memory image.now z out.old) }
 {
     let mut places: [u64; 2049] = [0; 2049];
     let count = gather(image, index, z, firsts, reach, &mut places);

@@ -2,12 +2,12 @@
 ghost use Rattle.std.specs.Prelude.{◌≡◌, true, ◌≤◌, length};
 ghost use Rattle.model.specs.Lists.{over};
 ghost use Rattle.model.specs.Rules.{answer, ◌into◌};
-ghost use Rattle.model.specs.Answers.{agreementTells};
+ghost use Rattle.model.specs.Answers.{agreement_tells};
 ghost use Rattle.model.specs.Image.{tree_of};
 ghost use Rattle.model.specs.Given.{Accepted};
-ghost use Rattle.model.specs.Containment.{isZone};
-ghost use Rattle.model.specs.FaceUsage.{faceCount, usage, usageBytes, usageAnswer, usageMemory};
-ghost use Rattle.model.specs.ParentElements.{allAgree};
+ghost use Rattle.model.specs.Containment.{is_zone};
+ghost use Rattle.model.specs.FaceUsage.{face_count, usage, usage_bytes, usage_answer, usage_memory};
+ghost use Rattle.model.specs.ParentElements.{all_agree};
 ghost use Rattle.index.specs.Index.{Index};
 ghost use Rattle.face_uses.specs.Uses.{Tables};
 
@@ -31,10 +31,10 @@ fn fill_and_agree(
 ) -> Agreement
     requires index { Index image.now index.now × (2048 ≤ length levels.now) }
     requires tables { Tables image.now faces firsts.now reach.now places.now (length out.old) }
-    ensures result_value { agreementTells result
-        ≡ (usage (tree_of image.now) faces.zone into λ bytes. answer (allAgree (tree_of image.now) faces.zone)) }
+    ensures result_value { agreement_tells result
+        ≡ (usage (tree_of image.now) faces.zone into λ bytes. answer (all_agree (tree_of image.now) faces.zone)) }
     ensures out_after { out.new
-        ≡ over out.old (usageBytes (faceCount (tree_of image.now) faces.zone) (usage (tree_of image.now) faces.zone)) }
+        ≡ over out.old (usage_bytes (face_count (tree_of image.now) faces.zone) (usage (tree_of image.now) faces.zone)) }
 {
     let usage = fill(image, index, faces, firsts, reach, places, levels, out);
     if let FaceUsage::Rejected(r) = usage {
@@ -53,11 +53,11 @@ pub fn zone_agreement(
     levels: &mut [u32],
     out: &mut [u8],
 ) -> Agreement
-    requires accepted { (Accepted image.now × Index image.now index.now) × (isZone (tree_of image.now) z ≡ true) }
+    requires accepted { (Accepted image.now × Index image.now index.now) × (is_zone (tree_of image.now) z ≡ true) }
     requires in_bounds { (2048 ≤ length firsts.old) × (2048 ≤ length reach.old) × (2048 ≤ length levels.old) }
-    ensures { (agreementTells result
-        ≡ (usageAnswer image.now z (length out.old) into λ faces. answer (allAgree (tree_of image.now) z)))
-        × (out.new ≡ usageMemory image.now z out.old) }
+    ensures { (agreement_tells result
+        ≡ (usage_answer image.now z (length out.old) into λ faces. answer (all_agree (tree_of image.now) z)))
+        × (out.new ≡ usage_memory image.now z out.old) }
 {
     let mut places: [u64; 2049] = [0; 2049];
     let count = gather(image, index, z, firsts, reach, &mut places);

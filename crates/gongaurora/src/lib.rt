@@ -2,17 +2,17 @@
 // are 64-bit words in lent bytes, little-endian. Where these are too short it answers 46 and writes nothing at all.
 ghost use Rattle.std.specs.Prelude.{◌≡◌, ◌/◌, length};
 ghost use Rattle.model.specs.Validation.{validation};
-ghost use Rattle.model.specs.Sections.{sectionsAnswer, sectionNumbersMemory};
-ghost use Rattle.model.specs.FaceUsage.{usageAnswer, usageMemory};
-ghost use Rattle.model.specs.ParentElements.{parentsAnswer, agreementAnswer, agreementMemory};
-ghost use Rattle.model.specs.NameBytes.{nameBytesAnswer};
-ghost use Rattle.model.specs.Path.{pathAnswer, pathMemory};
-ghost use Rattle.model.specs.ArrayValue.{valueAnswer};
-ghost use Rattle.model.specs.DataSize.{dataSizeAnswer};
-ghost use Rattle.model.specs.Exports.{validationWords, countWords, usageWords, parentWords, agreementWords, valueWords, sizeWords};
+ghost use Rattle.model.specs.Sections.{sections_answer, section_numbers_memory};
+ghost use Rattle.model.specs.FaceUsage.{usage_answer, usage_memory};
+ghost use Rattle.model.specs.ParentElements.{parents_answer, agreement_answer, agreement_memory};
+ghost use Rattle.model.specs.NameBytes.{name_bytes_answer};
+ghost use Rattle.model.specs.Path.{path_answer, path_memory};
+ghost use Rattle.model.specs.ArrayValue.{value_answer};
+ghost use Rattle.model.specs.DataSize.{data_size_answer};
+ghost use Rattle.model.specs.Exports.{validation_words, count_words, usage_words, parent_words, agreement_words, value_words, size_words};
 ghost use Rattle.writer_model.specs.Exports.{StartExport, AddExport, FinishExport};
 ghost use Rattle.writer_model.specs.Writer.{addition};
-ghost use Rattle.model.specs.Exports.{exportRule, export_bytes, exportMemory, CornerExport, ElementExport, TypeExport};
+ghost use Rattle.model.specs.Exports.{export_rule, export_bytes, export_memory, CornerExport, ElementExport, TypeExport};
 
 use answers::{
     agreement_answer, count_answer, parents_answer, put_answer, put_corner, put_count, size_answer,
@@ -41,8 +41,8 @@ const SIZE_WORDS: usize = 6;
 // Whether the image meets every rule. The answer, six words: node, entry, nodes validated, nodes skipped, zones, sections.
 #[unsafe(no_mangle)]
 pub extern "C" fn gongaurora_export_validate(image: &[u8], answer: &mut [u8]) -> u64
-    ensures value { result ≡ exportRule 6 answer.old (validation image.now) }
-    ensures answer_after { answer.new ≡ export_bytes answer.old (validationWords (validation image.now)) }
+    ensures value { result ≡ export_rule 6 answer.old (validation image.now) }
+    ensures answer_after { answer.new ≡ export_bytes answer.old (validation_words (validation image.now)) }
 {
     if answer.len() < 8 * VALIDATION_WORDS {
         return 46; // no verdict is made
@@ -136,11 +136,11 @@ pub extern "C" fn gongaurora_export_sections(
     out: &mut [u64],
     answer: &mut [u8],
 ) -> u64
-    ensures value { result ≡ exportRule 3 answer.old (sectionsAnswer image.now zone (length out.old / 11)) }
+    ensures value { result ≡ export_rule 3 answer.old (sections_answer image.now zone (length out.old / 11)) }
     ensures answer_after { answer.new
-        ≡ export_bytes answer.old (countWords (sectionsAnswer image.now zone (length out.old / 11))) }
+        ≡ export_bytes answer.old (count_words (sections_answer image.now zone (length out.old / 11))) }
     ensures out_after { out.new
-        ≡ exportMemory 3 answer.old out.old (sectionNumbersMemory image.now zone out.old) }
+        ≡ export_memory 3 answer.old out.old (section_numbers_memory image.now zone out.old) }
 {
     if answer.len() < 8 * SECTIONS_WORDS {
         return 46;
@@ -160,9 +160,9 @@ pub extern "C" fn gongaurora_export_face_usage(
     out: &mut [u8],
     answer: &mut [u8],
 ) -> u64
-    ensures value { result ≡ exportRule 4 answer.old (usageAnswer image.now zone (length out.old)) }
-    ensures answer_after { answer.new ≡ export_bytes answer.old (usageWords (usageAnswer image.now zone (length out.old))) }
-    ensures out_after { out.new ≡ exportMemory 4 answer.old out.old (usageMemory image.now zone out.old) }
+    ensures value { result ≡ export_rule 4 answer.old (usage_answer image.now zone (length out.old)) }
+    ensures answer_after { answer.new ≡ export_bytes answer.old (usage_words (usage_answer image.now zone (length out.old))) }
+    ensures out_after { out.new ≡ export_memory 4 answer.old out.old (usage_memory image.now zone out.old) }
 {
     if answer.len() < 8 * USAGE_WORDS {
         return 46;
@@ -182,8 +182,8 @@ pub extern "C" fn gongaurora_export_parents(
     face: u64,
     answer: &mut [u8],
 ) -> u64
-    ensures value { result ≡ exportRule 4 answer.old (parentsAnswer image.now zone face) }
-    ensures answer_after { answer.new ≡ export_bytes answer.old (parentWords (parentsAnswer image.now zone face)) }
+    ensures value { result ≡ export_rule 4 answer.old (parents_answer image.now zone face) }
+    ensures answer_after { answer.new ≡ export_bytes answer.old (parent_words (parents_answer image.now zone face)) }
 {
     if answer.len() < 8 * PARENTS_WORDS {
         return 46;
@@ -204,10 +204,10 @@ pub extern "C" fn gongaurora_export_parents_agree(
     out: &mut [u8],
     answer: &mut [u8],
 ) -> u64
-    ensures value { result ≡ exportRule 4 answer.old (agreementAnswer image.now zone (length out.old)) }
+    ensures value { result ≡ export_rule 4 answer.old (agreement_answer image.now zone (length out.old)) }
     ensures answer_after { answer.new
-        ≡ export_bytes answer.old (agreementWords (agreementAnswer image.now zone (length out.old))) }
-    ensures out_after { out.new ≡ exportMemory 4 answer.old out.old (agreementMemory image.now zone out.old) }
+        ≡ export_bytes answer.old (agreement_words (agreement_answer image.now zone (length out.old))) }
+    ensures out_after { out.new ≡ export_memory 4 answer.old out.old (agreement_memory image.now zone out.old) }
 {
     if answer.len() < 8 * AGREEMENT_WORDS {
         return 46;
@@ -227,9 +227,9 @@ pub extern "C" fn gongaurora_export_path(
     out: &mut [u8],
     answer: &mut [u8],
 ) -> u64
-    ensures value { result ≡ exportRule 3 answer.old (pathAnswer image.now node (length out.old)) }
-    ensures answer_after { answer.new ≡ export_bytes answer.old (countWords (pathAnswer image.now node (length out.old))) }
-    ensures out_after { out.new ≡ exportMemory 3 answer.old out.old (pathMemory image.now node out.old) }
+    ensures value { result ≡ export_rule 3 answer.old (path_answer image.now node (length out.old)) }
+    ensures answer_after { answer.new ≡ export_bytes answer.old (count_words (path_answer image.now node (length out.old))) }
+    ensures out_after { out.new ≡ export_memory 3 answer.old out.old (path_memory image.now node out.old) }
 {
     if answer.len() < 8 * PATH_WORDS {
         return 46;
@@ -244,8 +244,8 @@ pub extern "C" fn gongaurora_export_path(
 // The name bytes compared where each two siblings are, up to the first byte that differs. The answer, three words: node, entry, count of bytes.
 #[unsafe(no_mangle)]
 pub extern "C" fn gongaurora_export_name_bytes(image: &[u8], answer: &mut [u8]) -> u64
-    ensures value { result ≡ exportRule 3 answer.old (nameBytesAnswer image.now) }
-    ensures answer_after { answer.new ≡ export_bytes answer.old (countWords (nameBytesAnswer image.now)) }
+    ensures value { result ≡ export_rule 3 answer.old (name_bytes_answer image.now) }
+    ensures answer_after { answer.new ≡ export_bytes answer.old (count_words (name_bytes_answer image.now)) }
 {
     if answer.len() < 8 * NAMES_WORDS {
         return 46; // no name is compared
@@ -261,8 +261,8 @@ pub extern "C" fn gongaurora_export_array_value(
     k: u64,
     answer: &mut [u8],
 ) -> u64
-    ensures value { result ≡ exportRule 4 answer.old (valueAnswer image.now node k) }
-    ensures answer_after { answer.new ≡ export_bytes answer.old (valueWords (valueAnswer image.now node k)) }
+    ensures value { result ≡ export_rule 4 answer.old (value_answer image.now node k) }
+    ensures answer_after { answer.new ≡ export_bytes answer.old (value_words (value_answer image.now node k)) }
 {
     if answer.len() < 8 * VALUE_WORDS {
         return 46;
@@ -277,8 +277,8 @@ pub extern "C" fn gongaurora_export_array_value(
 // The DataSize of an array. The answer, six words: node, entry, directions, and the size in i, j and k, 0 where the array lacks the direction.
 #[unsafe(no_mangle)]
 pub extern "C" fn gongaurora_export_data_size(image: &[u8], node: u64, answer: &mut [u8]) -> u64
-    ensures value { result ≡ exportRule 6 answer.old (dataSizeAnswer image.now node) }
-    ensures answer_after { answer.new ≡ export_bytes answer.old (sizeWords (dataSizeAnswer image.now node)) }
+    ensures value { result ≡ export_rule 6 answer.old (data_size_answer image.now node) }
+    ensures answer_after { answer.new ≡ export_bytes answer.old (size_words (data_size_answer image.now node)) }
 {
     if answer.len() < 8 * SIZE_WORDS {
         return 46;

@@ -8,27 +8,27 @@ use native.Mathlib.Decide.{ℕ_discrete}
 use lib.Dec.{eqb, leb}
 use lib.ListN.{get_or}
 use borrow.Author.Tests.{eq-eqb, ne_eqb, eqb-true, leb-true}
-use Rattle.model.specs.Lists.{row, everyFrom}
+use Rattle.model.specs.Lists.{row, every_from}
 use Rattle.model.specs.Bytes.{text, spells}
 use Rattle.model.specs.Image.{Tree, name}
 use Rattle.model.specs.Containment.{role}
 use Rattle.model.proofs.Logic.{untrue, and_first, and_second}
-use Rattle.model.proofs.Walks.{seek-before}
-use Rattle.labels.specs.Padded.{knownNames}
+use Rattle.model.proofs.Walks.{seek_before}
+use Rattle.labels.specs.Padded.{known_names}
 use Rattle.labels.proofs.Arms.{each}
-use Rattle.index.specs.Keys.{keyRoles, slotKeys, key_at, keyRole, keyName, isKey, hasRole, first_slot, SlotOf}
+use Rattle.index.specs.Keys.{key_roles, slot_keys, key_at, key_role, key_name, is_key, has_role, first_slot, SlotOf}
 
 -- what holds of every slot of every kind holds of this one
-every-slot : (p : ℕ → ℕ → Bool) → everyFrom (λ (a : ℕ). everyFrom (p a) 4 0) 16 0 ≡ true → (above k : ℕ) → above < 16 → k < 4 → p above k ≡ true
-every-slot p e above k h l = each (p above) 4 (each (λ (a : ℕ). everyFrom (p a) 4 0) 16 e above h) k l
+every_slot : (p : ℕ → ℕ → Bool) → every_from (λ (a : ℕ). every_from (p a) 4 0) 16 0 ≡ true → (above k : ℕ) → above < 16 → k < 4 → p above k ≡ true
+every_slot p e above k h l = each (p above) 4 (each (λ (a : ℕ). every_from (p a) 4 0) 16 e above h) k l
 
 pub key-few : (above k : ℕ) → above < 16 → k < 4 → key_at above k ≤ 10
-unfolding everyFrom key_at row slotKeys
-key-few above k h l = leb-true (key_at above k) 10 (every-slot (λ a i. leb (key_at a i) 10) refl above k h l)
+unfolding every_from key_at row slot_keys
+key-few above k h l = leb-true (key_at above k) 10 (every_slot (λ a i. leb (key_at a i) 10) refl above k h l)
 
 -- a role that a node can have is that of a key
-pub some_key : (key : ℕ) {r : ℕ} → key ≤ 10 → get_or keyRoles key 16 ≡ r → r < 16 → key < 10
-unfolding keyRoles
+pub some_key : (key : ℕ) {r : ℕ} → key ≤ 10 → get_or key_roles key 16 ≡ r → r < 16 → key < 10
+unfolding key_roles
 some_key key h e l =
     elim (ℕ_discrete key 10) [
       | yes q ↦ absurd (let f : ◌≡◌ {A = ℕ} 16 _ = rw q at e in omega arith)
@@ -55,49 +55,49 @@ one-text (z ∷ s) (a ∷ x) (b ∷ y) c e =
 
 -- two slots of a node differ in their roles or in their names
 abbrev differ : ℕ → ℕ → ℕ → Bool
-differ a i k = eqb i k || (not (eqb (keyRole a i) (keyRole a k)) || (eqb (keyRole a i) 16 || clash (keyName a i) (keyName a k)))
+differ a i k = eqb i k || (not (eqb (key_role a i) (key_role a k)) || (eqb (key_role a i) 16 || clash (key_name a i) (key_name a k)))
 
-all-differ : (a i k : ℕ) → a < 16 → i < 4 → k < 4 → differ a i k ≡ true
-unfolding everyFrom key_at keyRole keyName row slotKeys keyRoles knownNames text
-all-differ a i k h l m = each (differ a i) 4 (every-slot (λ b n. everyFrom (differ b n) 4 0) refl a i h l) k m
+all_differ : (a i k : ℕ) → a < 16 → i < 4 → k < 4 → differ a i k ≡ true
+unfolding every_from key_at key_role key_name row slot_keys key_roles known_names text
+all_differ a i k h l m = each (differ a i) 4 (every_slot (λ b n. every_from (differ b n) 4 0) refl a i h l) k m
 
 module _ (t : Tree) (above j : ℕ) {below : ℕ} (h : above < 16) (b : below ≡ role t j) (r : below < 16) where
-  other-slot : (i k : ℕ) → i < 4 → k < 4 → (i ≡ k → ⊥) → isKey t above i j ≡ true → isKey t above k j ≡ false
-  unfolding isKey
-  other-slot i k l m z e =
-      let q = eqb-true _ _ (and_first (eqb (role t j) (keyRole above i)) (spells (name t j) (keyName above i)) e) in
-      let s = and_second (eqb (role t j) (keyRole above i)) (spells (name t j) (keyName above i)) e in
-      elim (ℕ_discrete (role t j) (keyRole above k)) [
+  other_slot : (i k : ℕ) → i < 4 → k < 4 → (i ≡ k → ⊥) → is_key t above i j ≡ true → is_key t above k j ≡ false
+  unfolding is_key
+  other_slot i k l m z e =
+      let q = eqb-true _ _ (and_first (eqb (role t j) (key_role above i)) (spells (name t j) (key_name above i)) e) in
+      let s = and_second (eqb (role t j) (key_role above i)) (spells (name t j) (key_name above i)) e in
+      elim (ℕ_discrete (role t j) (key_role above k)) [
         | yes p ↦
-            let n : keyRole above i ≡ keyRole above k = sym q ∙ p in
-            let o : keyRole above i ≡ 16 → ⊥ = λ y. absurd (omega arith) in
-            rw (one-text (name t j) (keyName above i) (keyName above k) (rw (ne_eqb i k z, eq-eqb _ _ n, ne_eqb (keyRole above i) 16 o) at
-            (all-differ above i k h l m)) s) (and-false (eqb (role t j) (keyRole above k)))
-        | no n ↦ rw (ne_eqb (role t j) (keyRole above k) n)
+            let n : key_role above i ≡ key_role above k = sym q ∙ p in
+            let o : key_role above i ≡ 16 → ⊥ = λ y. absurd (omega arith) in
+            rw (one-text (name t j) (key_name above i) (key_name above k) (rw (ne_eqb i k z, eq-eqb _ _ n, ne_eqb (key_role above i) 16 o) at
+            (all_differ above i k h l m)) s) (and-false (eqb (role t j) (key_role above k)))
+        | no n ↦ rw (ne_eqb (role t j) (key_role above k) n)
       ]
 
   -- the search for the slot has come to slot k
-  pub not-before : {k : ℕ} → k ≡ first_slot above below → (i : ℕ) → i < 4 → i < k → isKey t above i j ≡ false
-  unfolding isKey first_slot hasRole
+  pub not-before : {k : ℕ} → k ≡ first_slot above below → (i : ℕ) → i < 4 → i < k → is_key t above i j ≡ false
+  unfolding is_key first_slot has_role
   not-before {k} e i l m =
-      rw (ne_eqb (role t j) (keyRole above i) (λ q. let f = seek-before (hasRole above below) 4 0 i (eq-eqb _ _ (sym q ∙ sym b)) (omega arith)
+      rw (ne_eqb (role t j) (key_role above i) (λ q. let f = seek_before (has_role above below) 4 0 i (eq-eqb _ _ (sym q ∙ sym b)) (omega arith)
       (omega arith) in absurd (omega arith)))
 
-  pub slot-found : (k : ℕ) → k < 4 → isKey t above k j ≡ true → SlotOf t above j k
-  slot-found k l e =
+  pub slot_found : (k : ℕ) → k < 4 → is_key t above k j ≡ true → SlotOf t above j k
+  slot_found k l e =
       record {
         is = λ i m. elim (ℕ_discrete i k) [
           | yes q ↦ rw (eq-eqb i k q, q) e
-          | no z ↦ other-slot k i l m (λ y. z (sym y)) e ∙ sym (ne_eqb i k z)
+          | no z ↦ other_slot k i l m (λ y. z (sym y)) e ∙ sym (ne_eqb i k z)
         ];
       }
 
-  pub no_slot : {k : ℕ} → ((i : ℕ) → i < 4 → i < k → isKey t above i j ≡ false) → 4 ≤ k → SlotOf t above j k
+  pub no_slot : {k : ℕ} → ((i : ℕ) → i < 4 → i < k → is_key t above i j ≡ false) → 4 ≤ k → SlotOf t above j k
   no_slot {k} f l = record { is = λ i m. f i m (omega arith) ∙ sym (ne_eqb i k (λ q. absurd (omega arith))) }
 
   -- one slot more
-  pub not-up-to : {k : ℕ} → ((i : ℕ) → i < 4 → i < k → isKey t above i j ≡ false) → isKey t above k j ≡ false → (i : ℕ) → i < 4 → i < k + 1
-      → isKey t above i j ≡ false
+  pub not-up-to : {k : ℕ} → ((i : ℕ) → i < 4 → i < k → is_key t above i j ≡ false) → is_key t above k j ≡ false → (i : ℕ) → i < 4 → i < k + 1
+      → is_key t above i j ≡ false
   not-up-to {k} f e i l m =
       elim (ℕ_discrete i k) [
         | yes q ↦ rw q e
@@ -105,11 +105,11 @@ module _ (t : Tree) (above j : ℕ) {below : ℕ} (h : above < 16) (b : below �
       ]
 
 -- node j has the role `below`, and slot k a key of the role r
-module _ (t : Tree) (above k j : ℕ) {key r below : ℕ} (e : key ≡ key_at above k) (f : r ≡ get_or keyRoles key 16) (g : below ≡ role t j) where
-  pub key-off : (r ≡ below → ⊥) → false ≡ isKey t above k j
-  unfolding isKey keyRole
+module _ (t : Tree) (above k j : ℕ) {key r below : ℕ} (e : key ≡ key_at above k) (f : r ≡ get_or key_roles key 16) (g : below ≡ role t j) where
+  pub key-off : (r ≡ below → ⊥) → false ≡ is_key t above k j
+  unfolding is_key key_role
   key-off z = rw (← e, ← f, ← g, ne_eqb below r (λ q. z (sym q)))
 
-  pub key-on : {c : Bool} → r ≡ below → c ≡ spells (name t j) (get_or knownNames key []) → c ≡ isKey t above k j
-  unfolding isKey keyRole keyName
+  pub key-on : {c : Bool} → r ≡ below → c ≡ spells (name t j) (get_or known_names key []) → c ≡ is_key t above k j
+  unfolding is_key key_role key_name
   key-on q h = rw (← e, ← f, ← g, eq-eqb below r (sym q)) h

@@ -10,94 +10,94 @@ use lib.Dec.{eqb, ltb}
 use lib.ListN.{length, get_or, set, length-set}
 use lib.Seq.{get_or-set_same, get_or-set_other}
 use borrow.Author.Tests.{eq-eqb, ne_eqb, eqb-true, lt-ltb, ltb-true}
-use Rattle.model.specs.Lists.{seekFrom}
-use Rattle.model.specs.Image.{Tree, tree_of, nodeCount, parent}
-use Rattle.model.specs.Containment.{role, validated, validatedAs, isChild, child, UserDefinedData}
+use Rattle.model.specs.Lists.{seek_from}
+use Rattle.model.specs.Image.{Tree, tree_of, node_count, parent}
+use Rattle.model.specs.Containment.{role, validated, validated_as, is_child, child, UserDefinedData}
 use Rattle.model.specs.Given.{Sound}
 use Rattle.model.proofs.Logic.{and_first}
-use Rattle.model.proofs.Loops.{seek-start, seek_stop, seek-done}
-use Rattle.model.proofs.Children.{no-child}
-use Rattle.model.proofs.Parents.{parent-lower, lawful-at}
-use Rattle.model.proofs.Validated.{validated-step, validated-root}
-use Rattle.index.specs.Keys.{keyRole, keyName, isKey, SlotOf}
-use Rattle.index.specs.Index.{kind, kindBelow, isSlotChild, slotChild, slot_at, kind_at, put_at, First, Rows, RowBegun, Index}
+use Rattle.model.proofs.Loops.{seek_start, seek_stop, seek_done}
+use Rattle.model.proofs.Children.{no_child}
+use Rattle.model.proofs.Parents.{parent-lower, lawful_at}
+use Rattle.model.proofs.Validated.{validated_step, validated_root}
+use Rattle.index.specs.Keys.{key_role, key_name, is_key, SlotOf}
+use Rattle.index.specs.Index.{kind, kind_below, is_slot_child, slot_child, slot_at, kind_at, put_at, First, Rows, RowBegun, Index}
 
 -- kinds
-pub no_kind : (above role : ℕ) → above ≡ 0 → 0 ≡ kindBelow above role
-unfolding kindBelow
+pub no_kind : (above role : ℕ) → above ≡ 0 → 0 ≡ kind_below above role
+unfolding kind_below
 no_kind above role e = rw e
 
-pub foreign-kind : (above role : ℕ) → above ≡ UserDefinedData → 0 ≡ kindBelow above role
-unfolding kindBelow
-foreign-kind above role e = rw e
+pub foreign_kind : (above role : ℕ) → above ≡ UserDefinedData → 0 ≡ kind_below above role
+unfolding kind_below
+foreign_kind above role e = rw e
 
-pub own-kind : (above role : ℕ) → (above ≡ 0 → ⊥) → (above ≡ UserDefinedData → ⊥) → role ≡ kindBelow above role
-unfolding kindBelow
+pub own-kind : (above role : ℕ) → (above ≡ 0 → ⊥) → (above ≡ UserDefinedData → ⊥) → role ≡ kind_below above role
+unfolding kind_below
 own-kind above role e f = rw (ne_eqb above 0 e, ne_eqb above UserDefinedData f)
 
-pub kind-root : (t : Tree) → 15 ≡ kind t 0
+pub kind_root : (t : Tree) → 15 ≡ kind t 0
 unfolding kind role
-kind-root t = rw (← validated-root t 0 refl)
+kind_root t = rw (← validated_root t 0 refl)
 
 module _ (b : List ℕ) (s : Sound b) where
   -- a validated node has a known label
-  known : (j : ℕ) → j < nodeCount b → validated (tree_of b) j ≡ true → 0 < role (tree_of b) j
+  known : (j : ℕ) → j < node_count b → validated (tree_of b) j ≡ true → 0 < role (tree_of b) j
   unfolding role
   known j h v =
       elim (ℕ_discrete j 0) [
         | yes q ↦ rw q (omega arith)
-        | no z ↦ ltb-true 0 (role (tree_of b) j) (and_first _ _ (and_first _ _ (sym (validated-step b s j h z) ∙ v)))
+        | no z ↦ ltb-true 0 (role (tree_of b) j) (and_first _ _ (and_first _ _ (sym (validated_step b s j h z) ∙ v)))
       ]
 
   -- by whether node j is validated
-  pub kind-validated : (j : ℕ) → j < nodeCount b → ltb 0 (kind (tree_of b) j) ≡ validated (tree_of b) j
+  pub kind-validated : (j : ℕ) → j < node_count b → ltb 0 (kind (tree_of b) j) ≡ validated (tree_of b) j
   unfolding kind
-  kind-validated j h = by-test (validated (tree_of b) j) refl
+  kind-validated j h = by_test (validated (tree_of b) j) refl
     where
-      by-test : (c : Bool) → validated (tree_of b) j ≡ c → ltb 0 (cond c (role (tree_of b) j) 0) ≡ c
-      by-test true e = lt-ltb 0 (role (tree_of b) j) (known j h e)
-      by-test false e = refl
+      by_test : (c : Bool) → validated (tree_of b) j ≡ c → ltb 0 (cond c (role (tree_of b) j) 0) ≡ c
+      by_test true e = lt-ltb 0 (role (tree_of b) j) (known j h e)
+      by_test false e = refl
 
-  pub kind-as : (j r : ℕ) → j < nodeCount b → 0 < r → eqb (kind (tree_of b) j) r ≡ validatedAs (tree_of b) r j
-  unfolding kind validatedAs
-  kind-as j r h k = by-test (validated (tree_of b) j)
+  pub kind_as : (j r : ℕ) → j < node_count b → 0 < r → eqb (kind (tree_of b) j) r ≡ validated_as (tree_of b) r j
+  unfolding kind validated_as
+  kind_as j r h k = by_test (validated (tree_of b) j)
     where
-      by-test : (c : Bool) → eqb (cond c (role (tree_of b) j) 0) r ≡ (eqb (role (tree_of b) j) r && c)
-      by-test true = sym (and-true (eqb (role (tree_of b) j) r))
-      by-test false = ne_eqb 0 r (λ z. absurd (omega arith)) ∙ sym (and-false (eqb (role (tree_of b) j) r))
+      by_test : (c : Bool) → eqb (cond c (role (tree_of b) j) 0) r ≡ (eqb (role (tree_of b) j) r && c)
+      by_test true = sym (and-true (eqb (role (tree_of b) j) r))
+      by_test false = ne_eqb 0 r (λ z. absurd (omega arith)) ∙ sym (and-false (eqb (role (tree_of b) j) r))
 
-  pub lower : (j : ℕ) → j < nodeCount b → 0 < j → parent (tree_of b) j < j
-  lower j h z = parent-lower (tree_of b) j (lawful-at b s j h) (λ q. absurd (omega arith))
+  pub lower : (j : ℕ) → j < node_count b → 0 < j → parent (tree_of b) j < j
+  lower j h z = parent-lower (tree_of b) j (lawful_at b s j h) (λ q. absurd (omega arith))
 
   -- the parent decides
-  kind-step : (j : ℕ) → j < nodeCount b → 0 < j → kindBelow (kind (tree_of b) (parent (tree_of b) j)) (role (tree_of b) j) ≡ kind (tree_of b) j
-  unfolding kind kindBelow
-  kind-step j h z =
+  kind_step : (j : ℕ) → j < node_count b → 0 < j → kind_below (kind (tree_of b) (parent (tree_of b) j)) (role (tree_of b) j) ≡ kind (tree_of b) j
+  unfolding kind kind_below
+  kind_step j h z =
       let t = tree_of b in
       let p = parent t j in
       let l = lower j h z in
-      rw (validated-step b s j h (λ q. absurd (omega arith)))
-      (by-parent (validated t p) (role t p) (role t j) (λ v. known p (omega arith) v))
+      rw (validated_step b s j h (λ q. absurd (omega arith)))
+      (by_parent (validated t p) (role t p) (role t j) (λ v. known p (omega arith) v))
     where
-      by-role : (r : ℕ) (c : Bool) → cond (false || c) 0 r ≡ cond (ltb 0 r && not c && true) r 0
-      by-role r true = rw (and-false (ltb 0 r))
-      by-role zero false = refl
-      by-role (suc r) false = rw (lt-ltb 0 (suc r) (omega arith))
+      by_role : (r : ℕ) (c : Bool) → cond (false || c) 0 r ≡ cond (ltb 0 r && not c && true) r 0
+      by_role r true = rw (and-false (ltb 0 r))
+      by_role zero false = refl
+      by_role (suc r) false = rw (lt-ltb 0 (suc r) (omega arith))
 
-      by-parent : (v : Bool) (a r : ℕ) → (v ≡ true → 0 < a)
+      by_parent : (v : Bool) (a r : ℕ) → (v ≡ true → 0 < a)
           → cond (eqb (cond v a 0) 0 || eqb (cond v a 0) UserDefinedData) 0 r ≡ cond (ltb 0 r && not (eqb a UserDefinedData) && v) r 0
-      by-parent true a r k = let y = k refl in rw (ne_eqb a 0 (λ q. absurd (omega arith))) (by-role r (eqb a UserDefinedData))
-      by-parent false a r k = rw (and-false (ltb 0 r && not (eqb a UserDefinedData)))
+      by_parent true a r k = let y = k refl in rw (ne_eqb a 0 (λ q. absurd (omega arith))) (by_role r (eqb a UserDefinedData))
+      by_parent false a r k = rw (and-false (ltb 0 r && not (eqb a UserDefinedData)))
 
-  pub kind-by : (j : ℕ) {up above r k : ℕ} → j < nodeCount b → 0 < j → up ≡ parent (tree_of b) j → above ≡ kind (tree_of b) up → r ≡ role (tree_of b) j
-      → k ≡ kindBelow above r
+  pub kind_by : (j : ℕ) {up above r k : ℕ} → j < node_count b → 0 < j → up ≡ parent (tree_of b) j → above ≡ kind (tree_of b) up → r ≡ role (tree_of b) j
+      → k ≡ kind_below above r
       → k ≡ kind (tree_of b) j
-  kind-by j h z e f g i = i ∙ rw (f, e, g) (kind-step j h z)
+  kind_by j h z e f g i = i ∙ rw (f, e, g) (kind_step j h z)
 
 -- the first where a test holds, one number more
 module _ {p : ℕ → Bool} {n v : ℕ} (f : First p n v) where
-  first-skip : p n ≡ false → First p (n + 1) v
-  first-skip e =
+  first_skip : p n ≡ false → First p (n + 1) v
+  first_skip e =
       record {
         inside = λ z. let l = f.inside z in omega arith;
         at = f.at;
@@ -107,16 +107,16 @@ module _ {p : ℕ → Bool} {n v : ℕ} (f : First p n v) where
         ];
       }
 
-  first-stays : 0 < v → First p (n + 1) v
-  first-stays z =
+  first_stays : 0 < v → First p (n + 1) v
+  first_stays z =
       record {
         inside = λ y. let l = f.inside z in omega arith;
         at = f.at;
         before = λ j l k. let m = k z in let o = f.inside z in f.before j (omega arith) k;
       }
 
-  first-put : v ≡ 0 → 0 < n → p n ≡ true → First p (n + 1) n
-  first-put q y e =
+  first_put : v ≡ 0 → 0 < n → p n ≡ true → First p (n + 1) n
+  first_put q y e =
       record {
         inside = λ z. omega arith;
         at = λ z. e;
@@ -124,50 +124,50 @@ module _ {p : ℕ → Bool} {n v : ℕ} (f : First p n v) where
       }
 
   -- the search of the model
-  pub first_found : 0 < v → v ≡ seekFrom p n 0
+  pub first_found : 0 < v → v ≡ seek_from p n 0
   first_found z =
       let l = f.inside z in
-      seek_stop (seek-start p n v (omega arith) (λ j h. f.before j (omega arith) (λ y. h))) l (f.at z)
+      seek_stop (seek_start p n v (omega arith) (λ j h. f.before j (omega arith) (λ y. h))) l (f.at z)
 
-  pub first-none : v ≡ 0 → n ≡ seekFrom p n 0
-  first-none z = seek-done (seek-start p n n (omega arith) (λ j h. f.before j h (λ y. absurd (omega arith)))) (omega arith)
+  pub first-none : v ≡ 0 → n ≡ seek_from p n 0
+  first-none z = seek_done (seek_start p n n (omega arith) (λ j h. f.before j h (λ y. absurd (omega arith)))) (omega arith)
 
 -- the kind of a validated node is its role
 pub kind-role : (t : Tree) (j : ℕ) {r : ℕ} → validated t j ≡ true → role t j ≡ r → kind t j ≡ r
 unfolding kind
 kind-role t j v e = rw v e
 
-pub kind-parts : (t : Tree) (j : ℕ) {r : ℕ} → kind t j ≡ r → 0 < r → (validated t j ≡ true) × (role t j ≡ r)
+pub kind_parts : (t : Tree) (j : ℕ) {r : ℕ} → kind t j ≡ r → 0 < r → (validated t j ≡ true) × (role t j ≡ r)
 unfolding kind
-kind-parts t j {r} e h = by-test (validated t j) e
+kind_parts t j {r} e h = by_test (validated t j) e
   where
-    by-test : (c : Bool) → cond c (role t j) 0 ≡ r → (c ≡ true) × (role t j ≡ r)
-    by-test true q = (refl, q)
-    by-test false q = absurd (omega arith)
+    by_test : (c : Bool) → cond c (role t j) 0 ≡ r → (c ≡ true) × (role t j ≡ r)
+    by_test true q = (refl, q)
+    by_test false q = absurd (omega arith)
 
 -- a slot tells the model's look-up
-module _ {b index : List ℕ} (x : Index b index) (p k : ℕ) (h : p < nodeCount b) (l : k < 4) where
-  pub slot-found : (slot_at index p k ≡ 0 → ⊥) → (slot_at index p k ≡ slotChild (tree_of b) p k) × (slot_at index p k ≤ nodeCount b)
-  unfolding slotChild isSlotChild child tree_of
-  slot-found z =
+module _ {b index : List ℕ} (x : Index b index) (p k : ℕ) (h : p < node_count b) (l : k < 4) where
+  pub slot_found : (slot_at index p k ≡ 0 → ⊥) → (slot_at index p k ≡ slot_child (tree_of b) p k) × (slot_at index p k ≤ node_count b)
+  unfolding slot_child is_slot_child child tree_of
+  slot_found z =
       let f = x.rows.slots p k h l in
       let y : 0 < slot_at index p k = omega (arith, z) in
       let u = f.inside y in
       (first_found f y, omega arith)
 
-  pub slot-empty : slot_at index p k ≡ 0 → nodeCount b ≡ slotChild (tree_of b) p k
-  unfolding slotChild isSlotChild child tree_of
-  slot-empty e = first-none (x.rows.slots p k h l) e
+  pub slot_empty : slot_at index p k ≡ 0 → node_count b ≡ slot_child (tree_of b) p k
+  unfolding slot_child is_slot_child child tree_of
+  slot_empty e = first-none (x.rows.slots p k h l) e
 
 -- which child a slot of a node of a kind is for
-pub slot-child : (t : Tree) (p k : ℕ) {r : ℕ} → kind t p ≡ r → slotChild t p k ≡ child t p (keyRole r k) (keyName r k)
-unfolding slotChild
-slot-child t p k e = rw e
+pub slot_child_lem : (t : Tree) (p k : ℕ) {r : ℕ} → kind t p ≡ r → slot_child t p k ≡ child t p (key_role r k) (key_name r k)
+unfolding slot_child
+slot_child_lem t p k e = rw e
 
 -- four writes
-pub row-begun : (s : List ℕ) (j v : ℕ) → 4 * j + 4 ≤ length s
+pub row_begun : (s : List ℕ) (j v : ℕ) → 4 * j + 4 ≤ length s
     → RowBegun s j v (set (set (set (set s (4 * j) (4096 * v)) (4 * j + 1) 0) (4 * j + 2) 0) (4 * j + 3) 0)
-row-begun s j v h =
+row_begun s j v h =
     let a = 4 * j in
     let s1 = set s a (4096 * v) in
     let s2 = set s1 (a + 1) 0 in
@@ -201,19 +201,19 @@ row-begun s j v h =
     apart i (inr w) k l q = absurd (omega arith)
 
 -- no row is begun
-pub no_rows : (b index : List ℕ) → 4 * nodeCount b ≤ length index → Rows b index 0 0
+pub no_rows : (b index : List ℕ) → 4 * node_count b ≤ length index → Rows b index 0 0
 no_rows b index h = record { long = h; kinds = λ j l. absurd (omega arith); few = λ j l. absurd (omega arith); slots = λ p k l m. absurd (omega arith) }
 
 -- no node before j is a child of node j
-no-children : {b : List ℕ} (j k v : ℕ) → Sound b → j < nodeCount b → v ≡ 0 → First (isSlotChild (tree_of b) j k) j v
-unfolding isSlotChild isChild
-no-children {b} j k v s h q =
-    record { inside = λ y. absurd (omega arith); at = λ y. absurd (omega arith); before = λ i l m. rw (no-child b s j h i (omega arith)) }
+no_children : {b : List ℕ} (j k v : ℕ) → Sound b → j < node_count b → v ≡ 0 → First (is_slot_child (tree_of b) j k) j v
+unfolding is_slot_child is_child
+no_children {b} j k v s h q =
+    record { inside = λ y. absurd (omega arith); at = λ y. absurd (omega arith); before = λ i l m. rw (no_child b s j h i (omega arith)) }
 
 -- row j begun, after those before it: no node up to j is its child
-pub begin-row : {b index index' : List ℕ} {j v : ℕ} → Sound b → Rows b index j j → RowBegun index j v index' → j < nodeCount b → v ≡ kind (tree_of b) j → v < 16
+pub begin_row : {b index index' : List ℕ} {j v : ℕ} → Sound b → Rows b index j j → RowBegun index j v index' → j < node_count b → v ≡ kind (tree_of b) j → v < 16
     → Rows b index' (j + 1) j
-begin-row {b} {index} {index'} {j} {v} s t r h e f =
+begin_row {b} {index} {index'} {j} {v} s t r h e f =
     let z : 4096 * v / 4096 ≡ v = omega arith in
     let same : (i k : ℕ) → i < j → k < 4 → get_or index' (4 * i + k) 0 ≡ get_or index (4 * i + k) 0 = λ i k l m. r.others (4 * i + k) (inl (omega arith)) in
     record {
@@ -227,7 +227,7 @@ begin-row {b} {index} {index'} {j} {v} s t r h e f =
         | no n ↦ let l : i < j = omega (arith, n) in rw (same i 0 l (omega arith)) (t.few i l)
       ];
       slots = λ p k m l. elim (ℕ_discrete p j) [
-        | yes q ↦ rw q (no-children j k _ s h (empty k l))
+        | yes q ↦ rw q (no_children j k _ s h (empty k l))
         | no n ↦ let o : p < j = omega (arith, n) in rw (same p k o l) (t.slots p k o l)
       ];
     }
@@ -237,22 +237,22 @@ begin-row {b} {index} {index'} {j} {v} s t r h e f =
     empty (suc k) l = rw (r.empty (suc k) (omega arith) l) (omega arith)
 
 -- the root is nobody's child
-pub root-row : {b index : List ℕ} → Sound b → 1 ≤ nodeCount b → Rows b index 1 0 → Rows b index 1 1
-unfolding isSlotChild isChild
-root-row {b} s h t =
+pub root_row : {b index : List ℕ} → Sound b → 1 ≤ node_count b → Rows b index 1 0 → Rows b index 1 1
+unfolding is_slot_child is_child
+root_row {b} s h t =
     record {
       long = t.long;
       kinds = t.kinds;
       few = t.few;
-      slots = λ p k l m. first-skip (t.slots p k l m)
-          (rw (no-child b s p (omega arith) 0 (omega arith)));
+      slots = λ p k l m. first_skip (t.slots p k l m)
+          (rw (no_child b s p (omega arith) 0 (omega arith)));
     }
 
 -- node j, whose row is begun, and its parent up, of the kind above: it is for slot r
-module _ {b index : List ℕ} {j up above r : ℕ} (s : Sound b) (t : Rows b index (j + 1) j) (z : 0 < j) (h : j < nodeCount b) (e : up ≡ parent (tree_of b) j)
+module _ {b index : List ℕ} {j up above r : ℕ} (s : Sound b) (t : Rows b index (j + 1) j) (z : 0 < j) (h : j < node_count b) (e : up ≡ parent (tree_of b) j)
     (a : above ≡ kind (tree_of b) up) (o : SlotOf (tree_of b) above j r) where
-  looks : (p k : ℕ) → k < 4 → isSlotChild (tree_of b) p k j ≡ (eqb up p && eqb k r)
-  unfolding isSlotChild isChild isKey
+  looks : (p k : ℕ) → k < 4 → is_slot_child (tree_of b) p k j ≡ (eqb up p && eqb k r)
+  unfolding is_slot_child is_child is_key
   looks p k l =
       elim (ℕ_discrete up p) [
         | yes q ↦ rw (← e, eq-eqb up p q, ← q, ← a) (o.is k l)
@@ -260,47 +260,47 @@ module _ {b index : List ℕ} {j up above r : ℕ} (s : Sound b) (t : Rows b ind
       ]
 
   -- another slot stays
-  stays : (p k : ℕ) → p < j + 1 → k < 4 → ((up ≡ p) × (k ≡ r) → ⊥) → First (isSlotChild (tree_of b) p k) (j + 1) (slot_at index p k)
-  stays p k l m n = first-skip (t.slots p k l m) (looks p k m ∙ neither (eqb up p) (eqb k r) refl refl)
+  stays : (p k : ℕ) → p < j + 1 → k < 4 → ((up ≡ p) × (k ≡ r) → ⊥) → First (is_slot_child (tree_of b) p k) (j + 1) (slot_at index p k)
+  stays p k l m n = first_skip (t.slots p k l m) (looks p k m ∙ neither (eqb up p) (eqb k r) refl refl)
     where
       neither : (x y : Bool) → eqb up p ≡ x → eqb k r ≡ y → (x && y) ≡ false
       neither true true q w = absurd (n (eqb-true up p q, eqb-true k r w))
       neither true false q w = refl
       neither false y q w = refl
 
-  pub no-mark : 4 ≤ r → Rows b index (j + 1) (j + 1)
-  no-mark g = record { long = t.long; kinds = t.kinds; few = t.few; slots = λ p k l m. stays p k l m (λ q. absurd (omega (arith, q))) }
+  pub no_mark : 4 ≤ r → Rows b index (j + 1) (j + 1)
+  no_mark g = record { long = t.long; kinds = t.kinds; few = t.few; slots = λ p k l m. stays p k l m (λ q. absurd (omega (arith, q))) }
 
   up-lower : up < j
   up-lower = let l = lower b s j h z in omega arith
 
-  pub mark-room : r < 4 → 4 * up + r < length index
-  mark-room g = let u = up-lower in let l = t.long in omega arith
+  pub mark_room : r < 4 → 4 * up + r < length index
+  mark_room g = let u = up-lower in let l = t.long in omega arith
 
-  is-child : r < 4 → isSlotChild (tree_of b) up r j ≡ true
+  is-child : r < 4 → is_slot_child (tree_of b) up r j ≡ true
   is-child g = looks up r g ∙ rw (eq-eqb up up refl, eq-eqb r r refl)
 
   -- the slot is filled: it stays
-  mark-kept : r < 4 → (slot_at index up r ≡ 0 → ⊥) → Rows b index (j + 1) (j + 1)
-  mark-kept g y =
+  mark_kept : r < 4 → (slot_at index up r ≡ 0 → ⊥) → Rows b index (j + 1) (j + 1)
+  mark_kept g y =
       record {
         long = t.long;
         kinds = t.kinds;
         few = t.few;
         slots = λ p k l m. elim (ℕ_discrete (4 * p + k) (4 * up + r)) [
-          | yes q ↦ first-stays (t.slots p k l m) (rw q (omega (arith, y)))
+          | yes q ↦ first_stays (t.slots p k l m) (rw q (omega (arith, y)))
           | no n ↦ stays p k l m (λ q. n (omega (arith, q)))
         ];
       }
 
   -- the slot is empty: the kind above it stays
-  mark-put : r < 4 → slot_at index up r ≡ 0 → Rows b (set index (4 * up + r) (get_or index (4 * up + r) 0 + j)) (j + 1) (j + 1)
-  mark-put g y =
+  mark_put : r < 4 → slot_at index up r ≡ 0 → Rows b (set index (4 * up + r) (get_or index (4 * up + r) 0 + j)) (j + 1) (j + 1)
+  mark_put g y =
       let few = s.laid.few in
       let at = 4 * up + r in
       let old = get_or index at 0 in
       let new = set index at (old + j) in
-      let here : get_or new at 0 ≡ old + j = get_or-set_same index at (old + j) 0 (mark-room g) in
+      let here : get_or new at 0 ≡ old + j = get_or-set_same index at (old + j) 0 (mark_room g) in
       let slot : (old + j) % 4096 ≡ j = omega arith in
       let kind-stays : (i : ℕ) → kind_at new i ≡ kind_at index i =
       λ i. elim (ℕ_discrete (4 * i + 0) at) [
@@ -315,7 +315,7 @@ module _ {b index : List ℕ} {j up above r : ℕ} (s : Sound b) (t : Rows b ind
           | yes q ↦
               let ep : p ≡ up = omega arith in
               let ek : k ≡ r = omega arith in
-              rw (ep, ek, here, slot) (first-put (t.slots up r (let u = up-lower in omega arith) g) y z (is-child g))
+              rw (ep, ek, here, slot) (first_put (t.slots up r (let u = up-lower in omega arith) g) y z (is-child g))
           | no n ↦ rw (get_or-set_other index at (4 * p + k) (old + j) 0 n) (stays p k l m (λ q. n (omega (arith, q))))
         ];
       }
@@ -323,6 +323,6 @@ module _ {b index : List ℕ} {j up above r : ℕ} (s : Sound b) (t : Rows b ind
   pub mark : r < 4 → Rows b (put_at index (4 * up + r) j) (j + 1) (j + 1)
   mark g =
       elim (ℕ_discrete (slot_at index up r) 0) [
-        | yes y ↦ rw (eq-eqb (slot_at index up r) 0 y) (mark-put g y)
-        | no y ↦ rw (ne_eqb (slot_at index up r) 0 y) (mark-kept g y)
+        | yes y ↦ rw (eq-eqb (slot_at index up r) 0 y) (mark_put g y)
+        | no y ↦ rw (ne_eqb (slot_at index up r) 0 y) (mark_kept g y)
       ]

@@ -1,24 +1,24 @@
--- The index of the tree: what each node is validated as, and each node's looked-up children, in one table that one pass over the nodes fills.
+-- The index of the tree: what each node is validated as, and each node's looked_up children, in one table that one pass over the nodes fills.
 use Rattle.std.specs.Prelude.{ℕ, ◌+◌, ◌*◌, ◌/◌, ◌%◌, ◌≤◌, ◌<◌, ◌≡◌, ◌⊎◌, Bool, true, false, cond, ◌||◌, List, eqb, length, get_or, set}
-use Rattle.model.specs.Image.{Tree, tree_of, nodeCount}
+use Rattle.model.specs.Image.{Tree, tree_of, node_count}
 use Rattle.model.specs.Given.{Sound}
-use Rattle.model.specs.Containment.{role, validated, isChild, child, UserDefinedData}
-use Rattle.index.specs.Keys.{keyRole, keyName}
+use Rattle.model.specs.Containment.{role, validated, is_child, child, UserDefinedData}
+use Rattle.index.specs.Keys.{key_role, key_name}
 
 -- the kind of a node: its role where it is validated, else 0
 unfoldable pub kind : Tree → ℕ → ℕ
 kind t j = cond (validated t j) (role t j) 0
 
 -- the kind of a node, by its parent's and its own role
-unfoldable pub kindBelow : ℕ → ℕ → ℕ
-kindBelow above role = cond (eqb above 0 || eqb above UserDefinedData) 0 role
+unfoldable pub kind_below : ℕ → ℕ → ℕ
+kind_below above role = cond (eqb above 0 || eqb above UserDefinedData) 0 role
 
 -- node j is the child of node p that its slot k is for; the first of them, the node count where there is none
-unfoldable pub isSlotChild : Tree → ℕ → ℕ → ℕ → Bool
-isSlotChild t p k j = isChild t p (keyRole (kind t p) k) (keyName (kind t p) k) j
+unfoldable pub is_slot_child : Tree → ℕ → ℕ → ℕ → Bool
+is_slot_child t p k j = is_child t p (key_role (kind t p) k) (key_name (kind t p) k) j
 
-unfoldable pub slotChild : Tree → ℕ → ℕ → ℕ
-slotChild t p k = child t p (keyRole (kind t p) k) (keyName (kind t p) k)
+unfoldable pub slot_child : Tree → ℕ → ℕ → ℕ
+slot_child t p k = child t p (key_role (kind t p) k) (key_name (kind t p) k)
 
 -- four numbers a node: the node in each slot, 0 for none (node 0 is nobody's child); above the 12 bits of the first stands the kind
 abbrev pub slot_at : List ℕ → ℕ → ℕ → ℕ
@@ -39,10 +39,10 @@ pub record First (p : ℕ → Bool) (n v : ℕ) : Type 0 where
 
 -- the rows of the nodes before m, with the children among the nodes before n
 pub record Rows (b index : List ℕ) (m n : ℕ) : Type 0 where
-  pub long : 4 * nodeCount b ≤ length index
+  pub long : 4 * node_count b ≤ length index
   pub kinds : (j : ℕ) → j < m → kind_at index j ≡ kind (tree_of b) j
   pub few : (j : ℕ) → j < m → kind_at index j < 16
-  pub slots : (p k : ℕ) → p < m → k < 4 → First (isSlotChild (tree_of b) p k) n (slot_at index p k)
+  pub slots : (p k : ℕ) → p < m → k < 4 → First (is_slot_child (tree_of b) p k) n (slot_at index p k)
 
 -- a row that is begun: the kind, and no child yet; all others are as they were
 pub record RowBegun (index : List ℕ) (j kind : ℕ) (index' : List ℕ) : Type 0 where
@@ -54,4 +54,4 @@ pub record RowBegun (index : List ℕ) (j kind : ℕ) (index' : List ℕ) : Type
 -- the index of an image in which rules 1 to 18 hold
 pub record Index (b index : List ℕ) : Type 0 where
   pub sound : Sound b
-  pub rows : Rows b index (nodeCount b) (nodeCount b)
+  pub rows : Rows b index (node_count b) (node_count b)

@@ -1,10 +1,10 @@
 // Which slot of its parent a node is for.
 ghost use Rattle.std.specs.Prelude.{◌≡◌, ◌≤◌, ◌<◌, get_or};
-ghost use Rattle.model.specs.Image.{tree_of, nodeCount};
+ghost use Rattle.model.specs.Image.{tree_of, node_count};
 ghost use Rattle.model.specs.Bounds.{Laid};
 ghost use Rattle.model.specs.Containment.{role};
 ghost use Rattle.labels.specs.Cells.{Digits};
-ghost use Rattle.index.specs.Keys.{keyRoles, key_at, isKey, first_slot, SlotOf};
+ghost use Rattle.index.specs.Keys.{key_roles, key_at, is_key, first_slot, SlotOf};
 
 use labels::{names, roles};
 
@@ -38,7 +38,7 @@ fn key_at(above: u64, k: usize) -> usize
 // The role that goes with a key.
 fn key_role(key: usize) -> u64
     requires { key ≤ 10 }
-    ensures { result ≡ get_or keyRoles key 16 }
+    ensures { result ≡ get_or key_roles key 16 }
 {
     match key {
         names::ZONE_TYPE => roles::ZONE_TYPE,
@@ -77,9 +77,9 @@ fn first_slot(above: u64, below: u64) -> usize
 
 // Is node j, of this role, what slot k is for, under a parent of this kind?
 fn is_key(image: &[u8], above: u64, below: u64, k: usize, j: usize) -> bool
-    requires laid { (Laid image.now × (j < nodeCount image.now)) × ((above < 16) × (k < 4)) }
+    requires laid { (Laid image.now × (j < node_count image.now)) × ((above < 16) × (k < 4)) }
     requires below_value { (below ≡ role (tree_of image.now) j) × (below < 16) }
-    ensures { result ≡ isKey (tree_of image.now) above k j }
+    ensures { result ≡ is_key (tree_of image.now) above k j }
 {
     let key = key_at(above, k);
     if key_role(key) != below {
@@ -90,7 +90,7 @@ fn is_key(image: &[u8], above: u64, below: u64, k: usize, j: usize) -> bool
 
 // The slot that node j, of this role, is for, under a parent of this kind; 4 where it is for none. Few nodes come to a comparison of names.
 pub fn slot_of(image: &[u8], above: u64, below: u64, j: usize) -> usize
-    requires laid { (Laid image.now × (j < nodeCount image.now)) × (above < 16) }
+    requires laid { (Laid image.now × (j < node_count image.now)) × (above < 16) }
     requires below_value { (below ≡ role (tree_of image.now) j) × (below < 16) }
     ensures { SlotOf (tree_of image.now) above j result }
 {

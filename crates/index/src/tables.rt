@@ -1,11 +1,11 @@
-// The table of the index, filled by one pass over the nodes, and asked: four numbers a node, its looked-up children, with its kind above the first.
+// The table of the index, filled by one pass over the nodes, and asked: four numbers a node, its looked_up children, with its kind above the first.
 ghost use Rattle.std.specs.Prelude.{◌≡◌, true, ◌⊎◌, ◌+◌, ◌*◌, ◌≤◌, ◌<◌, length};
-ghost use Rattle.model.specs.Image.{tree_of, nodeCount};
+ghost use Rattle.model.specs.Image.{tree_of, node_count};
 ghost use Rattle.model.specs.Given.{Sound};
 ghost use Rattle.model.specs.Bytes.{text};
-ghost use Rattle.model.specs.Containment.{role, validated, validatedAs, isZone, sectionOf, child};
+ghost use Rattle.model.specs.Containment.{role, validated, validated_as, is_zone, section_of, child};
 ghost use Rattle.model.specs.Containment.{Zone, ZoneType, GridCoordinates, FlowSolution, Elements, IndexRange, Rind, GridLocation, DataArray, IndexArray};
-ghost use Rattle.index.specs.Index.{kind, kindBelow, kind_at, put_at, slotChild, Rows, RowBegun, Index};
+ghost use Rattle.index.specs.Index.{kind, kind_below, kind_at, put_at, slot_child, Rows, RowBegun, Index};
 
 use super::keys::{WIDTH, slot_of};
 use labels::roles;
@@ -40,7 +40,7 @@ const PARENTS: usize = 3;
 // What a node is validated as, by its parent's kind and its own role.
 fn kind_below(above: u64, role: u64) -> u64
     requires { role < 16 }
-    ensures { (result ≡ kindBelow above role) × (result < 16) }
+    ensures { (result ≡ kind_below above role) × (result < 16) }
 {
     if above == 0 {
         return 0;
@@ -83,7 +83,7 @@ fn put(index: &mut [u16], at: usize, j: usize)
 
 // Node j, after the nodes before it: its row, and its parent's slot where it is the first for it.
 fn mark_node(image: &[u8], index: &mut [u16], j: usize)
-    requires sound { Sound image.now × ((0 < j) × (j < nodeCount image.now)) }
+    requires sound { Sound image.now × ((0 < j) × (j < node_count image.now)) }
     requires rows { Rows image.now index.old j j }
     ensures { Rows image.now index.new (j + 1) (j + 1) }
 {
@@ -113,7 +113,7 @@ pub fn build(image: &[u8], index: &mut [u16])
 
 // The kind of node i: its role where it is validated, else 0.
 pub fn kind_of(image: &[u8], index: &[u16], i: usize) -> u64
-    requires { Index image.now index.now × (i < nodeCount image.now) }
+    requires { Index image.now index.now × (i < node_count image.now) }
     ensures { (result ≡ kind (tree_of image.now) i) × (result < 16) }
 {
     row_kind(index, i)
@@ -121,7 +121,7 @@ pub fn kind_of(image: &[u8], index: &[u16], i: usize) -> u64
 
 // The role of a validated node.
 pub fn role_of(image: &[u8], index: &[u16], i: usize) -> u64
-    requires index { Index image.now index.now × (i < nodeCount image.now) }
+    requires index { Index image.now index.now × (i < node_count image.now) }
     requires i_value { validated (tree_of image.now) i ≡ true }
     ensures { (result ≡ role (tree_of image.now) i) × (result < 16) }
 {
@@ -130,7 +130,7 @@ pub fn role_of(image: &[u8], index: &[u16], i: usize) -> u64
 
 // Is node i validated?
 pub fn is_validated(image: &[u8], index: &[u16], i: usize) -> bool
-    requires { Index image.now index.now × (i < nodeCount image.now) }
+    requires { Index image.now index.now × (i < node_count image.now) }
     ensures { result ≡ validated (tree_of image.now) i }
 {
     0 < kind_of(image, index, i)
@@ -138,8 +138,8 @@ pub fn is_validated(image: &[u8], index: &[u16], i: usize) -> bool
 
 // Is node i validated as a node of this role?
 pub fn validated_as(image: &[u8], index: &[u16], role: u64, i: usize) -> bool
-    requires { (Index image.now index.now × (i < nodeCount image.now)) × (0 < role) }
-    ensures { result ≡ validatedAs (tree_of image.now) role i }
+    requires { (Index image.now index.now × (i < node_count image.now)) × (0 < role) }
+    ensures { result ≡ validated_as (tree_of image.now) role i }
 {
     kind_of(image, index, i) == role
 }
@@ -147,7 +147,7 @@ pub fn validated_as(image: &[u8], index: &[u16], role: u64, i: usize) -> bool
 // Is there a validated zone of this number?
 pub fn is_zone(image: &[u8], index: &[u16], z: u64) -> bool
     requires { Index image.now index.now }
-    ensures { result ≡ isZone (tree_of image.now) z }
+    ensures { result ≡ is_zone (tree_of image.now) z }
 {
     if z < labels::node_count(image) as u64 {
         validated_as(image, index, roles::ZONE, z as usize)
@@ -158,8 +158,8 @@ pub fn is_zone(image: &[u8], index: &[u16], z: u64) -> bool
 
 // Is node s a section of node z: its validated Elements_t child?
 pub fn section_of(image: &[u8], index: &[u16], z: usize, s: usize) -> bool
-    requires { Index image.now index.now × (s < nodeCount image.now) }
-    ensures { result ≡ sectionOf (tree_of image.now) z s }
+    requires { Index image.now index.now × (s < node_count image.now) }
+    ensures { result ≡ section_of (tree_of image.now) z s }
 {
     if records::parent_of(image, s) != z {
         return false;
@@ -169,8 +169,8 @@ pub fn section_of(image: &[u8], index: &[u16], z: usize, s: usize) -> bool
 
 // The child of node p that its slot k is for; the node count where there is none.
 fn look_up(image: &[u8], index: &[u16], p: usize, k: usize) -> usize
-    requires { Index image.now index.now × ((p < nodeCount image.now) × (k < 4)) }
-    ensures { (result ≡ slotChild (tree_of image.now) p k) × (result ≤ nodeCount image.now) }
+    requires { Index image.now index.now × ((p < node_count image.now) × (k < 4)) }
+    ensures { (result ≡ slot_child (tree_of image.now) p k) × (result ≤ node_count image.now) }
 {
     let j = index[WIDTH * p + k] % KIND;
     if j == 0 {
@@ -181,81 +181,81 @@ fn look_up(image: &[u8], index: &[u16], p: usize, k: usize) -> usize
 
 // The ZoneType of a zone.
 pub fn zone_type(image: &[u8], index: &[u16], p: usize) -> usize
-    requires index { Index image.now index.now × (p < nodeCount image.now) }
+    requires index { Index image.now index.now × (p < node_count image.now) }
     requires p_value { kind (tree_of image.now) p ≡ Zone }
-    ensures { (result ≡ child (tree_of image.now) p ZoneType (text "ZoneType")) × (result ≤ nodeCount image.now) }
+    ensures { (result ≡ child (tree_of image.now) p ZoneType (text "ZoneType")) × (result ≤ node_count image.now) }
 {
     look_up(image, index, p, ZONE_TYPE)
 }
 
 // The ElementRange of a section.
 pub fn range(image: &[u8], index: &[u16], p: usize) -> usize
-    requires index { Index image.now index.now × (p < nodeCount image.now) }
+    requires index { Index image.now index.now × (p < node_count image.now) }
     requires p_value { kind (tree_of image.now) p ≡ Elements }
-    ensures { (result ≡ child (tree_of image.now) p IndexRange (text "ElementRange")) × (result ≤ nodeCount image.now) }
+    ensures { (result ≡ child (tree_of image.now) p IndexRange (text "ElementRange")) × (result ≤ node_count image.now) }
 {
     look_up(image, index, p, RANGE)
 }
 
 // The ElementConnectivity of a section.
 pub fn connectivity(image: &[u8], index: &[u16], p: usize) -> usize
-    requires index { Index image.now index.now × (p < nodeCount image.now) }
+    requires index { Index image.now index.now × (p < node_count image.now) }
     requires p_value { kind (tree_of image.now) p ≡ Elements }
-    ensures { (result ≡ child (tree_of image.now) p DataArray (text "ElementConnectivity")) × (result ≤ nodeCount image.now) }
+    ensures { (result ≡ child (tree_of image.now) p DataArray (text "ElementConnectivity")) × (result ≤ node_count image.now) }
 {
     look_up(image, index, p, CONNECTIVITY)
 }
 
 // The ElementStartOffset of a section.
 pub fn offsets(image: &[u8], index: &[u16], p: usize) -> usize
-    requires index { Index image.now index.now × (p < nodeCount image.now) }
+    requires index { Index image.now index.now × (p < node_count image.now) }
     requires p_value { kind (tree_of image.now) p ≡ Elements }
-    ensures { (result ≡ child (tree_of image.now) p DataArray (text "ElementStartOffset")) × (result ≤ nodeCount image.now) }
+    ensures { (result ≡ child (tree_of image.now) p DataArray (text "ElementStartOffset")) × (result ≤ node_count image.now) }
 {
     look_up(image, index, p, OFFSETS)
 }
 
 // The ParentElements of a section.
 pub fn parents(image: &[u8], index: &[u16], p: usize) -> usize
-    requires index { Index image.now index.now × (p < nodeCount image.now) }
+    requires index { Index image.now index.now × (p < node_count image.now) }
     requires p_value { kind (tree_of image.now) p ≡ Elements }
-    ensures { (result ≡ child (tree_of image.now) p DataArray (text "ParentElements")) × (result ≤ nodeCount image.now) }
+    ensures { (result ≡ child (tree_of image.now) p DataArray (text "ParentElements")) × (result ≤ node_count image.now) }
 {
     look_up(image, index, p, PARENTS)
 }
 
 // The GridLocation of a flow solution.
 pub fn location(image: &[u8], index: &[u16], p: usize) -> usize
-    requires index { Index image.now index.now × (p < nodeCount image.now) }
+    requires index { Index image.now index.now × (p < node_count image.now) }
     requires p_value { kind (tree_of image.now) p ≡ FlowSolution }
-    ensures { (result ≡ child (tree_of image.now) p GridLocation (text "GridLocation")) × (result ≤ nodeCount image.now) }
+    ensures { (result ≡ child (tree_of image.now) p GridLocation (text "GridLocation")) × (result ≤ node_count image.now) }
 {
     look_up(image, index, p, LOCATION)
 }
 
 // The PointRange of a flow solution.
 pub fn point_range(image: &[u8], index: &[u16], p: usize) -> usize
-    requires index { Index image.now index.now × (p < nodeCount image.now) }
+    requires index { Index image.now index.now × (p < node_count image.now) }
     requires p_value { kind (tree_of image.now) p ≡ FlowSolution }
-    ensures { (result ≡ child (tree_of image.now) p IndexRange (text "PointRange")) × (result ≤ nodeCount image.now) }
+    ensures { (result ≡ child (tree_of image.now) p IndexRange (text "PointRange")) × (result ≤ node_count image.now) }
 {
     look_up(image, index, p, POINT_RANGE)
 }
 
 // Its PointList.
 pub fn point_list(image: &[u8], index: &[u16], p: usize) -> usize
-    requires index { Index image.now index.now × (p < nodeCount image.now) }
+    requires index { Index image.now index.now × (p < node_count image.now) }
     requires p_value { kind (tree_of image.now) p ≡ FlowSolution }
-    ensures { (result ≡ child (tree_of image.now) p IndexArray (text "PointList")) × (result ≤ nodeCount image.now) }
+    ensures { (result ≡ child (tree_of image.now) p IndexArray (text "PointList")) × (result ≤ node_count image.now) }
 {
     look_up(image, index, p, POINT_LIST)
 }
 
 // The Rind of coordinates or of a flow solution.
 pub fn rind(image: &[u8], index: &[u16], p: usize) -> usize
-    requires index { Index image.now index.now × (p < nodeCount image.now) }
+    requires index { Index image.now index.now × (p < node_count image.now) }
     requires fact { (kind (tree_of image.now) p ≡ GridCoordinates) ⊎ (kind (tree_of image.now) p ≡ FlowSolution) }
-    ensures { (result ≡ child (tree_of image.now) p Rind (text "Rind")) × (result ≤ nodeCount image.now) }
+    ensures { (result ≡ child (tree_of image.now) p Rind (text "Rind")) × (result ≤ node_count image.now) }
 {
     look_up(image, index, p, RIND)
 }

@@ -14,11 +14,11 @@ unfolding same
 same_not [] [] n = absurd (n refl)
 same_not [] (y ∷ u) n = refl
 same_not (x ∷ s) [] n = refl
-same_not (x ∷ s) (y ∷ u) n = by-test (eqb x y) (same_not s u (λ e. n (ap suc e)))
+same_not (x ∷ s) (y ∷ u) n = by_test (eqb x y) (same_not s u (λ e. n (ap suc e)))
   where
-    by-test : (t : Bool) → same s u ≡ false → (t && same s u) ≡ false
-    by-test true e = e
-    by-test false e = refl
+    by_test : (t : Bool) → same s u ≡ false → (t && same s u) ≡ false
+    by_test true e = e
+    by_test false e = refl
 
 pub same-long : (n : ℕ) (b : List ℕ) (p : ℕ) (t : List ℕ) → p + n ≤ length b → (n ≡ length t → ⊥) → false ≡ same (take n (drop p b)) t
 same-long n b p t h e =

@@ -1,7 +1,7 @@
 -- Texts as fields of 32 bytes: the known ones.
 use Rattle.std.specs.Prelude.{ℕ, zero, suc, ◌*◌, ◌≤◌, ◌<◌, ◌≡◌, Bool, ◌&&◌, List, [], ◌∷◌, ◌++◌, eqb, drop, get_or}
 use Rattle.model.specs.Bytes.{le, text}
-use Rattle.model.specs.Containment.{knownLabels}
+use Rattle.model.specs.Containment.{known_labels}
 
 -- a text padded right with blanks to n bytes
 abbrev pub pad : ℕ → List ℕ → List ℕ
@@ -10,12 +10,12 @@ pad (suc n) [] = 32 ∷ pad n []
 pad (suc n) (y ∷ x) = y ∷ pad n x
 
 -- word j of a text's field
-unfoldable pub fieldWord : List ℕ → ℕ → ℕ
-fieldWord x j = le 8 (drop (8 * j) (pad 32 x))
+unfoldable pub field_word : List ℕ → ℕ → ℕ
+field_word x j = le 8 (drop (8 * j) (pad 32 x))
 
 -- the known names: those that a node must have, or is looked up by
-unfoldable pub knownNames : List (List ℕ)
-knownNames =
+unfoldable pub known_names : List (List ℕ)
+known_names =
     text "CGNSLibraryVersion"
     ∷ text "ZoneType"
     ∷ text "Rind"
@@ -29,16 +29,16 @@ knownNames =
     ∷ []
 
 -- the known labels, and after them the known names
-unfoldable pub knownTexts : List (List ℕ)
-knownTexts = knownLabels ++ knownNames
+unfoldable pub known_texts : List (List ℕ)
+known_texts = known_labels ++ known_names
 
 -- the words after the first one of text k
-abbrev pub restIs : ℕ → ℕ → ℕ → ℕ → Bool
-restIs k second third fourth =
-    eqb second (fieldWord (get_or knownTexts k []) 1) && (eqb third (fieldWord (get_or knownTexts k []) 2) && eqb fourth (fieldWord (get_or knownTexts k []) 3))
+abbrev pub rest_is : ℕ → ℕ → ℕ → ℕ → Bool
+rest_is k second third fourth =
+    eqb second (field_word (get_or known_texts k []) 1) && (eqb third (field_word (get_or known_texts k []) 2) && eqb fourth (field_word (get_or known_texts k []) 3))
 
 -- known label r, counted from 0, begins with this word, and no other does; 14 where none does
 pub record Begins (word r : ℕ) : Type 0 where
   pub inside : r ≤ 14
-  pub is : r < 14 → word ≡ fieldWord (get_or knownTexts r []) 0
-  pub only : (k : ℕ) → k < 14 → word ≡ fieldWord (get_or knownTexts k []) 0 → k ≡ r
+  pub is : r < 14 → word ≡ field_word (get_or known_texts r []) 0
+  pub only : (k : ℕ) → k < 14 → word ≡ field_word (get_or known_texts k []) 0 → k ≡ r

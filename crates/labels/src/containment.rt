@@ -1,8 +1,8 @@
 // The placing table and the fixed names: the table's part of rule 20, and rule 21.
 ghost use Rattle.std.specs.Prelude.{◌≡◌, ◌<◌};
-ghost use Rattle.model.specs.Image.{tree_of, nodeCount, parent};
+ghost use Rattle.model.specs.Image.{tree_of, node_count, parent};
 ghost use Rattle.model.specs.Bounds.{Laid};
-ghost use Rattle.model.specs.Containment.{role, mayHold};
+ghost use Rattle.model.specs.Containment.{role, may_hold};
 ghost use Rattle.model.specs.Values.{named};
 ghost use Rattle.labels.specs.Cells.{Digits, cell_of};
 
@@ -41,14 +41,14 @@ fn cell(above: u64, below: u64) -> u64
 // Does the placing table have a label under a parent? Both are roles.
 pub fn may_hold(above: u64, below: u64) -> bool
     requires { (above < 16) × (below < 16) }
-    ensures { result ≡ mayHold above below }
+    ensures { result ≡ may_hold above below }
 {
     0 < cell(above, below)
 }
 
 // Rule 21: does node i have its fixed name, where it is to have one? Both roles are known; it is not the root.
 pub fn named(image: &[u8], above: u64, below: u64, i: usize) -> bool
-    requires laid { Laid image.now × (i < nodeCount image.now) }
+    requires laid { Laid image.now × (i < node_count image.now) }
     requires above_value { (above ≡ role (tree_of image.now) (parent (tree_of image.now) i)) × (below ≡ role (tree_of image.now) i) }
     requires above_bound { (above < 16) × (below < 16) }
     ensures { result ≡ named (tree_of image.now) i }

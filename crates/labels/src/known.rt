@@ -1,6 +1,6 @@
 // The known texts as words, each padded to 32 bytes: the known labels and the known names by their places.
 ghost use Rattle.std.specs.Prelude.{◌≡◌, ◌&&◌, ◌+◌, ◌<◌, [], eqb, get_or};
-ghost use Rattle.labels.specs.Padded.{fieldWord, knownTexts, restIs};
+ghost use Rattle.labels.specs.Padded.{field_word, known_texts, rest_is};
 
 // Eight blanks.
 const BLANKS: u64 = 0x2020_2020_2020_2020;
@@ -8,7 +8,7 @@ const BLANKS: u64 = 0x2020_2020_2020_2020;
 // The second eight bytes of label k.
 fn second_of_label(k: usize) -> u64
     requires { k < 14 }
-    ensures { result ≡ fieldWord (get_or knownTexts k []) 1 }
+    ensures { result ≡ field_word (get_or known_texts k []) 1 }
 {
     match k {
         0 => 0x6973_7265_5679_7261, // aryVersi
@@ -31,7 +31,7 @@ fn second_of_label(k: usize) -> u64
 // The third.
 fn third_of_label(k: usize) -> u64
     requires { k < 14 }
-    ensures { result ≡ fieldWord (get_or knownTexts k []) 2 }
+    ensures { result ≡ field_word (get_or known_texts k []) 2 }
 {
     match k {
         0 => 0x2020_2020_745f_6e6f, // on_t
@@ -44,7 +44,7 @@ fn third_of_label(k: usize) -> u64
 // The second eight bytes of name k.
 fn second_of_name(k: usize) -> u64
     requires { k < 10 }
-    ensures { result ≡ fieldWord (get_or knownTexts (14 + k) []) 1 }
+    ensures { result ≡ field_word (get_or known_texts (14 + k) []) 1 }
 {
     match k {
         0 => 0x6973_7265_5679_7261, // aryVersi
@@ -63,7 +63,7 @@ fn second_of_name(k: usize) -> u64
 // The third.
 fn third_of_name(k: usize) -> u64
     requires { k < 10 }
-    ensures { result ≡ fieldWord (get_or knownTexts (14 + k) []) 2 }
+    ensures { result ≡ field_word (get_or known_texts (14 + k) []) 2 }
 {
     match k {
         0 => 0x2020_2020_2020_6e6f, // on
@@ -89,7 +89,7 @@ fn same_rest(a: u64, b: u64, second: u64, third: u64, fourth: u64) -> bool
 // Are these the words after the first one of label k?
 pub fn rest_of_label(k: usize, second: u64, third: u64, fourth: u64) -> bool
     requires { k < 14 }
-    ensures { result ≡ restIs k second third fourth }
+    ensures { result ≡ rest_is k second third fourth }
 {
     same_rest(second_of_label(k), third_of_label(k), second, third, fourth)
 }
@@ -97,7 +97,7 @@ pub fn rest_of_label(k: usize, second: u64, third: u64, fourth: u64) -> bool
 // The same of name k.
 pub fn rest_of_name(k: usize, second: u64, third: u64, fourth: u64) -> bool
     requires { k < 10 }
-    ensures { result ≡ restIs (14 + k) second third fourth }
+    ensures { result ≡ rest_is (14 + k) second third fourth }
 {
     same_rest(second_of_name(k), third_of_name(k), second, third, fourth)
 }

@@ -1,6 +1,6 @@
 // Labels and containment: the role of a node, which node holds which, the fixed names.
 ghost use Rattle.std.specs.Prelude.{◌≡◌, ◌≤◌};
-ghost use Rattle.model.specs.Image.{nodeCount};
+ghost use Rattle.model.specs.Image.{node_count};
 ghost use Rattle.model.specs.Bounds.{Laid};
 
 mod containment; // containment.rt: the placing table, the fixed names
@@ -20,7 +20,7 @@ pub use texts::same_at;
 // The node count.
 pub fn node_count(image: &[u8]) -> usize
     requires { Laid image.now }
-    ensures { (result ≡ nodeCount image.now) × (result ≤ 4096) }
+    ensures { (result ≡ node_count image.now) × (result ≤ 4096) }
 {
     words::u32_at(image, Header::NODE_COUNT) as usize
 }

@@ -1,9 +1,9 @@
 // The known names: those that a node must have, or is looked up by.
 ghost use Rattle.std.specs.Prelude.{◌≡◌, ◌<◌, [], get_or};
 ghost use Rattle.model.specs.Bytes.{spells};
-ghost use Rattle.model.specs.Image.{tree_of, nodeCount, name};
+ghost use Rattle.model.specs.Image.{tree_of, node_count, name};
 ghost use Rattle.model.specs.Bounds.{Laid};
-ghost use Rattle.labels.specs.Padded.{fieldWord, knownNames};
+ghost use Rattle.labels.specs.Padded.{field_word, known_names};
 
 use super::known::rest_of_name;
 use records::Record;
@@ -29,7 +29,7 @@ pub const PARENT_ELEMENTS: usize = 9;
 // The first eight bytes of name k.
 fn first_word(k: usize) -> u64
     requires { k < 10 }
-    ensures { result ≡ fieldWord (get_or knownNames k []) 0 }
+    ensures { result ≡ field_word (get_or known_names k []) 0 }
 {
     match k {
         0 => 0x7262_694c_534e_4743, // CGNSLibr
@@ -47,8 +47,8 @@ fn first_word(k: usize) -> u64
 
 // Does node i have the known name k, counted from 0?
 pub fn name_is(image: &[u8], i: usize, k: usize) -> bool
-    requires { (Laid image.now × (i < nodeCount image.now)) × (k < 10) }
-    ensures { result ≡ spells (name (tree_of image.now) i) (get_or knownNames k []) }
+    requires { (Laid image.now × (i < node_count image.now)) × (k < 10) }
+    ensures { result ≡ spells (name (tree_of image.now) i) (get_or known_names k []) }
 {
     let at = Record::at(i) + Record::NAME;
     if words::u64_at(image, at) != first_word(k) {

@@ -1,6 +1,6 @@
 // What a node is validated as: the place of its label among the known ones, 15 for the root.
 ghost use Rattle.std.specs.Prelude.{◌≡◌, ◌<◌};
-ghost use Rattle.model.specs.Image.{tree_of, nodeCount};
+ghost use Rattle.model.specs.Image.{tree_of, node_count};
 ghost use Rattle.model.specs.Bounds.{Laid};
 ghost use Rattle.model.specs.Containment.{role};
 ghost use Rattle.labels.specs.Padded.{Begins};
@@ -63,7 +63,7 @@ fn candidate(word: u64) -> usize
 
 // The role of node i: 1 to 14 for a known label, 0 for any other, 15 for the root whatever its label.
 pub fn role_of(image: &[u8], i: usize) -> u64
-    requires { Laid image.now × (i < nodeCount image.now) }
+    requires { Laid image.now × (i < node_count image.now) }
     ensures { (result ≡ role (tree_of image.now) i) × (result < 16) }
 {
     if i == 0 {

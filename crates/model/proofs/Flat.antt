@@ -8,11 +8,11 @@ use lib.ListN.{length, get_or, drop}
 use lib.Seq.{get_or-drop, drop-drop}
 use Rattle.model.specs.declared.Section.{Section}
 use Rattle.model.specs.Image.{Tree}
-use Rattle.model.specs.Sections.{entry, entries, entryNumbers, allNumbers}
-use Rattle.model.specs.Reads.{sectionAt}
+use Rattle.model.specs.Sections.{entry, entries, entry_numbers, all_numbers}
+use Rattle.model.specs.Reads.{section_at}
 
-pub numbers-length : (es : List Section) → length (allNumbers es) ≡ 11 * length es
-unfolding allNumbers entryNumbers
+pub numbers-length : (es : List Section) → length (all_numbers es) ≡ 11 * length es
+unfolding all_numbers entry_numbers
 numbers-length [] = refl
 numbers-length (e ∷ es) = let h = numbers-length es in omega arith
 
@@ -30,22 +30,22 @@ struct_at t (s ∷ ns) rest none zero h = refl
 struct_at t (s ∷ ns) rest none (suc k) h = struct_at t ns rest none k (omega arith)
 
 -- reading from an entry on
-pub section-from : (flat : List ℕ) (k : ℕ) → sectionAt flat k ≡ sectionAt (drop (11 * k) flat) 0
-unfolding sectionAt
+pub section-from : (flat : List ℕ) (k : ℕ) → section_at flat k ≡ section_at (drop (11 * k) flat) 0
+unfolding section_at
 section-from flat k = simp (get_or-drop, add-zero)
 
-section-past : (e : Section) (flat : List ℕ) (k : ℕ) → sectionAt (entryNumbers e ++ flat) (suc k) ≡ sectionAt flat k
-unfolding entryNumbers
-section-past e flat k =
+section_past : (e : Section) (flat : List ℕ) (k : ℕ) → section_at (entry_numbers e ++ flat) (suc k) ≡ section_at flat k
+unfolding entry_numbers
+section_past e flat k =
     let q : 11 * suc k ≡ 11 + 11 * k = omega arith in
-    section-from (entryNumbers e ++ flat) (suc k)
-    ∙ ap (λ (n : ℕ). sectionAt (drop n (entryNumbers e ++ flat)) 0) q
-    ∙ ap (λ (l : List ℕ). sectionAt l 0) (sym (drop-drop (11 * k) 11 (entryNumbers e ++ flat)))
+    section-from (entry_numbers e ++ flat) (suc k)
+    ∙ ap (λ (n : ℕ). section_at (drop n (entry_numbers e ++ flat)) 0) q
+    ∙ ap (λ (l : List ℕ). section_at l 0) (sym (drop-drop (11 * k) 11 (entry_numbers e ++ flat)))
     ∙ sym (section-from flat k)
 
-pub entry_at : (t : Tree) (ns rest : List ℕ) (k : ℕ) → k < length ns → sectionAt (allNumbers (entries t ns) ++ rest) k ≡ entry t (get_or ns k 0)
-unfolding sectionAt entries allNumbers entryNumbers
+pub entry_at : (t : Tree) (ns rest : List ℕ) (k : ℕ) → k < length ns → section_at (all_numbers (entries t ns) ++ rest) k ≡ entry t (get_or ns k 0)
+unfolding section_at entries all_numbers entry_numbers
 entry_at t [] rest k h = absurd (omega arith)
 entry_at t (s ∷ ns) rest zero h = refl
 entry_at t (s ∷ ns) rest (suc k) h =
-    section-past (entry t s) (allNumbers (entries t ns) ++ rest) k ∙ entry_at t ns rest k (omega arith)
+    section_past (entry t s) (all_numbers (entries t ns) ++ rest) k ∙ entry_at t ns rest k (omega arith)

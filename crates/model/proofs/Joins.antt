@@ -4,15 +4,15 @@ use mathlib.Core.Bool.{Bool, true, false, ◌&&◌, ◌||◌}
 
 -- r answers a, s answers b
 module _ {r s a b : Bool} (e : r ≡ a) where
-  pub or-on : r ≡ false → s ≡ b → s ≡ (a || b)
-  or-on h f = rw (sym e ∙ h) f
+  pub or_on : r ≡ false → s ≡ b → s ≡ (a || b)
+  or_on h f = rw (sym e ∙ h) f
 
-  pub and-on : r ≡ true → s ≡ b → s ≡ (a && b)
-  and-on h f = rw (sym e ∙ h) f
+  pub and_on : r ≡ true → s ≡ b → s ≡ (a && b)
+  and_on h f = rw (sym e ∙ h) f
 
 module _ {r a : Bool} (b : Bool) (e : r ≡ a) where
-  pub or-done : r ≡ true → true ≡ (a || b)
-  or-done h = rw (sym e ∙ h)
+  pub or_done : r ≡ true → true ≡ (a || b)
+  or_done h = rw (sym e ∙ h)
 
-  pub and-done : r ≡ false → false ≡ (a && b)
-  and-done h = rw (sym e ∙ h)
+  pub and_done : r ≡ false → false ≡ (a && b)
+  and_done h = rw (sym e ∙ h)

@@ -68,16 +68,16 @@ implied false b f = refl
 pub between : (lo x hi : ℕ) → lo ≤ x → x ≤ hi → (leb lo x && leb x hi) ≡ true
 between lo x hi l h = and_both _ _ (le-leb lo x l) (le-leb x hi h)
 
-pub inside-or-not : (lo x hi : ℕ) → ((lo ≤ x) × (x ≤ hi)) ⊎ ((lo ≤ x) × (x ≤ hi) → ⊥)
-inside-or-not lo x hi = by_tests (leb lo x) refl (leb x hi) refl
+pub inside_or_not : (lo x hi : ℕ) → ((lo ≤ x) × (x ≤ hi)) ⊎ ((lo ≤ x) × (x ≤ hi) → ⊥)
+inside_or_not lo x hi = by_tests (leb lo x) refl (leb x hi) refl
   where
     by_tests : (p : Bool) → leb lo x ≡ p → (q : Bool) → leb x hi ≡ q → ((lo ≤ x) × (x ≤ hi)) ⊎ ((lo ≤ x) × (x ≤ hi) → ⊥)
     by_tests true e true g = inl (leb-true lo x e, leb-true x hi g)
     by_tests true e false g = inr (λ i. omega (arith, leb-false x hi g))
     by_tests false e q g = inr (λ i. omega (arith, leb-false lo x e))
 
-pub not-between : (lo x hi : ℕ) → ((lo ≤ x) × (x ≤ hi) → ⊥) → (leb lo x && leb x hi) ≡ false
-not-between lo x hi f = by_tests (leb lo x) refl (leb x hi) refl
+pub not_between : (lo x hi : ℕ) → ((lo ≤ x) × (x ≤ hi) → ⊥) → (leb lo x && leb x hi) ≡ false
+not_between lo x hi f = by_tests (leb lo x) refl (leb x hi) refl
   where
     by_tests : (p : Bool) → leb lo x ≡ p → (q : Bool) → leb x hi ≡ q → (p && q) ≡ false
     by_tests true e true g = absurd (f (leb-true lo x e, leb-true x hi g))
@@ -104,9 +104,9 @@ abbrev pub NoneOf : Type 0 → List ℕ → ℕ → Type 0
 NoneOf A [] x = A
 NoneOf A (k ∷ ks) x = NoneOf (A × (x ≡ k → ⊥)) ks x
 
-pub none-known : (A : Type 0) (ks : List ℕ) (x : ℕ) → NoneOf A ks x → A
-none-known A [] x h = h
-none-known A (k ∷ ks) x h = (none-known (A × (x ≡ k → ⊥)) ks x h).0
+pub none_known : (A : Type 0) (ks : List ℕ) (x : ℕ) → NoneOf A ks x → A
+none_known A [] x h = h
+none_known A (k ∷ ks) x h = (none_known (A × (x ≡ k → ⊥)) ks x h).0
 
 -- where the keys are all numbers below n, a number up to n is n
 abbrev pub Apart : ℕ → ℕ → Type 0

@@ -7,8 +7,8 @@ use Rattle.model.specs.declared.ArrayValue.{ArrayValue}
 use Rattle.model.specs.declared.ArrayValue.TheVariants.{Single, Double}
 use Rattle.model.specs.Answers.{NanCases}
 
-pub single-no-nan : {v : ArrayValue} (x : Float) → NanCases v → v ≡ Single x → T (not (is_nan x))
-single-no-nan x h e = rw (rw e at h) tt
+pub single_no_nan : {v : ArrayValue} (x : Float) → NanCases v → v ≡ Single x → T (not (is_nan x))
+single_no_nan x h e = rw (rw e at h) tt
 
-pub double-no-nan : {v : ArrayValue} (x : Float) → NanCases v → v ≡ Double x → T (not (is_nan x))
-double-no-nan x h e = rw (rw e at h) tt
+pub double_no_nan : {v : ArrayValue} (x : Float) → NanCases v → v ≡ Double x → T (not (is_nan x))
+double_no_nan x h e = rw (rw e at h) tt

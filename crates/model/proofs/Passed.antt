@@ -8,7 +8,7 @@ use native.Mathlib.Decide.{ℕ_discrete}
 use native.Mathlib.Numerals.{add-one}
 use lib.Dec.{eqb}
 use Rattle.model.specs.declared.Rejection.{Rejection}
-use Rattle.model.specs.Rules.{Answer, rejected, answer, Check, passed, Rule, ◌unless◌, check, ◌atEntry◌, checkFrom, ◌then◌, ◌gives◌, ◌into◌}
+use Rattle.model.specs.Rules.{Answer, rejected, answer, Check, passed, Rule, ◌unless◌, check, ◌at_entry◌, check_from, ◌then◌, ◌gives◌, ◌into◌}
 use Rattle.model.proofs.Logic.{choose}
 
 -- a refusal is no value
@@ -20,11 +20,11 @@ abbrev pub Hold : List Rule → Type 0
 Hold [] = Unit {0}
 Hold ((rule unless holds) ∷ rest) = (holds ≡ true) × Hold rest
 
-pub check-pass : (node : ℕ) (rules : List Rule) → check node rules ≡ passed → Hold rules
+pub check_pass : (node : ℕ) (rules : List Rule) → check node rules ≡ passed → Hold rules
 unfolding check
-check-pass node [] e = tt
-check-pass node ((rule unless true) ∷ rest) e = (refl, check-pass node rest e)
-check-pass node ((rule unless false) ∷ rest) e = refused e
+check_pass node [] e = tt
+check_pass node ((rule unless true) ∷ rest) e = (refl, check_pass node rest e)
+check_pass node ((rule unless false) ∷ rest) e = refused e
 
 -- the equation of one rule, asked for by its number
 abbrev pub Claim : ℕ → List Rule → Type 0
@@ -83,18 +83,18 @@ into-value (rejected r) f e = refused e
 into-value (answer x) f e = (x, refl, e)
 
 -- a check of an entry passes where the check does
-pub at-entry-pass : (c : Check) (place : ℕ) → (c at_entry place) ≡ passed → c ≡ passed
-unfolding ◌atEntry◌
-at-entry-pass (rejected r) place e = refused e
-at-entry-pass (answer x) place e = refl
+pub at-entry_pass : (c : Check) (place : ℕ) → (c at_entry place) ≡ passed → c ≡ passed
+unfolding ◌at_entry◌
+at-entry_pass (rejected r) place e = refused e
+at-entry_pass (answer x) place e = refl
 
-pub checkFrom-at : (f : ℕ → Check) (k i j : ℕ) → checkFrom f k i ≡ passed → i ≤ j → j < i + k → f j ≡ passed
-unfolding checkFrom
-checkFrom-at f zero i j e l h = absurd (omega arith)
-checkFrom-at f (suc k) i j e l h =
+pub check_from-at : (f : ℕ → Check) (k i j : ℕ) → check_from f k i ≡ passed → i ≤ j → j < i + k → f j ≡ passed
+unfolding check_from
+check_from-at f zero i j e l h = absurd (omega arith)
+check_from-at f (suc k) i j e l h =
     elim (ℕ_discrete i j) [
-      | yes q ↦ subst (λ (n : ℕ). f n ≡ passed) q (then-first (f i) (checkFrom f k (suc i)) e)
-      | no n ↦ checkFrom-at f k (suc i) j (then-second (f i) (checkFrom f k (suc i)) e) (omega (arith, n)) (omega arith)
+      | yes q ↦ subst (λ (n : ℕ). f n ≡ passed) q (then-first (f i) (check_from f k (suc i)) e)
+      | no n ↦ check_from-at f k (suc i) j (then-second (f i) (check_from f k (suc i)) e) (omega (arith, n)) (omega arith)
     ]
 
 -- equal where what follows is equal after a pass; two walks, where they agree at each node that the second comes to
@@ -103,15 +103,15 @@ unfolding ◌then◌
 then_same (rejected r) f = refl
 then_same (answer x) f = f refl
 
-pub checkFrom-same : (f g : ℕ → Check) (k i : ℕ) → ((j : ℕ) → i ≤ j → j < i + k → ((m : ℕ) → i ≤ m → m < j → g m ≡ passed) → f j ≡ g j)
-    → checkFrom f k i ≡ checkFrom g k i
-unfolding checkFrom
-checkFrom-same f g zero i h = refl
-checkFrom-same f g (suc k) i h =
+pub check_from-same : (f g : ℕ → Check) (k i : ℕ) → ((j : ℕ) → i ≤ j → j < i + k → ((m : ℕ) → i ≤ m → m < j → g m ≡ passed) → f j ≡ g j)
+    → check_from f k i ≡ check_from g k i
+unfolding check_from
+check_from-same f g zero i h = refl
+check_from-same f g (suc k) i h =
     rw (h i (omega arith) (omega arith) (λ m l u. absurd (omega arith)))
     (then_same (g i)
     (λ p.
-    checkFrom-same f g k (suc i)
+    check_from-same f g k (suc i)
     (λ j l u before.
     h j (omega arith) (omega arith)
     (λ m v w.
@@ -121,37 +121,37 @@ checkFrom-same f g (suc k) i h =
     ]))))
 
 -- the first that does not pass decides, and where there is none the walk passes
-pub checkFrom-first : (f : ℕ → Check) (k i j : ℕ) {r : Rejection} → i ≤ j → j < i + k → ((m : ℕ) → i ≤ m → m < j → f m ≡ passed) → f j ≡ rejected r
-    → checkFrom f k i ≡ rejected r
-unfolding checkFrom
-checkFrom-first f zero i j l h before e = absurd (omega arith)
-checkFrom-first f (suc k) i j l h before e =
+pub check_from-first : (f : ℕ → Check) (k i j : ℕ) {r : Rejection} → i ≤ j → j < i + k → ((m : ℕ) → i ≤ m → m < j → f m ≡ passed) → f j ≡ rejected r
+    → check_from f k i ≡ rejected r
+unfolding check_from
+check_from-first f zero i j l h before e = absurd (omega arith)
+check_from-first f (suc k) i j l h before e =
     elim (ℕ_discrete i j) [
-      | yes q ↦ then-off (checkFrom f k (suc i)) (rw q e)
-      | no n ↦ then-on (checkFrom f k (suc i)) (before i (omega arith) (omega (arith, n)))
-          ∙ checkFrom-first f k (suc i) j (omega (arith, n)) (omega arith) (λ m a b. before m (omega arith) b) e
+      | yes q ↦ then-off (check_from f k (suc i)) (rw q e)
+      | no n ↦ then-on (check_from f k (suc i)) (before i (omega arith) (omega (arith, n)))
+          ∙ check_from-first f k (suc i) j (omega (arith, n)) (omega arith) (λ m a b. before m (omega arith) b) e
     ]
 
-pub checkFrom-none : (f : ℕ → Check) (k i : ℕ) → ((m : ℕ) → i ≤ m → m < i + k → f m ≡ passed) → checkFrom f k i ≡ passed
-unfolding checkFrom
-checkFrom-none f zero i each = refl
-checkFrom-none f (suc k) i each =
-    then-on (checkFrom f k (suc i)) (each i (omega arith) (omega arith)) ∙ checkFrom-none f k (suc i) (λ m a b. each m (omega arith) (omega arith))
+pub check_from-none : (f : ℕ → Check) (k i : ℕ) → ((m : ℕ) → i ≤ m → m < i + k → f m ≡ passed) → check_from f k i ≡ passed
+unfolding check_from
+check_from-none f zero i each = refl
+check_from-none f (suc k) i each =
+    then-on (check_from f k (suc i)) (each i (omega arith) (omega arith)) ∙ check_from-none f k (suc i) (λ m a b. each m (omega arith) (omega arith))
 
 -- a loop over the nodes: one that passes, one that does not, the end
 module _ (f : ℕ → Check) (n i : ℕ) where
-  checkFrom-step : i < n → checkFrom f (n - i) i ≡ (f i then checkFrom f (n - (i + 1)) (i + 1))
-  unfolding checkFrom
-  checkFrom-step h =
+  check_from_step : i < n → check_from f (n - i) i ≡ (f i then check_from f (n - (i + 1)) (i + 1))
+  unfolding check_from
+  check_from_step h =
       let e : n - i ≡ suc (n - (i + 1)) = omega arith in
       rw (e, add-one)
 
-  pub checkFrom-on : i < n → f i ≡ passed → checkFrom f (n - (i + 1)) (i + 1) ≡ checkFrom f (n - i) i
-  checkFrom-on h e = sym (checkFrom-step h ∙ then-on (checkFrom f (n - (i + 1)) (i + 1)) e)
+  pub check_from-on : i < n → f i ≡ passed → check_from f (n - (i + 1)) (i + 1) ≡ check_from f (n - i) i
+  check_from-on h e = sym (check_from_step h ∙ then-on (check_from f (n - (i + 1)) (i + 1)) e)
 
-  pub checkFrom-off : {r : Rejection} → i < n → f i ≡ rejected r → checkFrom f (n - i) i ≡ rejected r
-  checkFrom-off h e = checkFrom-step h ∙ then-off (checkFrom f (n - (i + 1)) (i + 1)) e
+  pub check_from-off : {r : Rejection} → i < n → f i ≡ rejected r → check_from f (n - i) i ≡ rejected r
+  check_from-off h e = check_from_step h ∙ then-off (check_from f (n - (i + 1)) (i + 1)) e
 
-  pub checkFrom-end : n ≤ i → checkFrom f (n - i) i ≡ passed
-  unfolding checkFrom
-  checkFrom-end h = let e : n - i ≡ 0 = omega arith in rw e
+  pub check_from-end : n ≤ i → check_from f (n - i) i ≡ passed
+  unfolding check_from
+  check_from-end h = let e : n - i ≡ 0 = omega arith in rw e

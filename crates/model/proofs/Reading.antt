@@ -7,8 +7,8 @@ use native.Mathlib.Numerals.{add-one}
 use lib.ListN.{length, get_or, take, drop}
 use lib.Seq.{drop-drop, drop-nil, take-nil}
 use Rattle.model.specs.Bytes.{le, numbers}
-use Rattle.model.specs.Image.{Node, Tree, node_of, nodesOf, node, tree_of, nodeCount, recordAt, name, label, parent, dimensions, stored, number, width}
-use Rattle.model.specs.Image.{dataOffset, dimensionOffset}
+use Rattle.model.specs.Image.{Node, Tree, node_of, nodes_of, node, tree_of, node_count, record_at, name, label, parent, dimensions, stored, number, width}
+use Rattle.model.specs.Image.{data_offset, dimension_offset}
 
 -- the lowest byte, and the rest
 pub le_step : (w : ℕ) (b : List ℕ) (p : ℕ) → le (suc w) (drop p b) ≡ get_or b p 0 + 256 * le w (drop (p + 1) b)
@@ -34,51 +34,51 @@ drop-take (suc k) (suc n) [] = rw take-nil
 drop-take (suc k) (suc n) (x ∷ s) = let e : suc n - suc k ≡ n - k = omega arith in rw e (drop-take k n s)
 
 -- node i of n records
-pub nodesOf-at : (n : ℕ) (s : List ℕ) (i : ℕ) → i < n → get_or (nodesOf n s) i (node_of []) ≡ node_of (drop (84 * i) s)
-unfolding nodesOf
-nodesOf-at zero s i h = absurd (omega arith)
-nodesOf-at (suc n) s zero h = refl
-nodesOf-at (suc n) s (suc i) h =
+pub nodes_of-at : (n : ℕ) (s : List ℕ) (i : ℕ) → i < n → get_or (nodes_of n s) i (node_of []) ≡ node_of (drop (84 * i) s)
+unfolding nodes_of
+nodes_of-at zero s i h = absurd (omega arith)
+nodes_of-at (suc n) s zero h = refl
+nodes_of-at (suc n) s (suc i) h =
     let e : 84 + 84 * i ≡ 84 * suc i = omega arith in
-    nodesOf-at n (drop 84 s) i (omega arith) ∙ ap node_of (drop-drop (84 * i) 84 s ∙ ap (λ (k : ℕ). drop k s) e)
+    nodes_of-at n (drop 84 s) i (omega arith) ∙ ap node_of (drop-drop (84 * i) 84 s ∙ ap (λ (k : ℕ). drop k s) e)
 
 -- node i of an image, by its record
-pub node_at : (b : List ℕ) (i : ℕ) → i < nodeCount b → node (tree_of b) i ≡ node_of (drop (recordAt i) b)
+pub node_at_lem : (b : List ℕ) (i : ℕ) → i < node_count b → node (tree_of b) i ≡ node_of (drop (record_at i) b)
 unfolding node tree_of
-node_at b i h = nodesOf-at (nodeCount b) (drop 32 b) i h ∙ ap node_of (drop-drop (84 * i) 32 b)
+node_at_lem b i h = nodes_of-at (node_count b) (drop 32 b) i h ∙ ap node_of (drop-drop (84 * i) 32 b)
 
-module _ (b : List ℕ) (i : ℕ) (h : i < nodeCount b) where
-  pub name-at : name (tree_of b) i ≡ take 32 (drop (recordAt i) b)
+module _ (b : List ℕ) (i : ℕ) (h : i < node_count b) where
+  pub name-at : name (tree_of b) i ≡ take 32 (drop (record_at i) b)
   unfolding name node_of
-  name-at = ap (λ (x : Node). x.name) (node_at b i h)
+  name-at = ap (λ (x : Node). x.name) (node_at_lem b i h)
 
-  pub label_at : label (tree_of b) i ≡ take 32 (drop (recordAt i + 32) b)
+  pub label_at : label (tree_of b) i ≡ take 32 (drop (record_at i + 32) b)
   unfolding label node_of
-  label_at = ap (λ (x : Node). x.label) (node_at b i h) ∙ ap (take 32) (drop-drop 32 (recordAt i) b)
+  label_at = ap (λ (x : Node). x.label) (node_at_lem b i h) ∙ ap (take 32) (drop-drop 32 (record_at i) b)
 
-  pub type_at : (node (tree_of b) i).dataType ≡ take 2 (drop (recordAt i + 64) b)
+  pub type_at : (node (tree_of b) i).data_type ≡ take 2 (drop (record_at i + 64) b)
   unfolding node_of
-  type_at = ap (λ (x : Node). x.dataType) (node_at b i h) ∙ ap (take 2) (drop-drop 64 (recordAt i) b)
+  type_at = ap (λ (x : Node). x.data_type) (node_at_lem b i h) ∙ ap (take 2) (drop-drop 64 (record_at i) b)
 
-  pub rank-at : (node (tree_of b) i).rank ≡ le 2 (drop (recordAt i + 66) b)
+  pub rank-at : (node (tree_of b) i).rank ≡ le 2 (drop (record_at i + 66) b)
   unfolding node_of
-  rank-at = ap (λ (x : Node). x.rank) (node_at b i h) ∙ ap (le 2) (drop-drop 66 (recordAt i) b)
+  rank-at = ap (λ (x : Node). x.rank) (node_at_lem b i h) ∙ ap (le 2) (drop-drop 66 (record_at i) b)
 
-  pub first-word-at : (node (tree_of b) i).firstWord ≡ le 4 (drop (recordAt i + 68) b)
+  pub first_word_at : (node (tree_of b) i).first_word ≡ le 4 (drop (record_at i + 68) b)
   unfolding node_of
-  first-word-at = ap (λ (x : Node). x.firstWord) (node_at b i h) ∙ ap (le 4) (drop-drop 68 (recordAt i) b)
+  first_word_at = ap (λ (x : Node). x.first_word) (node_at_lem b i h) ∙ ap (le 4) (drop-drop 68 (record_at i) b)
 
-  pub parent-at : parent (tree_of b) i ≡ le 4 (drop (recordAt i + 72) b)
+  pub parent-at : parent (tree_of b) i ≡ le 4 (drop (record_at i + 72) b)
   unfolding parent node_of
-  parent-at = ap (λ (x : Node). x.parent) (node_at b i h) ∙ ap (le 4) (drop-drop 72 (recordAt i) b)
+  parent-at = ap (λ (x : Node). x.parent) (node_at_lem b i h) ∙ ap (le 4) (drop-drop 72 (record_at i) b)
 
-  pub data-at-at : (node (tree_of b) i).dataAt ≡ le 4 (drop (recordAt i + 76) b)
+  pub data_at-at : (node (tree_of b) i).data_at ≡ le 4 (drop (record_at i + 76) b)
   unfolding node_of
-  data-at-at = ap (λ (x : Node). x.dataAt) (node_at b i h) ∙ ap (le 4) (drop-drop 76 (recordAt i) b)
+  data_at-at = ap (λ (x : Node). x.data_at) (node_at_lem b i h) ∙ ap (le 4) (drop-drop 76 (record_at i) b)
 
-  pub data-size-at : (node (tree_of b) i).dataSize ≡ le 4 (drop (recordAt i + 80) b)
+  pub data_size-at : (node (tree_of b) i).data_size ≡ le 4 (drop (record_at i + 80) b)
   unfolding node_of
-  data-size-at = ap (λ (x : Node). x.dataSize) (node_at b i h) ∙ ap (le 4) (drop-drop 80 (recordAt i) b)
+  data_size-at = ap (λ (x : Node). x.data_size) (node_at_lem b i h) ∙ ap (le 4) (drop-drop 80 (record_at i) b)
 
 -- how many numbers a row has, and number k of it
 pub numbers-length : (w n : ℕ) (s : List ℕ) → length (numbers w n s) ≡ n
@@ -103,25 +103,25 @@ drops : (p q k : ℕ) (b : List ℕ) → drop k (drop q (drop p b)) ≡ drop (p 
 drops p q k b = ap (drop k) (drop-drop q p b) ∙ drop-drop k (p + q) b
 
 -- dimension k of a node: the word at its place
-pub dimension-at : (b : List ℕ) (i k : ℕ) → k < (node (tree_of b) i).rank
-    → get_or (dimensions (tree_of b) i) k 0 ≡ le 8 (drop (dimensionOffset b + 8 * (node (tree_of b) i).firstWord + 8 * k) b)
+pub dimension_at : (b : List ℕ) (i k : ℕ) → k < (node (tree_of b) i).rank
+    → get_or (dimensions (tree_of b) i) k 0 ≡ le 8 (drop (dimension_offset b + 8 * (node (tree_of b) i).first_word + 8 * k) b)
 unfolding dimensions tree_of
-dimension-at b i k h = numbers-at 8 _ k _ h ∙ ap (le 8) (drops (dimensionOffset b) (8 * (node (tree_of b) i).firstWord) (8 * k) b)
+dimension_at b i k h = numbers-at 8 _ k _ h ∙ ap (le 8) (drops (dimension_offset b) (8 * (node (tree_of b) i).first_word) (8 * k) b)
 
 -- stored number k of a node: the bytes at its place
-pub number-at : (b : List ℕ) (i k : ℕ) → width (tree_of b) i * k + width (tree_of b) i ≤ (node (tree_of b) i).dataSize
-    → number (tree_of b) i k ≡ le (width (tree_of b) i) (drop (dataOffset b + (node (tree_of b) i).dataAt + width (tree_of b) i * k) b)
+pub number-at : (b : List ℕ) (i k : ℕ) → width (tree_of b) i * k + width (tree_of b) i ≤ (node (tree_of b) i).data_size
+    → number (tree_of b) i k ≡ le (width (tree_of b) i) (drop (data_offset b + (node (tree_of b) i).data_at + width (tree_of b) i * k) b)
 unfolding number stored tree_of
 number-at b i k h =
-    ap (le w) (drop-take (w * k) n (drop d (drop (dataOffset b) b)))
-    ∙ le-take w (n - w * k) (drop (w * k) (drop d (drop (dataOffset b) b))) (omega arith)
-    ∙ ap (le w) (drops (dataOffset b) d (w * k) b)
+    ap (le w) (drop-take (w * k) n (drop d (drop (data_offset b) b)))
+    ∙ le-take w (n - w * k) (drop (w * k) (drop d (drop (data_offset b) b))) (omega arith)
+    ∙ ap (le w) (drops (data_offset b) d (w * k) b)
   where
     w : ℕ
     w = width (tree_of b) i
 
     n : ℕ
-    n = (node (tree_of b) i).dataSize
+    n = (node (tree_of b) i).data_size
 
     d : ℕ
-    d = (node (tree_of b) i).dataAt
+    d = (node (tree_of b) i).data_at

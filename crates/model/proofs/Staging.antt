@@ -7,7 +7,7 @@ use Rattle.model.specs.declared.Rejection.{Rejection}
 use Rattle.model.specs.declared.Stage.{Stage}
 use Rattle.model.specs.declared.Stage.TheVariants as Stage
 use Rattle.model.specs.Rules.{rejected, rejection, Check, passed, Rule, ◌unless◌, check, ◌then◌}
-use Rattle.model.specs.Answers.{stageTells, rejectionOf}
+use Rattle.model.specs.Answers.{stage_tells, rejection_of}
 use Rattle.model.proofs.Passed.{then-on, then-off}
 
 -- the first rule is broken, or holds and the rest decides
@@ -21,9 +21,9 @@ module _ (node rule : ℕ) (rest : List Rule) {t : Bool} where
   kept e = rw e
 
 -- no rule is left
-pub no-rule : (node : ℕ) → check node [] ≡ passed
+pub no_rule : (node : ℕ) → check node [] ≡ passed
 unfolding check
-no-rule node = refl
+no_rule node = refl
 
 -- an answer that follows tests made in order: one test holds and the rest tells it, or one fails and it is that rule's
 module _ (node rule : ℕ) (rest : List Rule) {t : Bool} {x : Check} where
@@ -41,15 +41,15 @@ check-append node ((rule unless true) ∷ xs) ys = check-append node xs ys
 check-append node ((rule unless false) ∷ xs) ys = refl
 
 -- a stage's answer s, where it is to tell the check a
-module _ {s : Stage} {a : Check} (e : stageTells s ≡ a) where
+module _ {s : Stage} {a : Check} (e : stage_tells s ≡ a) where
   pub passes : s ≡ Stage.Pass → a ≡ passed
-  passes q = sym e ∙ ap stageTells q
+  passes q = sym e ∙ ap stage_tells q
 
   pub refuses : {r : Rejection} → s ≡ Stage.Rejected r → a ≡ rejected r
-  refuses q = sym e ∙ ap stageTells q
+  refuses q = sym e ∙ ap stage_tells q
 
   -- it is the answer of the whole
-  pub stop : {r : Rejection} (rest : Check) → s ≡ Stage.Rejected r → stageTells s ≡ (a then rest)
+  pub stop : {r : Rejection} (rest : Check) → s ≡ Stage.Rejected r → stage_tells s ≡ (a then rest)
   stop rest q = e ∙ refuses q ∙ sym (then-off rest (refuses q))
 
   -- the rest is
@@ -57,5 +57,5 @@ module _ {s : Stage} {a : Check} (e : stageTells s ≡ a) where
   go {x} {rest} q f = f ∙ sym (then-on rest (passes q))
 
   -- where it did not pass, its rejection is the check's
-  pub rejects : {r : Rejection} → s ≡ Stage.Rejected r → a ≡ rejected (rejectionOf s)
-  rejects q = sym e ∙ ap stageTells q ∙ ap (λ x. rejected (rejectionOf x)) (sym q)
+  pub rejects : {r : Rejection} → s ≡ Stage.Rejected r → a ≡ rejected (rejection_of s)
+  rejects q = sym e ∙ ap stage_tells q ∙ ap (λ x. rejected (rejection_of x)) (sym q)

@@ -7,8 +7,8 @@ use Rattle.model.specs.Bytes.{all_bytes, text}
 use Rattle.model.specs.Build.{Plan, plan}
 
 -- the root that real files have
-abbrev pub rootPlan : Plan
-rootPlan = plan "HDF5 MotherNode" "Root Node of HDF5 File" "MT" [] 4294967295 []
+abbrev pub root_plan : Plan
+root_plan = plan "HDF5 MotherNode" "Root Node of HDF5 File" "MT" [] 4294967295 []
 
 abbrev pub integers : String → String → List ℕ → ℕ → Plan
 integers name label xs up = plan name label "I4" (length xs ∷ []) up (all_bytes 4 xs)
@@ -19,9 +19,9 @@ axis name = plan name "DataArray_t" "R8" (4 ∷ []) 5 (replicate 32 0)
 
 -- the tetrahedron, over nodes from node 17 on, the base's CellDimension and PhysicalDimension, and range, start offsets and connectivity of its faces
 -- and its cells
-abbrev pub tetrahedronPlans : List Plan → List ℕ → List ℕ → List ℕ → List ℕ → List ℕ → List ℕ → List ℕ → List Plan
-tetrahedronPlans others base range offsets nodes cells starts faces =
-    rootPlan
+abbrev pub tetrahedron_plans : List Plan → List ℕ → List ℕ → List ℕ → List ℕ → List ℕ → List ℕ → List ℕ → List Plan
+tetrahedron_plans others base range offsets nodes cells starts faces =
+    root_plan
     ∷ plan "CGNSLibraryVersion" "CGNSLibraryVersion_t" "R4" (1 ∷ []) 0 (102 ∷ 102 ∷ 134 ∷ 64 ∷ [])
     ∷ integers "Base" "CGNSBase_t" base 0
     ∷ plan "Zone1" "Zone_t" "I4" (1 ∷ 3 ∷ []) 2 (all_bytes 4 (4 ∷ 1 ∷ 0 ∷ []))
@@ -41,10 +41,10 @@ tetrahedronPlans others base range offsets nodes cells starts faces =
     ∷ others
 
 -- 001's faces of a tetrahedron
-abbrev pub fourFaces : List ℕ
-fourFaces = 1 ∷ 3 ∷ 2 ∷ 1 ∷ 2 ∷ 4 ∷ 2 ∷ 3 ∷ 4 ∷ 3 ∷ 1 ∷ 4 ∷ []
+abbrev pub four_faces : List ℕ
+four_faces = 1 ∷ 3 ∷ 2 ∷ 1 ∷ 2 ∷ 4 ∷ 2 ∷ 3 ∷ 4 ∷ 3 ∷ 1 ∷ 4 ∷ []
 
 -- case (a)
-abbrev pub tetraPlans : List Plan
-tetraPlans =
-    tetrahedronPlans [] (3 ∷ 3 ∷ []) (1 ∷ 4 ∷ []) (0 ∷ 3 ∷ 6 ∷ 9 ∷ 12 ∷ []) fourFaces (5 ∷ 5 ∷ []) (0 ∷ 4 ∷ []) (1 ∷ 2 ∷ 3 ∷ 4 ∷ [])
+abbrev pub tetra_plans : List Plan
+tetra_plans =
+    tetrahedron_plans [] (3 ∷ 3 ∷ []) (1 ∷ 4 ∷ []) (0 ∷ 3 ∷ 6 ∷ 9 ∷ 12 ∷ []) four_faces (5 ∷ 5 ∷ []) (0 ∷ 4 ∷ []) (1 ∷ 2 ∷ 3 ∷ 4 ∷ [])

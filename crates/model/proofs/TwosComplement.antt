@@ -8,24 +8,24 @@ use lib.Pow.{pow_pos}
 use lib.Dec.{eqb, ltb}
 use borrow.Author.Tests.{ltb-true, lt-ltb, lt-leb, leb-false, not-true, eqb-true}
 use Rattle.model.specs.Bytes.{half, negative, below, magnitude, signed}
-use Rattle.model.specs.Corner.{widthLawful}
+use Rattle.model.specs.Corner.{width_lawful}
 use Rattle.model.proofs.Logic.{and_first, and_second, or_cases}
 
 -- a width is 4 or 8, so half of the bit patterns are more than any size or element number
-pub half-wide : (w : ℕ) → widthLawful w ≡ true → 2147483647 < half w
-unfolding widthLawful half
+pub half-wide : (w : ℕ) → width_lawful w ≡ true → 2147483647 < half w
+unfolding width_lawful half
 half-wide w e =
     or_cases (eqb w 4) (eqb w 8) e
     (λ h. rw (eqb-true w 4 h) (omega arith))
     (λ h. rw (eqb-true w 8 h) (omega arith))
 
-pub not_negative : (w x : ℕ) → x < half w → negative w x ≡ false
+pub not_negative_lem : (w x : ℕ) → x < half w → negative w x ≡ false
 unfolding negative
-not_negative w x h = lt-leb (half w) x h
+not_negative_lem w x h = lt-leb (half w) x h
 
 pub signed_is : (w x : ℕ) → x < half w → signed w x ≡ pos x
 unfolding signed
-signed_is w x h = rw (not_negative w x h)
+signed_is w x h = rw (not_negative_lem w x h)
 
 -- a magnitude that is not 0 is that of the signed number
 pub magnitude-is : (w x : ℕ) → 1 ≤ magnitude w x → nat_abs (signed w x) ≡ magnitude w x
@@ -40,12 +40,12 @@ magnitude-is w x h = by_sign (negative w x) h
 pub below_up : (w x y : ℕ) → x < half w → below w x y ≡ true → (x < y) × (y < half w)
 unfolding below negative
 below_up w x y h e =
-    let s : (not (negative w y) && ltb x y) ≡ true = rw (not_negative w x h) at e in
+    let s : (not (negative w y) && ltb x y) ≡ true = rw (not_negative_lem w x h) at e in
     (ltb-true x y (and_second (not (negative w y)) (ltb x y) s), leb-false (half w) y (not-true (negative w y) (and_first (not (negative w y)) (ltb x y) s)))
 
 pub below-is : (w x y : ℕ) → x < y → y < half w → below w x y ≡ true
 unfolding below
-below-is w x y l h = rw (not_negative w x (omega arith), not_negative w y h) (lt-ltb x y l)
+below-is w x y l h = rw (not_negative_lem w x (omega arith), not_negative_lem w y h) (lt-ltb x y l)
 
 -- from 0 on each above its predecessor, as signed numbers: none is negative, each is above its predecessor, none is above the last
 module _ (w n : ℕ) (f : ℕ → ℕ) (first : f 0 ≡ 0) (up : (k : ℕ) → k < n → below w (f k) (f (suc k)) ≡ true) where

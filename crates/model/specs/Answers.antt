@@ -32,43 +32,43 @@ use Rattle.model.specs.DataSize.{Sizes}
 use Rattle.model.specs.ArrayValue.{Value, whole, single, double}
 use Rattle.model.specs.ParentElements.{FaceParents}
 
-abbrev pub stageTells : Stage → Check
-stageTells Stage.Pass = passed
-stageTells (Stage.Rejected r) = rejected r
+abbrev pub stage_tells : Stage → Check
+stage_tells Stage.Pass = passed
+stage_tells (Stage.Rejected r) = rejected r
 
 -- why a stage did not pass; no rule where it did
-abbrev pub rejectionOf : Stage → Rejection
-rejectionOf Stage.Pass = rejection 0 0
-rejectionOf (Stage.Rejected r) = r
+abbrev pub rejection_of : Stage → Rejection
+rejection_of Stage.Pass = rejection 0 0
+rejection_of (Stage.Rejected r) = r
 
-abbrev pub tableTells : Table → Answer TableCounts
-tableTells (Table.Sound n d x) = answer (record { nodes = n; dimensions = d; bytes = x })
-tableTells (Table.Rejected r) = rejected r
+abbrev pub table_tells : Table → Answer TableCounts
+table_tells (Table.Sound n d x) = answer (record { nodes = n; dimensions = d; bytes = x })
+table_tells (Table.Rejected r) = rejected r
 
-abbrev pub validationTells : Validation → Answer Counts
-validationTells (Validation.Accepted v s z e) = answer (record { validated = v; skipped = s; zones = z; sections = e })
-validationTells (Validation.Rejected r) = rejected r
+abbrev pub validation_tells : Validation → Answer Counts
+validation_tells (Validation.Accepted v s z e) = answer (record { validated = v; skipped = s; zones = z; sections = e })
+validation_tells (Validation.Rejected r) = rejected r
 
-abbrev pub countTells : Count → Answer ℕ
-countTells (Count.Of n) = answer n
-countTells (Count.Rejected r) = rejected r
+abbrev pub count_tells : Count → Answer ℕ
+count_tells (Count.Of n) = answer n
+count_tells (Count.Rejected r) = rejected r
 
-abbrev pub dataSizeTells : DataSize → Answer Sizes
-dataSizeTells (DataSize.Sizes n i j k) = answer (record { directions = n; i = i; j = j; k = k })
-dataSizeTells (DataSize.Rejected r) = rejected r
+abbrev pub data_size_tells : DataSize → Answer Sizes
+data_size_tells (DataSize.Sizes n i j k) = answer (record { directions = n; i = i; j = j; k = k })
+data_size_tells (DataSize.Rejected r) = rejected r
 
-abbrev pub cornerTells : Corner → Answer ℤ
-cornerTells (Corner.Number n) = answer n
-cornerTells (Corner.Rejected r) = rejected r
+abbrev pub corner_tells : Corner → Answer ℤ
+corner_tells (Corner.Number n) = answer n
+corner_tells (Corner.Rejected r) = rejected r
 
 -- a single and a double by their bits, a NaN's too
-abbrev pub valueTells : ArrayValue → Answer Value
-valueTells (ArrayValue.Whole n) = answer (whole n)
-valueTells (ArrayValue.Single x) = answer (single (to_bits binary32 x))
-valueTells (ArrayValue.Double x) = answer (double (to_bits binary64 x))
-valueTells (ArrayValue.SingleNan bits) = answer (single bits)
-valueTells (ArrayValue.DoubleNan bits) = answer (double bits)
-valueTells (ArrayValue.Rejected r) = rejected r
+abbrev pub value_tells : ArrayValue → Answer Value
+value_tells (ArrayValue.Whole n) = answer (whole n)
+value_tells (ArrayValue.Single x) = answer (single (to_bits binary32 x))
+value_tells (ArrayValue.Double x) = answer (double (to_bits binary64 x))
+value_tells (ArrayValue.SingleNan bits) = answer (single bits)
+value_tells (ArrayValue.DoubleNan bits) = answer (double bits)
+value_tells (ArrayValue.Rejected r) = rejected r
 
 -- the two NaN cases are for NaNs, and the others for no NaN
 abbrev pub NanCases : ArrayValue → Type 0
@@ -88,14 +88,14 @@ bits_of (ArrayValue.SingleNan bits) = bits
 bits_of (ArrayValue.DoubleNan bits) = bits
 bits_of (ArrayValue.Rejected r) = 0
 
-abbrev pub usageTells : FaceUsage → Answer ℕ
-usageTells (FaceUsage.Faces n) = answer n
-usageTells (FaceUsage.Rejected r) = rejected r
+abbrev pub usage_tells : FaceUsage → Answer ℕ
+usage_tells (FaceUsage.Faces n) = answer n
+usage_tells (FaceUsage.Rejected r) = rejected r
 
-abbrev pub parentsTells : ParentPair → Answer FaceParents
-parentsTells (ParentPair.Of p q) = answer (record { first = p; second = q })
-parentsTells (ParentPair.Rejected r) = rejected r
+abbrev pub parents_tells : ParentPair → Answer FaceParents
+parents_tells (ParentPair.Of p q) = answer (record { first = p; second = q })
+parents_tells (ParentPair.Rejected r) = rejected r
 
-abbrev pub agreementTells : Agreement → Answer Bool
-agreementTells (Agreement.Agrees y) = answer y
-agreementTells (Agreement.Rejected r) = rejected r
+abbrev pub agreement_tells : Agreement → Answer Bool
+agreement_tells (Agreement.Agrees y) = answer y
+agreement_tells (Agreement.Rejected r) = rejected r

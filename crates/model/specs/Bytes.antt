@@ -70,6 +70,6 @@ spells [] (y ∷ t) = false
 spells (x ∷ s) (y ∷ t) = let rest = spells s t in eqb x y && rest
 
 -- the place of a field's text in a list of texts, counted from k; 0 where it is none of them
-unfoldable pub placeFrom : ℕ → List ℕ → List (List ℕ) → ℕ
-placeFrom k s [] = 0
-placeFrom k s (t ∷ ts) = let later = placeFrom (suc k) s ts in cond (spells s t) k later
+unfoldable pub place_from : ℕ → List ℕ → List (List ℕ) → ℕ
+place_from k s [] = 0
+place_from k s (t ∷ ts) = let later = place_from (suc k) s ts in cond (spells s t) k later

@@ -1,13 +1,13 @@
 -- Document 01, "Placing and meaning", with document 02, §1: the known labels, which parent holds which of them, which nodes are validated, the fixed names.
 use Rattle.std.specs.Prelude.{ℕ, zero, suc, Bool, cond, not, ◌&&◌, ◌||◌, List, [], ◌∷◌, eqb, ltb}
-use Rattle.model.specs.Lists.{Row, ◌has◌, row, among, seekFrom}
-use Rattle.model.specs.Bytes.{text, spells, placeFrom}
+use Rattle.model.specs.Lists.{Row, ◌has◌, row, among, seek_from}
+use Rattle.model.specs.Bytes.{text, spells, place_from}
 use Rattle.model.specs.Image.{Tree, name, label, parent}
 
 infix 68 ◌holds◌called◌
 -- the known labels: those of the placing table
-unfoldable pub knownLabels : List (List ℕ)
-knownLabels =
+unfoldable pub known_labels : List (List ℕ)
+known_labels =
     text "CGNSLibraryVersion_t"
     ∷ text "CGNSBase_t"
     ∷ text "Zone_t"
@@ -71,7 +71,7 @@ Root = 15
 
 -- what a node is validated as: its label's place among the known ones, 0 for any other label; node 0 is the root whatever its label
 unfoldable pub role : Tree → ℕ → ℕ
-role t i = cond (eqb i 0) Root (placeFrom 1 (label t i) knownLabels)
+role t i = cond (eqb i 0) Root (place_from 1 (label t i) known_labels)
 
 -- the placing table
 unfoldable pub containment : List (Row (List ℕ))
@@ -85,41 +85,41 @@ containment =
     ∷ DataArray has (Descriptor ∷ [])
     ∷ []
 
-unfoldable pub mayHold : ℕ → ℕ → Bool
-mayHold above below = among below (row above [] containment)
+unfoldable pub may_hold : ℕ → ℕ → Bool
+may_hold above below = among below (row above [] containment)
 
 -- validated (document 01: judged): the root; another node when its label is known, and its parent is validated and is the root or no UserDefinedData_t.
 -- At most d steps up; a parent has a lower number, so i steps are enough.
-unfoldable pub validatedWithin : Tree → ℕ → ℕ → Bool
-validatedWithin t zero i = eqb i 0
-validatedWithin t (suc d) i =
-    let above = validatedWithin t d (parent t i) in
+unfoldable pub validated_within : Tree → ℕ → ℕ → Bool
+validated_within t zero i = eqb i 0
+validated_within t (suc d) i =
+    let above = validated_within t d (parent t i) in
     eqb i 0 || (ltb 0 (role t i) && not (eqb (role t (parent t i)) UserDefinedData) && above)
 
 unfoldable pub validated : Tree → ℕ → Bool
-validated t i = validatedWithin t i i
+validated t i = validated_within t i i
 
 -- skipped (document 01: passed over): every other node
 unfoldable pub skipped : Tree → ℕ → Bool
 skipped t i = not (validated t i)
 
-unfoldable pub validatedAs : Tree → ℕ → ℕ → Bool
-validatedAs t r i = eqb (role t i) r && validated t i
+unfoldable pub validated_as : Tree → ℕ → ℕ → Bool
+validated_as t r i = eqb (role t i) r && validated t i
 
 -- a validated node of the kind asked for
-unfoldable pub isZone : Tree → ℕ → Bool
-isZone t z = ltb z t.count && validatedAs t Zone z
+unfoldable pub is_zone : Tree → ℕ → Bool
+is_zone t z = ltb z t.count && validated_as t Zone z
 
 -- a section: a validated Elements_t child of the zone
-unfoldable pub sectionOf : Tree → ℕ → ℕ → Bool
-sectionOf t z s = eqb (parent t s) z && validatedAs t Elements s
+unfoldable pub section_of : Tree → ℕ → ℕ → Bool
+section_of t z s = eqb (parent t s) z && validated_as t Elements s
 
 -- the fixed names
 pub data Named : Type 0 where
   ◌holds◌called◌ : ℕ → ℕ → List ℕ → Named
 
-unfoldable pub fixedNames : List Named
-fixedNames =
+unfoldable pub fixed_names : List Named
+fixed_names =
     Root holds LibraryVersion called text "CGNSLibraryVersion"
     ∷ Zone holds ZoneType called text "ZoneType"
     ∷ GridCoordinates holds Rind called text "Rind"
@@ -132,22 +132,22 @@ fixedNames =
     ∷ []
 
 -- the fixed name of a child, else the name that it has
-unfoldable pub fixedName : ℕ → ℕ → List ℕ → List Named → List ℕ
-fixedName above below default [] = default
-fixedName above below default ((a holds b called n) ∷ rest) =
-    let later = fixedName above below default rest in cond (eqb above a && eqb below b) n later
+unfoldable pub fixed_name : ℕ → ℕ → List ℕ → List Named → List ℕ
+fixed_name above below default [] = default
+fixed_name above below default ((a holds b called n) ∷ rest) =
+    let later = fixed_name above below default rest in cond (eqb above a && eqb below b) n later
 
 -- a child of node i with that label and name
-unfoldable pub isChild : Tree → ℕ → ℕ → List ℕ → ℕ → Bool
-isChild t i r n j = eqb (parent t j) i && eqb (role t j) r && spells (name t j) n
+unfoldable pub is_child : Tree → ℕ → ℕ → List ℕ → ℕ → Bool
+is_child t i r n j = eqb (parent t j) i && eqb (role t j) r && spells (name t j) n
 
 -- the first of them (rule 11: the only one); the node count where there is none
 unfoldable pub child : Tree → ℕ → ℕ → List ℕ → ℕ
-child t i r n = seekFrom (isChild t i r n) t.count 0
+child t i r n = seek_from (is_child t i r n) t.count 0
 
 unfoldable pub found : Tree → ℕ → Bool
 found t j = ltb j t.count
 
 -- a child that does not conform is missing
-unfoldable pub orMissing : Tree → Bool → ℕ → ℕ
-orMissing t conforms j = cond conforms j t.count
+unfoldable pub or_missing : Tree → Bool → ℕ → ℕ
+or_missing t conforms j = cond conforms j t.count

@@ -3,24 +3,24 @@ use Rattle.std.specs.Prelude.{ℕ, ◌-◌, List, [], ◌∷◌, length, leb, �
 use Rattle.model.specs.declared.Section.{Section}
 use Rattle.model.specs.Lists.{over}
 use Rattle.model.specs.Rules.{◌unless◌, Answer, Check, check, ◌gives◌, leaves}
-use Rattle.model.specs.Corner.{inEntry, entrySize, readable, cornerNumber}
-use Rattle.model.specs.ReadList.{valuesFrom}
+use Rattle.model.specs.Corner.{in_entry, entry_size, readable, corner_number}
+use Rattle.model.specs.ReadList.{values_from}
 
 -- 41 and 43 are the corner reader's; 46: the lent memory has no room for all corners
-unfoldable pub elementCornersCheck : List ℕ → Section → ℕ → ℕ → Check
-elementCornersCheck b e el room =
+unfoldable pub element_corners_check : List ℕ → Section → ℕ → ℕ → Check
+element_corners_check b e el room =
     check 0
-    (41 unless inEntry e el
+    (41 unless in_entry e el
     ∷ 43 unless readable b e (el - e.first)
-    ∷ 46 unless leb (entrySize b e (el - e.first)) room
+    ∷ 46 unless leb (entry_size b e (el - e.first)) room
     ∷ [])
 
 -- the element's size is answered
-unfoldable pub elementCornersAnswer : List ℕ → Section → ℕ → ℕ → Answer ℕ
-elementCornersAnswer b e el room = elementCornersCheck b e el room gives entrySize b e (el - e.first)
+unfoldable pub element_corners_answer : List ℕ → Section → ℕ → ℕ → Answer ℕ
+element_corners_answer b e el room = element_corners_check b e el room gives entry_size b e (el - e.first)
 
 -- the lent memory: the corners from 1 on, the rest unchanged
-unfoldable pub elementCornersMemory : List ℕ → Section → ℕ → List ℤ → List ℤ
-elementCornersMemory b e el out =
-    leaves (elementCornersCheck b e el (length out)) out
-    (over out (valuesFrom (cornerNumber b e (el - e.first)) (entrySize b e (el - e.first)) 1))
+unfoldable pub element_corners_memory : List ℕ → Section → ℕ → List ℤ → List ℤ
+element_corners_memory b e el out =
+    leaves (element_corners_check b e el (length out)) out
+    (over out (values_from (corner_number b e (el - e.first)) (entry_size b e (el - e.first)) 1))

@@ -9,19 +9,19 @@ true ⊃ b = b
 false ⊃ b = true
 
 -- every one of the k numbers from i on
-unfoldable pub everyFrom : (ℕ → Bool) → ℕ → ℕ → Bool
-everyFrom p zero i = true
-everyFrom p (suc k) i = let rest = everyFrom p k (suc i) in p i && rest
+unfoldable pub every_from : (ℕ → Bool) → ℕ → ℕ → Bool
+every_from p zero i = true
+every_from p (suc k) i = let rest = every_from p k (suc i) in p i && rest
 
 -- some one of them
-unfoldable pub someFrom : (ℕ → Bool) → ℕ → ℕ → Bool
-someFrom p zero i = false
-someFrom p (suc k) i = let rest = someFrom p k (suc i) in p i || rest
+unfoldable pub some_from : (ℕ → Bool) → ℕ → ℕ → Bool
+some_from p zero i = false
+some_from p (suc k) i = let rest = some_from p k (suc i) in p i || rest
 
 -- how many of them
-unfoldable pub countFrom : (ℕ → Bool) → ℕ → ℕ → ℕ
-countFrom p zero i = 0
-countFrom p (suc k) i = let rest = countFrom p k (suc i) in cond (p i) (suc rest) rest
+unfoldable pub count_from : (ℕ → Bool) → ℕ → ℕ → ℕ
+count_from p zero i = 0
+count_from p (suc k) i = let rest = count_from p k (suc i) in cond (p i) (suc rest) rest
 
 -- which of them, in ascending order
 unfoldable pub list_from : (ℕ → Bool) → ℕ → ℕ → List ℕ
@@ -29,14 +29,14 @@ list_from p zero i = []
 list_from p (suc k) i = let rest = list_from p k (suc i) in cond (p i) (i ∷ rest) rest
 
 -- the first of them; i + k where there is none
-unfoldable pub seekFrom : (ℕ → Bool) → ℕ → ℕ → ℕ
-seekFrom p zero i = i
-seekFrom p (suc k) i = let rest = seekFrom p k (suc i) in cond (p i) i rest
+unfoldable pub seek_from : (ℕ → Bool) → ℕ → ℕ → ℕ
+seek_from p zero i = i
+seek_from p (suc k) i = let rest = seek_from p k (suc i) in cond (p i) i rest
 
 -- the sum over the numbers below i
-unfoldable pub sumBefore : (ℕ → ℕ) → ℕ → ℕ
-sumBefore f zero = 0
-sumBefore f (suc i) = sumBefore f i + f i
+unfoldable pub sum_before : (ℕ → ℕ) → ℕ → ℕ
+sum_before f zero = 0
+sum_before f (suc i) = sum_before f i + f i
 
 -- is x in the list
 unfoldable pub among : ℕ → List ℕ → Bool
@@ -56,5 +56,5 @@ unfoldable pub over : {A : Type 0} → List A → List A → List A
 over out new = new ++ drop (length new) out
 
 -- the same from place k on
-unfoldable pub overAt : {A : Type 0} → ℕ → List A → List A → List A
-overAt k out new = take k out ++ over (drop k out) new
+unfoldable pub over_at : {A : Type 0} → ℕ → List A → List A → List A
+over_at k out new = take k out ++ over (drop k out) new

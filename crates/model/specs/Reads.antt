@@ -3,43 +3,43 @@ use Rattle.std.specs.Prelude.{ℕ, ◌+◌, ◌*◌, ◌/◌, ◌≡◌, List, [
 use Rattle.model.specs.declared.Section.{Section}
 use Rattle.model.specs.declared.Corner.{Corner}
 use Rattle.model.specs.Rules.{◌unless◌, Answer, check, ◌then◌}
-use Rattle.model.specs.Sections.{entryLength}
-use Rattle.model.specs.Corner.{cornerAnswer}
-use Rattle.model.specs.Answers.{cornerTells}
+use Rattle.model.specs.Sections.{entry_length}
+use Rattle.model.specs.Corner.{corner_answer}
+use Rattle.model.specs.Answers.{corner_tells}
 
 -- the corner reader's contract: the image and the entry that it finds, the element and the corner, its answer, the image that it leaves
 pub record CornerRead (image : List ℕ) (e : Section) (element corner : ℕ) (r : Corner) (image' : List ℕ) : Type 0 where
-  pub answers : cornerTells r ≡ cornerAnswer image e element corner
+  pub answers : corner_tells r ≡ corner_answer image e element corner
   pub image-kept : image' ≡ image
 
 -- how many section entries flat numbers hold, and the k-th of them
-abbrev pub entriesIn : List ℕ → ℕ
-entriesIn flat = length flat / entryLength
+abbrev pub entries_in : List ℕ → ℕ
+entries_in flat = length flat / entry_length
 
-unfoldable pub sectionAt : List ℕ → ℕ → Section
-sectionAt flat k =
+unfoldable pub section_at : List ℕ → ℕ → Section
+section_at flat k =
     record {
-      node = get_or flat (entryLength * k) 0;
-      element_type = get_or flat (entryLength * k + 1) 0;
-      first = get_or flat (entryLength * k + 2) 0;
-      last = get_or flat (entryLength * k + 3) 0;
-      offsets_at = get_or flat (entryLength * k + 4) 0;
-      offsets_width = get_or flat (entryLength * k + 5) 0;
-      connectivity_at = get_or flat (entryLength * k + 6) 0;
-      connectivity_width = get_or flat (entryLength * k + 7) 0;
-      connectivity_length = get_or flat (entryLength * k + 8) 0;
-      parents_at = get_or flat (entryLength * k + 9) 0;
-      parents_width = get_or flat (entryLength * k + 10) 0;
+      node = get_or flat (entry_length * k) 0;
+      element_type = get_or flat (entry_length * k + 1) 0;
+      first = get_or flat (entry_length * k + 2) 0;
+      last = get_or flat (entry_length * k + 3) 0;
+      offsets_at = get_or flat (entry_length * k + 4) 0;
+      offsets_width = get_or flat (entry_length * k + 5) 0;
+      connectivity_at = get_or flat (entry_length * k + 6) 0;
+      connectivity_width = get_or flat (entry_length * k + 7) 0;
+      connectivity_length = get_or flat (entry_length * k + 8) 0;
+      parents_at = get_or flat (entry_length * k + 9) 0;
+      parents_width = get_or flat (entry_length * k + 10) 0;
     }
 
 -- a read with the k-th entry of a list: 40 where the list has none, else the corner reader's answer
-unfoldable pub readAnswer : List ℕ → List ℕ → ℕ → ℕ → ℕ → Answer ℤ
-readAnswer image entries k element corner =
-    check 0 (40 unless ltb k (entriesIn entries) ∷ []) then cornerAnswer image (sectionAt entries k) element corner
+unfoldable pub read_answer : List ℕ → List ℕ → ℕ → ℕ → ℕ → Answer ℤ
+read_answer image entries k element corner =
+    check 0 (40 unless ltb k (entries_in entries) ∷ []) then corner_answer image (section_at entries k) element corner
 
 -- its contract: the image and the entries that it finds, what it is asked, its answer, the image and the entries that it leaves
 pub record EntryRead (image entries : List ℕ) (k element corner : ℕ) (r : Corner) (image' entries' : List ℕ) : Type 0 where
-  pub answers : cornerTells r ≡ readAnswer image entries k element corner
+  pub answers : corner_tells r ≡ read_answer image entries k element corner
   pub image-kept : image' ≡ image
   pub entries-kept : entries' ≡ entries
 

@@ -6,13 +6,13 @@ infix 68 ◌unless◌
 infixr 20 ◌then◌
 infix 15 ◌gives◌
 infixl 15 ◌into◌
-infixl 25 ◌atEntry◌
+infixl 25 ◌at_entry◌
 -- a refusal: its number and its node; the place of an entry in the connectivity, from 1, is for 34 to 37 alone, the element for 45 alone
-abbrev pub rejectionAt : ℕ → ℕ → ℕ → Rejection
-rejectionAt rule node entry = record { rule = rule; node = node; entry = entry; element = 0 }
+abbrev pub rejection_at : ℕ → ℕ → ℕ → Rejection
+rejection_at rule node entry = record { rule = rule; node = node; entry = entry; element = 0 }
 
 abbrev pub rejection : ℕ → ℕ → Rejection
-rejection rule node = rejectionAt rule node 0
+rejection rule node = rejection_at rule node 0
 
 abbrev pub repetition : ℕ → ℕ → Rejection
 repetition node element = record { rule = 45; node = node; entry = 0; element = element }
@@ -53,14 +53,14 @@ check node [] = passed
 check node ((rule unless holds) ∷ rest) = let later = check node rest in cond holds later (rejected (rejection rule node))
 
 -- the check of an entry of the connectivity: its refusal tells the place of the entry
-unfoldable pub ◌atEntry◌ : Check → ℕ → Check
-(rejected r) at_entry place = rejected (rejectionAt r.rule r.node place)
+unfoldable pub ◌at_entry◌ : Check → ℕ → Check
+(rejected r) at_entry place = rejected (rejection_at r.rule r.node place)
 (answer x) at_entry place = answer x
 
 -- the lowest node, or entry, first: k of them from i on
-unfoldable pub checkFrom : (ℕ → Check) → ℕ → ℕ → Check
-checkFrom f zero i = passed
-checkFrom f (suc k) i = let rest = checkFrom f k (suc i) in f i then rest
+unfoldable pub check_from : (ℕ → Check) → ℕ → ℕ → Check
+check_from f zero i = passed
+check_from f (suc k) i = let rest = check_from f k (suc i) in f i then rest
 
 -- Every refusal leaves lent memory unchanged: what a call leaves, where a success would leave new.
 unfoldable pub leaves : {A B : Type 0} → Answer A → List B → List B → List B

@@ -1,26 +1,26 @@
 -- The verdict of document 01: header, records, leftovers, meaning; and the four counts of an acceptance.
 use Rattle.std.specs.Prelude.{ℕ, cond, List, eqb}
-use Rattle.model.specs.Lists.{countFrom}
-use Rattle.model.specs.Rules.{Answer, Check, passed, check, checkFrom, ◌then◌, ◌gives◌}
+use Rattle.model.specs.Lists.{count_from}
+use Rattle.model.specs.Rules.{Answer, Check, passed, check, check_from, ◌then◌, ◌gives◌}
 use Rattle.model.specs.Image.{Tree, tree_of}
-use Rattle.model.specs.Records.{tableCheck}
-use Rattle.model.specs.Containment.{Zone, Elements, role, validated, skipped, validatedAs}
-use Rattle.model.specs.Values.{sidsRules}
-use Rattle.model.specs.Elements.{elementRules, referenceCheck, parentRules}
+use Rattle.model.specs.Records.{table_check}
+use Rattle.model.specs.Containment.{Zone, Elements, role, validated, skipped, validated_as}
+use Rattle.model.specs.Values.{sids_rules}
+use Rattle.model.specs.Elements.{element_rules, reference_check, parent_rules}
 
 -- a section has rules 27 to 33 and 38 besides, then 34 to 37 of the entries of its connectivity, then 39
-unfoldable pub sectionCheck : Tree → ℕ → Check
-sectionCheck t i = cond (eqb (role t i) Elements) (check i (elementRules t i) then referenceCheck t i then check i (parentRules t i)) passed
+unfoldable pub section_check : Tree → ℕ → Check
+section_check t i = cond (eqb (role t i) Elements) (check i (element_rules t i) then reference_check t i then check i (parent_rules t i)) passed
 
 -- a node that is not validated is skipped
-unfoldable pub nodeCheckAt : Tree → ℕ → Check
-nodeCheckAt t i = cond (validated t i) (check i (sidsRules t i) then sectionCheck t i) passed
+unfoldable pub node_check_at : Tree → ℕ → Check
+node_check_at t i = cond (validated t i) (check i (sids_rules t i) then section_check t i) passed
 
-unfoldable pub nodeCheck : Tree → Check
-nodeCheck t = checkFrom (nodeCheckAt t) t.count 0
+unfoldable pub node_check : Tree → Check
+node_check t = check_from (node_check_at t) t.count 0
 
-unfoldable pub imageCheck : List ℕ → Check
-imageCheck b = tableCheck b then nodeCheck (tree_of b)
+unfoldable pub image_check : List ℕ → Check
+image_check b = table_check b then node_check (tree_of b)
 
 -- nodes validated, nodes skipped, validated zones, validated sections
 pub record Counts : Type 0 where
@@ -32,11 +32,11 @@ pub record Counts : Type 0 where
 unfoldable pub counts : Tree → Counts
 counts t =
     record {
-      validated = countFrom (validated t) t.count 0;
-      skipped = countFrom (skipped t) t.count 0;
-      zones = countFrom (validatedAs t Zone) t.count 0;
-      sections = countFrom (validatedAs t Elements) t.count 0;
+      validated = count_from (validated t) t.count 0;
+      skipped = count_from (skipped t) t.count 0;
+      zones = count_from (validated_as t Zone) t.count 0;
+      sections = count_from (validated_as t Elements) t.count 0;
     }
 
 unfoldable pub validation : List ℕ → Answer Counts
-validation b = imageCheck b gives counts (tree_of b)
+validation b = image_check b gives counts (tree_of b)

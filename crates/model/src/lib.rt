@@ -1,7 +1,9 @@
 // The types that contracts name: a rejection, the answer of each call, a section. What they mean stands in specs/.
+#![tactic(auto)]
+
 ghost use Rattle.std.specs.Prelude.{◌≡◌};
-ghost use Rattle.model.specs.Rules.{rejection, rejectionAt, repetition};
-ghost use Rattle.model.specs.Answers.{rejectionOf};
+ghost use Rattle.model.specs.Rules.{rejection, rejection_at, repetition};
+ghost use Rattle.model.specs.Answers.{rejection_of};
 
 // Why a call is refused: the rule's number, the node (0 where the rule names none), for rules 34 to 37 alone the place of the entry in the connectivity,
 // counted from 1, and for rule 45 alone the element.
@@ -28,7 +30,7 @@ impl Rejection {
 
     // A rule broken by an entry of a section's connectivity.
     pub fn at_entry(rule: u64, node: u64, entry: u64) -> Rejection
-        ensures { result ≡ rejectionAt rule node entry }
+        ensures { result ≡ rejection_at rule node entry }
     {
         Rejection {
             rule,
@@ -61,7 +63,7 @@ pub enum Stage {
 impl Stage {
     // Why a stage did not pass; no rule where it did.
     pub fn rejection(self) -> Rejection
-        ensures { result ≡ rejectionOf self }
+        ensures { result ≡ rejection_of self }
     {
         match self {
             Stage::Rejected(r) => r,

@@ -10,20 +10,20 @@ use lib.ListN.{get_or}
 use borrow.Author.Tests.{eq-eqb, ne_eqb, eqb-true, eqb-false, ltb-true, lt-ltb}
 use Rattle.model.specs.Bytes.{same}
 use Rattle.model.specs.Image.{Tree, name, parent}
-use Rattle.model.specs.Records.{sibling, namesake, nameTaken}
+use Rattle.model.specs.Records.{sibling, namesake, name_taken}
 use Rattle.model.proofs.Logic.{untrue, and_first, and_second, same-is}
-use Rattle.model.proofs.Walks.{every-at, some-by, some_at}
-use Rattle.name_order.specs.Order.{precedes, nodeAt, place_of, rightAt, ordered, takenBeside}
-use Rattle.name_order.proofs.Order.{lower-same, lower-on, between-equal}
+use Rattle.model.proofs.Walks.{every_at, some_by, some_at}
+use Rattle.name_order.specs.Order.{precedes, node_at, place_of, right_at, ordered, taken_beside}
+use Rattle.name_order.proofs.Order.{lower-same, lower-on, between_equal}
 
 -- the parent and the name of a node
 abbrev key_of : Tree → ℕ → List ℕ
 key_of t i = parent t i ∷ name t i
 
-same-itself : (s : List ℕ) → same s s ≡ true
+same_itself : (s : List ℕ) → same s s ≡ true
 unfolding same
-same-itself [] = refl
-same-itself (x ∷ s) = rw (eq-eqb x x refl) (same-itself s)
+same_itself [] = refl
+same_itself (x ∷ s) = rw (eq-eqb x x refl) (same_itself s)
 
 module _ (t : Tree) where
   key-same : (i j : ℕ) → namesake t i j ≡ true → key_of t j ≡ key_of t i
@@ -37,7 +37,7 @@ module _ (t : Tree) where
   same_key i j e =
       let p : parent t j ≡ parent t i = cc in
       let n : name t j ≡ name t i = cc in
-      rw (eq-eqb (parent t j) (parent t i) p, n) (same-itself (name t i))
+      rw (eq-eqb (parent t j) (parent t i) p, n) (same_itself (name t i))
 
   -- of two namesakes the lower number stands before the other
   namesakes : (i j : ℕ) → namesake t i j ≡ true → precedes t j i ≡ ltb j i
@@ -53,7 +53,7 @@ module _ (t : Tree) where
   unfolding precedes
   between i j m e f g =
       let k = key-same i j e in
-      let w = between-equal j m i (key_of t i) (key_of t m) (rw k at f) g in
+      let w = between_equal j m i (key_of t i) (key_of t m) (rw k at f) g in
       (same_key i m (sym w.0), w.1)
 
 both_ways : (a b : Bool) → (a ≡ true → b ≡ true) → (b ≡ true → a ≡ true) → a ≡ b
@@ -62,43 +62,43 @@ both_ways false true f g = g refl
 both_ways false false f g = refl
 
 module _ (t : Tree) (o : List ℕ) (n : ℕ) where
-  node-small : (k : ℕ) → 0 < n → nodeAt o n k < n
-  unfolding nodeAt
-  node-small k h = by-test (ltb (get_or o k 0) n) refl
+  node-small : (k : ℕ) → 0 < n → node_at o n k < n
+  unfolding node_at
+  node-small k h = by_test (ltb (get_or o k 0) n) refl
     where
-      by-test : (a : Bool) → ltb (get_or o k 0) n ≡ a → cond a (get_or o k 0) 0 < n
-      by-test true e = ltb-true (get_or o k 0) n e
-      by-test false e = h
+      by_test : (a : Bool) → ltb (get_or o k 0) n ≡ a → cond a (get_or o k 0) 0 < n
+      by_test true e = ltb-true (get_or o k 0) n e
+      by_test false e = h
 
   module _ (ok : ordered t o n ≡ true) where
-    right : (i : ℕ) → i < n → rightAt t o n i ≡ true
+    right : (i : ℕ) → i < n → right_at t o n i ≡ true
     unfolding ordered
-    right i h = every-at (rightAt t o n) n 0 i ok (omega arith) (omega arith)
+    right i h = every_at (right_at t o n) n 0 i ok (omega arith) (omega arith)
 
-    there : (i : ℕ) → i < n → nodeAt o n (place_of o n i) ≡ i
-    unfolding rightAt
-    there i h = eqb-true _ _ (and_first (eqb (nodeAt o n (place_of o n i)) i) _ (right i h))
+    there : (i : ℕ) → i < n → node_at o n (place_of o n i) ≡ i
+    unfolding right_at
+    there i h = eqb-true _ _ (and_first (eqb (node_at o n (place_of o n i)) i) _ (right i h))
 
-    next : (k : ℕ) → k + 1 < n → precedes t (nodeAt o n k) (nodeAt o n (k + 1)) ≡ true
-    unfolding rightAt
+    next : (k : ℕ) → k + 1 < n → precedes t (node_at o n k) (node_at o n (k + 1)) ≡ true
+    unfolding right_at
     next k h =
         let e : k + 1 - 1 ≡ k = omega arith in
         let f = ne_eqb (k + 1) 0 (λ (z : k + 1 ≡ 0). absurd (omega arith)) in
-        rw (e, f) at (and_second (eqb (nodeAt o n (place_of o n (k + 1))) (k + 1)) _ (right (k + 1) h))
+        rw (e, f) at (and_second (eqb (node_at o n (place_of o n (k + 1))) (k + 1)) _ (right (k + 1) h))
 
-    later : (k m : ℕ) → k + 1 + m < n → precedes t (nodeAt o n k) (nodeAt o n (k + 1 + m)) ≡ true
+    later : (k m : ℕ) → k + 1 + m < n → precedes t (node_at o n k) (node_at o n (k + 1 + m)) ≡ true
     later k zero h = let e : k + 1 + 0 ≡ k + 1 = omega arith in rw e (next k (omega arith))
     later k (suc m) h =
         let e : k + 1 + suc m ≡ k + 1 + m + 1 = omega arith in
-        rw e (precedes-on t (nodeAt o n k) (nodeAt o n (k + 1 + m)) (nodeAt o n (k + 1 + m + 1)) (later k m (omega arith)) (next (k + 1 + m) (omega arith)))
+        rw e (precedes-on t (node_at o n k) (node_at o n (k + 1 + m)) (node_at o n (k + 1 + m + 1)) (later k m (omega arith)) (next (k + 1 + m) (omega arith)))
 
-    rises : (k l : ℕ) → k < l → l < n → precedes t (nodeAt o n k) (nodeAt o n l) ≡ true
+    rises : (k l : ℕ) → k < l → l < n → precedes t (node_at o n k) (node_at o n l) ≡ true
     rises k l h b = let e : k + 1 + (l - (k + 1)) ≡ l = omega arith in rw e at (later k (l - (k + 1)) (omega arith))
 
     module _ (i : ℕ) (h : i < n) where
       -- the node before it
       abbrev beside : ℕ
-      beside = nodeAt o n (place_of o n i - 1)
+      beside = node_at o n (place_of o n i - 1)
 
       beside_first : 0 < place_of o n i → precedes t beside i ≡ true
       beside_first p =
@@ -106,15 +106,15 @@ module _ (t : Tree) (o : List ℕ) (n : ℕ) where
           let q : place_of o n i - 1 + 1 ≡ place_of o n i = omega arith in
           rw (q, e) at (next (place_of o n i - 1) (omega (arith, node-small (8192 + i) (omega arith))))
 
-      from-beside : takenBeside t o n i ≡ true → nameTaken t i ≡ true
-      unfolding takenBeside nameTaken
-      from-beside e = by-test (eqb (place_of o n i) 0) refl e
+      from_beside : taken_beside t o n i ≡ true → name_taken t i ≡ true
+      unfolding taken_beside name_taken
+      from_beside e = by_test (eqb (place_of o n i) 0) refl e
         where
-          by-test : (a : Bool) → eqb (place_of o n i) 0 ≡ a → cond a false (namesake t i beside) ≡ true → nameTaken t i ≡ true
-          by-test true g f = untrue f
-          by-test false g f =
+          by_test : (a : Bool) → eqb (place_of o n i) 0 ≡ a → cond a false (namesake t i beside) ≡ true → name_taken t i ≡ true
+          by_test true g f = untrue f
+          by_test false g f =
               let l = ltb-true beside i (sym (namesakes t i beside f) ∙ beside_first (omega (arith, eqb-false (place_of o n i) 0 g))) in
-              some-by (namesake t i) i 0 beside f (omega arith) (omega arith)
+              some_by (namesake t i) i 0 beside f (omega arith) (omega arith)
 
       -- an earlier namesake stands before it, and the node beside it is that one or between the two
       module _ (j : ℕ) (l : j < i) (e : namesake t i j ≡ true) where
@@ -130,8 +130,8 @@ module _ (t : Tree) (o : List ℕ) (n : ℕ) where
         lower-place : place_of o n j < place_of o n i
         lower-place = omega (arith, apart, not_after)
 
-        beside-is : namesake t i beside ≡ true
-        beside-is =
+        beside_is : namesake t i beside ≡ true
+        beside_is =
             let p = lower-place in
             elim (ℕ_discrete (place_of o n j) (place_of o n i - 1)) [
               | yes q ↦ let z : beside ≡ j = rw (← q) (there j (omega arith)) in rw z e
@@ -140,10 +140,10 @@ module _ (t : Tree) (o : List ℕ) (n : ℕ) where
                   (between t i j beside e (rw (there j (omega arith)) at b) (beside_first (omega arith))).0
             ]
 
-        to-beside : takenBeside t o n i ≡ true
-        unfolding takenBeside
-        to-beside = let p = lower-place in rw (ne_eqb (place_of o n i) 0 (λ (z : place_of o n i ≡ 0). absurd (omega arith))) beside-is
+        to_beside : taken_beside t o n i ≡ true
+        unfolding taken_beside
+        to_beside = let p = lower-place in rw (ne_eqb (place_of o n i) 0 (λ (z : place_of o n i ≡ 0). absurd (omega arith))) beside_is
 
-      pub beside-taken : nameTaken t i ≡ takenBeside t o n i
-      unfolding nameTaken
-      beside-taken = both_ways _ _ (λ e. let s = some_at (namesake t i) i 0 e in to-beside s.at (omega (arith, s.to)) s.holds) from-beside
+      pub beside_taken : name_taken t i ≡ taken_beside t o n i
+      unfolding name_taken
+      beside_taken = both_ways _ _ (λ e. let s = some_at (namesake t i) i 0 e in to_beside s.at (omega (arith, s.to)) s.holds) from_beside

@@ -1,10 +1,10 @@
 // Rule 11 for all nodes at once, whatever their names: the nodes are put in the order of their parents and names, where namesakes stand side by side.
 // The order is checked before it is used.
 ghost use Rattle.std.specs.Prelude.{◌≡◌, ◌*◌, ◌≤◌, ◌<◌, length};
-ghost use Rattle.model.specs.Lists.{seekFrom};
-ghost use Rattle.model.specs.Records.{nameTaken};
-ghost use Rattle.records.specs.Table.{allRecords, HasRecord};
-ghost use Rattle.name_order.specs.Order.{precedes, nodeAt, rightAt, ordered, takenBeside, HasNodes};
+ghost use Rattle.model.specs.Lists.{seek_from};
+ghost use Rattle.model.specs.Records.{name_taken};
+ghost use Rattle.records.specs.Table.{all_records, HasRecord};
+ghost use Rattle.name_order.specs.Order.{precedes, node_at, right_at, ordered, taken_beside, HasNodes};
 
 mod sort; // sort.rt: the nodes in order, by merging
 
@@ -16,7 +16,7 @@ const PLACES: usize = 8192;
 // Whether node j stands before node i: by parent, then by the first byte in which the names differ, then by number.
 fn comes_before(table: &[u8], j: usize, i: usize) -> bool
     requires { HasRecord table.now j × HasRecord table.now i }
-    ensures { result ≡ precedes (allRecords table.now) j i }
+    ensures { result ≡ precedes (all_records table.now) j i }
 {
     let a = nodes::parent_of(table, j);
     let b = nodes::parent_of(table, i);
@@ -35,7 +35,7 @@ fn comes_before(table: &[u8], j: usize, i: usize) -> bool
 // The node stored at place k; 0 where the number there is that of none of `count` nodes.
 fn node_at(order: &[u16], count: usize, k: usize) -> usize
     requires { (0 < count) × (k < length order.now) }
-    ensures { (result ≡ nodeAt order.now count k) × (result < count) }
+    ensures { (result ≡ node_at order.now count k) × (result < count) }
 {
     let x = order[k] as usize;
     if x < count { x } else { 0 }
@@ -56,7 +56,7 @@ fn put_places(count: usize, order: &mut [u16])
 // Whether node i stands at its place, and the node at place i after the one before.
 fn is_right_at(table: &[u8], count: usize, order: &[u16], i: usize) -> bool
     requires { (HasNodes table.now count × (i < count)) × (16384 ≤ length order.now) }
-    ensures { result ≡ rightAt (allRecords table.now) order.now count i }
+    ensures { result ≡ right_at (all_records table.now) order.now count i }
 {
     if node_at(order, count, node_at(order, count, PLACES + i)) != i {
         return false;
@@ -74,7 +74,7 @@ fn is_right_at(table: &[u8], count: usize, order: &[u16], i: usize) -> bool
 // Whether that holds of each node: the order is right.
 fn is_ordered(table: &[u8], count: usize, order: &[u16]) -> bool
     requires { HasNodes table.now count × (16384 ≤ length order.now) }
-    ensures { result ≡ ordered (allRecords table.now) order.now count }
+    ensures { result ≡ ordered (all_records table.now) order.now count }
 {
     let mut i: usize = 0;
     while i < count {
@@ -89,7 +89,7 @@ fn is_ordered(table: &[u8], count: usize, order: &[u16]) -> bool
 // Whether the node before node i in the order is its namesake.
 fn is_taken_beside(table: &[u8], count: usize, order: &[u16], i: usize) -> bool
     requires { (HasNodes table.now count × (i < count)) × (16384 ≤ length order.now) }
-    ensures { result ≡ takenBeside (allRecords table.now) order.now count i }
+    ensures { result ≡ taken_beside (all_records table.now) order.now count i }
 {
     let place = node_at(order, count, PLACES + i);
     if place == 0 {
@@ -102,7 +102,7 @@ fn is_taken_beside(table: &[u8], count: usize, order: &[u16], i: usize) -> bool
 // Whether an earlier sibling of node i has its name, by asking each.
 fn is_taken_before(table: &[u8], i: usize) -> bool
     requires { HasRecord table.now i }
-    ensures { result ≡ nameTaken (allRecords table.now) i }
+    ensures { result ≡ name_taken (all_records table.now) i }
 {
     let up = nodes::parent_of(table, i);
     let mut j: usize = 0;
@@ -118,8 +118,8 @@ fn is_taken_before(table: &[u8], i: usize) -> bool
 // The same, by the order where it holds.
 fn is_taken(table: &[u8], count: usize, order: &[u16], holds: bool, i: usize) -> bool
     requires has_nodes { (HasNodes table.now count × (i < count)) × (16384 ≤ length order.now) }
-    requires holds_value { holds ≡ ordered (allRecords table.now) order.now count }
-    ensures { result ≡ nameTaken (allRecords table.now) i }
+    requires holds_value { holds ≡ ordered (all_records table.now) order.now count }
+    ensures { result ≡ name_taken (all_records table.now) i }
 {
     if holds {
         return is_taken_beside(table, count, order, i);
@@ -130,7 +130,7 @@ fn is_taken(table: &[u8], count: usize, order: &[u16], holds: bool, i: usize) ->
 // The first node whose name is taken, by an order that is checked here; count where there is none.
 fn first_by(table: &[u8], count: usize, order: &[u16]) -> usize
     requires { HasNodes table.now count × (16384 ≤ length order.now) }
-    ensures { result ≡ seekFrom (nameTaken (allRecords table.now)) count 0 }
+    ensures { result ≡ seek_from (name_taken (all_records table.now)) count 0 }
 {
     let holds = is_ordered(table, count, order);
     let mut i: usize = 0;
@@ -147,7 +147,7 @@ fn first_by(table: &[u8], count: usize, order: &[u16]) -> usize
 pub fn first_taken(table: &[u8], count: usize, order: &mut [u16]) -> usize
     requires count_bound { (count ≤ 4096) × (84 * count ≤ length table.now) }
     requires in_bounds { 16384 ≤ length order.old }
-    ensures { result ≡ seekFrom (nameTaken (allRecords table.now)) count 0 }
+    ensures { result ≡ seek_from (name_taken (all_records table.now)) count 0 }
 {
     sort::sort(table, count, order);
     put_places(count, order);

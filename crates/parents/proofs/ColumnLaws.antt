@@ -8,40 +8,40 @@ use native.Mathlib.Nat.{mul_assoc, mul-add, add_assoc}
 use native.Mathlib.Decide.{dec_lt}
 use lib.Dec.{eqb, leb, ltb}
 use borrow.Author.Tests.{lt-ltb, le-ltb, le-leb, lt-leb}
-use Rattle.model.specs.Lists.{everyFrom}
+use Rattle.model.specs.Lists.{every_from}
 use Rattle.model.specs.Image.{Tree, tree_of, width, number}
 use Rattle.model.specs.Given.{Sound}
-use Rattle.model.specs.Values.{maxNumber}
+use Rattle.model.specs.Values.{max_number}
 use Rattle.model.specs.Corner.{number_at}
 use Rattle.model.proofs.Logic.{or_left, or_right, or_cases}
-use Rattle.model.proofs.Walks.{every-same, every-both}
+use Rattle.model.proofs.Walks.{every_same, every_both}
 use Rattle.rows.specs.declared.Row.{Row}
 use Rattle.rows.specs.Rows.{Numbers}
 use Rattle.ranges.specs.declared.Interval.{Interval}
-use Rattle.ranges.specs.Tables.{key, inRanges, isWithin, Covered}
+use Rattle.ranges.specs.Tables.{key, in_ranges, is_within, Covered}
 use Rattle.section_data.specs.Given.{Stores}
 use Rattle.section_data.specs.Passing.{Passed}
 use Rattle.section_data.specs.Ranges.{TableOf, Cells}
-use Rattle.section_data.proofs.Stored.{dataFrom, stores_row, stores-number}
+use Rattle.section_data.proofs.Stored.{data_from_lem, stores_row, stores-number}
 use Rattle.section_data.proofs.TableLaws.{covered-is}
-use Rattle.parents.specs.Parents.{isParent, isKnown, known_at, parentAt, pair_at}
+use Rattle.parents.specs.Parents.{is_parent, is_known, known_at, parent_at, pair_at}
 
 -- a number that was looked up, whatever it is
-looked-up : {p : ℕ → ℕ → Bool} {firsts reach : List ℕ} {n : ℕ} → TableOf p firsts reach n → (z x : ℕ)
-    → (leb x maxNumber && inRanges firsts reach n (key z x)) ≡ p z x
-looked-up g z x =
-    elim (dec_lt maxNumber x) [
-      | yes h ↦ rw (lt-leb x maxNumber h) (sym (g.small z x h))
-      | no h ↦ rw (le-leb x maxNumber (omega arith)) (g.in-ranges z x (omega arith))
+looked_up : {p : ℕ → ℕ → Bool} {firsts reach : List ℕ} {n : ℕ} → TableOf p firsts reach n → (z x : ℕ)
+    → (leb x max_number && in_ranges firsts reach n (key z x)) ≡ p z x
+looked_up g z x =
+    elim (dec_lt max_number x) [
+      | yes h ↦ rw (lt-leb x max_number h) (sym (g.small z x h))
+      | no h ↦ rw (le-leb x max_number (omega arith)) (g.in_ranges_lem z x (omega arith))
     ]
 
 -- number k of a row is an allowed 0; it is none where it is not known
-abbrev pub noneAt : Bool → List ℕ → Row → ℕ → Bool
-noneAt none b row k = none && eqb (number_at b row.at row.width k) 0
+abbrev pub none_at : Bool → List ℕ → Row → ℕ → Bool
+none_at none b row k = none && eqb (number_at b row.at row.width k) 0
 
-pub not_none : (none : Bool) (b : List ℕ) (row : Row) (k : ℕ) (r : Interval) → known_at b row r none k ≡ false → noneAt none b row k ≡ false
-unfolding known_at isKnown
-not_none none b row k r e = neither (noneAt none b row k) (isWithin r _) e
+pub not_none : (none : Bool) (b : List ℕ) (row : Row) (k : ℕ) (r : Interval) → known_at b row r none k ≡ false → none_at none b row k ≡ false
+unfolding known_at is_known
+not_none none b row k r e = neither (none_at none b row k) (is_within r _) e
   where
     neither : (a c : Bool) → (a || c) ≡ false → a ≡ false
     neither true c h = h
@@ -50,40 +50,40 @@ not_none none b row k r e = neither (noneAt none b row k) (isWithin r _) e
 -- the numbers of a row in zone z
 module _ (t : Tree) {firsts reach : List ℕ} {n : ℕ} (g : Cells t firsts reach n) (z : ℕ) (none : Bool) (b : List ℕ) (row : Row) where
   -- known numbers are parents
-  pub known-parents : {r : Interval} {k j : ℕ} → Covered firsts reach n z r → Passed (known_at b row r none) row.n k j
-      → Passed (parentAt t z none b row) row.n k j
-  unfolding known_at isKnown parentAt isParent
-  known-parents {r} c s =
+  pub known_parents : {r : Interval} {k j : ℕ} → Covered firsts reach n z r → Passed (known_at b row r none) row.n k j
+      → Passed (parent_at t z none b row) row.n k j
+  unfolding known_at is_known parent_at is_parent
+  known_parents {r} c s =
       record {
         from = s.from;
         to = s.to;
         each = λ i x y. let v = number_at b row.at row.width i in
-            or_cases (none && eqb v 0) (isWithin r v) (s.each i x y) (or_left _ _) (λ w. or_right (none && eqb v 0) _ (covered-is g z c v w));
+            or_cases (none && eqb v 0) (is_within r v) (s.each i x y) (or_left _ _) (λ w. or_right (none && eqb v 0) _ (covered-is g z c v w));
       }
 
   -- number k is x, which is looked up
-  module _ (k : ℕ) {x s : ℕ} (e : x ≡ number_at b row.at row.width k) (h : ltb 0 s ≡ (leb x maxNumber && inRanges firsts reach n (key z x))) where
-    pub found-parent : (s ≡ 0 → ⊥) → parentAt t z none b row k ≡ true
-    unfolding parentAt isParent
-    found-parent u = rw (← e) (or_right (none && eqb x 0) _ (sym (h ∙ looked-up g z x) ∙ lt-ltb 0 s (omega (arith, u))))
+  module _ (k : ℕ) {x s : ℕ} (e : x ≡ number_at b row.at row.width k) (h : ltb 0 s ≡ (leb x max_number && in_ranges firsts reach n (key z x))) where
+    pub found-parent : (s ≡ 0 → ⊥) → parent_at t z none b row k ≡ true
+    unfolding parent_at is_parent
+    found-parent u = rw (← e) (or_right (none && eqb x 0) _ (sym (h ∙ looked_up g z x) ∙ lt-ltb 0 s (omega (arith, u))))
 
-    pub no-parent : noneAt none b row k ≡ false → s ≡ 0 → parentAt t z none b row k ≡ false
-    unfolding parentAt isParent
-    no-parent v u = rw (v, ← e) (sym (h ∙ looked-up g z x) ∙ le-ltb 0 s (omega arith))
+    pub no_parent_lem : none_at none b row k ≡ false → s ≡ 0 → parent_at t z none b row k ≡ false
+    unfolding parent_at is_parent
+    no_parent_lem v u = rw (v, ← e) (sym (h ∙ looked_up g z x) ∙ le-ltb 0 s (omega arith))
 
 -- node j stores two columns of n numbers, from `at` on
-module _ {b : List ℕ} (g : Sound b) {j : ℕ} (n : ℕ) (o : Stores b j (n * 2)) {at w : ℕ} (p : at ≡ dataFrom b j) (q : w ≡ width (tree_of b) j) where
+module _ {b : List ℕ} (g : Sound b) {j : ℕ} (n : ℕ) (o : Stores b j (n * 2)) {at w : ℕ} (p : at ≡ data_from_lem b j) (q : w ≡ width (tree_of b) j) where
   both : Numbers b at w (n * 2)
   both = rw (p, q) (stores_row g o)
 
   twice : w * (n * 2) ≡ w * n + w * n
   twice = rw (← mul_assoc w n 2) (omega arith)
 
-  pub first-column : Numbers b at w n
-  first-column = record { wide = both.wide; inside = omega (arith, both.inside, twice) }
+  pub first_column : Numbers b at w n
+  first_column = record { wide = both.wide; inside = omega (arith, both.inside, twice) }
 
-  pub second-column : Numbers b (at + w * n) w n
-  second-column = record { wide = both.wide; inside = omega (arith, both.inside, twice) }
+  pub second_column : Numbers b (at + w * n) w n
+  second_column = record { wide = both.wide; inside = omega (arith, both.inside, twice) }
 
   number_is : (k : ℕ) → k < n * 2 → number (tree_of b) j k ≡ number_at b at w k
   number_is k h = rw (p, q) (stores-number g o k h)
@@ -92,13 +92,13 @@ module _ {b : List ℕ} (g : Sound b) {j : ℕ} (n : ℕ) (o : Stores b j (n * 2
   unfolding number_at
   behind k = rw (mul-add w n k, add_assoc at (w * n) (w * k))
 
-  pub columns-are : (z : ℕ) → everyFrom (pair_at (tree_of b) z j n) n 0
-      ≡ (everyFrom (parentAt (tree_of b) z false b (record { at = at; width = w; n = n })) n 0
-      && everyFrom (parentAt (tree_of b) z true b (record { at = at + w * n; width = w; n = n })) n 0)
-  unfolding pair_at parentAt
-  columns-are z =
-      let first = parentAt (tree_of b) z false b (record { at = at; width = w; n = n }) in
-      let second = parentAt (tree_of b) z true b (record { at = at + w * n; width = w; n = n }) in
-      every-same (pair_at (tree_of b) z j n) (λ (k : ℕ). first k && second k) n 0
+  pub columns_are : (z : ℕ) → every_from (pair_at (tree_of b) z j n) n 0
+      ≡ (every_from (parent_at (tree_of b) z false b (record { at = at; width = w; n = n })) n 0
+      && every_from (parent_at (tree_of b) z true b (record { at = at + w * n; width = w; n = n })) n 0)
+  unfolding pair_at parent_at
+  columns_are z =
+      let first = parent_at (tree_of b) z false b (record { at = at; width = w; n = n }) in
+      let second = parent_at (tree_of b) z true b (record { at = at + w * n; width = w; n = n }) in
+      every_same (pair_at (tree_of b) z j n) (λ (k : ℕ). first k && second k) n 0
       (λ k x h. rw (number_is k (omega arith), number_is (n + k) (omega arith), behind k))
-      ∙ every-both first second n 0
+      ∙ every_both first second n 0

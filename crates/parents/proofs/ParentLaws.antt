@@ -6,151 +6,151 @@ use mathlib.Core.List.{List, [], ◌∷◌}
 use native.Mathlib.Omega.{arith}
 use lib.Dec.{eqb}
 use borrow.Author.Tests.{eqb-true, lt-ltb, le-ltb}
-use Rattle.model.specs.Lists.{◌⊃◌, everyFrom, seekFrom}
+use Rattle.model.specs.Lists.{◌⊃◌, every_from, seek_from}
 use Rattle.model.specs.Rules.{check, passed}
-use Rattle.model.specs.Image.{Tree, tree_of, nodeCount, parent, I4, I8}
+use Rattle.model.specs.Image.{Tree, tree_of, node_count, parent, I4, I8}
 use Rattle.model.specs.Given.{Sound, NodesTo}
 use Rattle.model.specs.Records.{product}
-use Rattle.model.specs.Containment.{role, found, validated, validatedAs, Elements}
-use Rattle.model.specs.Values.{typed, shaped, typeLawful, valueLawful, range_of, sidsRules}
-use Rattle.model.specs.Elements.{NGON, elementType, elementCount, parentsOf, firstParent, secondParent, areParents, parentsLawful, parentRules}
+use Rattle.model.specs.Containment.{role, found, validated, validated_as, Elements}
+use Rattle.model.specs.Values.{typed, shaped, type_lawful, value_lawful, range_of, sids_rules}
+use Rattle.model.specs.Elements.{NGON, element_type_of, element_count, parents_of, first_parent, second_parent, are_parents, parents_lawful, parent_rules}
 use Rattle.model.proofs.Logic.{and_first, and_second, and-false, when}
-use Rattle.model.proofs.Loops.{SeekLeft, seek-start}
-use Rattle.model.proofs.Walks.{seek-before}
-use Rattle.model.proofs.LookedUp.{seek-within}
-use Rattle.model.proofs.Passed.{check-pass, claim, then-second}
-use Rattle.model.proofs.Conforming.{or-missing}
+use Rattle.model.proofs.Loops.{SeekLeft, seek_start}
+use Rattle.model.proofs.Walks.{seek_before}
+use Rattle.model.proofs.LookedUp.{seek_within}
+use Rattle.model.proofs.Passed.{check_pass, claim, then-second}
+use Rattle.model.proofs.Conforming.{or_missing_lem}
 use Rattle.index.specs.Index.{kind}
 use Rattle.index.proofs.Marking.{kind-role}
 use Rattle.types.proofs.StoredNumbers.{whole_wide, shaped-is}
 use Rattle.section_data.specs.Given.{Stores, SectionContext}
-use Rattle.section_data.specs.Ranges.{isWanted, isRanged}
-use Rattle.section_data.proofs.Stored.{stores-by}
-use Rattle.section_data.proofs.RangeLaws.{is-section, range-found, ready-ranged, section-passed, first-is}
-use Rattle.parents.specs.Parents.{isParent, pair_at, storesParents, parentsBroken, ParentsOf}
+use Rattle.section_data.specs.Ranges.{is_wanted, is_ranged}
+use Rattle.section_data.proofs.Stored.{stores_by}
+use Rattle.section_data.proofs.RangeLaws.{is-section, range-found, ready_ranged, section-passed, first-is}
+use Rattle.parents.specs.Parents.{is_parent, pair_at, stores_parents, parents_broken, ParentsOf}
 
 -- a section of faces whose own data and range count
-module _ {b : List ℕ} (g : Sound b) (s : ℕ) (e : isRanged (tree_of b) NGON s ≡ true) where
-  pub faces-kind : kind (tree_of b) s ≡ Elements
-  unfolding validatedAs
-  faces-kind =
+module _ {b : List ℕ} (g : Sound b) (s : ℕ) (e : is_ranged (tree_of b) NGON s ≡ true) where
+  pub faces_kind : kind (tree_of b) s ≡ Elements
+  unfolding validated_as
+  faces_kind =
       let t = tree_of b in
       let v = is-section g NGON s e in
       kind-role t s (and_second (eqb (role t s) Elements) _ v) (eqb-true _ _ (and_first (eqb (role t s) Elements) _ v))
 
-  pub faces-type : NGON ≡ elementType (tree_of b) s
-  unfolding isRanged isWanted ◌⊃◌
-  faces-type =
+  pub faces_type : NGON ≡ element_type_of (tree_of b) s
+  unfolding is_ranged is_wanted ◌⊃◌
+  faces_type =
       let t = tree_of b in
-      let w = and_second (validatedAs t Elements s) _ (and_first _ (found t (range_of t s)) e) in
-      sym (eqb-true _ _ (and_second (typeLawful t s && valueLawful t s) _ w))
+      let w = and_second (validated_as t Elements s) _ (and_first _ (found t (range_of t s)) e) in
+      sym (eqb-true _ _ (and_second (type_lawful t s && value_lawful t s) _ w))
 
 -- the parents of a section as two columns
-module _ (t : Tree) (s : ℕ) {j n : ℕ} (p : j ≡ parentsOf t s) (q : n ≡ elementCount t s) where
-  pub not-typed : typed t j (I4 ∷ I8 ∷ []) ≡ false → false ≡ parentsLawful t s
-  unfolding parentsLawful
+module _ (t : Tree) (s : ℕ) {j n : ℕ} (p : j ≡ parents_of t s) (q : n ≡ element_count t s) where
+  pub not-typed : typed t j (I4 ∷ I8 ∷ []) ≡ false → false ≡ parents_lawful t s
+  unfolding parents_lawful
   not-typed h = rw (← p, h)
 
-  pub not-shaped : typed t j (I4 ∷ I8 ∷ []) ≡ true → shaped t j (n ∷ 2 ∷ []) ≡ false → false ≡ parentsLawful t s
-  unfolding parentsLawful
+  pub not-shaped : typed t j (I4 ∷ I8 ∷ []) ≡ true → shaped t j (n ∷ 2 ∷ []) ≡ false → false ≡ parents_lawful t s
+  unfolding parents_lawful
   not-shaped h i = rw (← p, ← q, h, i)
 
-  pub columns-decide : {z : ℕ} → typed t j (I4 ∷ I8 ∷ []) ≡ true → shaped t j (n ∷ 2 ∷ []) ≡ true → z ≡ parent t s
-      → everyFrom (pair_at t z j n) n 0 ≡ parentsLawful t s
-  unfolding parentsLawful areParents firstParent secondParent pair_at isParent
-  columns-decide h i e = rw (e, p, q, rw p at h, rw (p, q) at i)
+  pub columns_decide : {z : ℕ} → typed t j (I4 ∷ I8 ∷ []) ≡ true → shaped t j (n ∷ 2 ∷ []) ≡ true → z ≡ parent t s
+      → every_from (pair_at t z j n) n 0 ≡ parents_lawful t s
+  unfolding parents_lawful are_parents first_parent second_parent pair_at is_parent
+  columns_decide h i e = rw (e, p, q, rw p at h, rw (p, q) at i)
 
-pub stores-columns : {b : List ℕ} → Sound b → (j n : ℕ) → j < nodeCount b → typed (tree_of b) j (I4 ∷ I8 ∷ []) ≡ true
+pub stores_columns : {b : List ℕ} → Sound b → (j n : ℕ) → j < node_count b → typed (tree_of b) j (I4 ∷ I8 ∷ []) ≡ true
     → shaped (tree_of b) j (n ∷ 2 ∷ []) ≡ true → Stores b j (n * 2)
 unfolding product
-stores-columns {b} g j n h e f = stores-by g j h (whole_wide (tree_of b) j e) (n ∷ 2 ∷ []) (shaped-is (tree_of b) j (n ∷ 2 ∷ []) f)
+stores_columns {b} g j n h e f = stores_by g j h (whole_wide (tree_of b) j e) (n ∷ 2 ∷ []) (shaped-is (tree_of b) j (n ∷ 2 ∷ []) f)
 
 -- the node of a section's parents
 module _ (b : List ℕ) (s : ℕ) {r : ℕ} where
-  pub parents-none : isRanged (tree_of b) NGON s ≡ false → r ≡ nodeCount b → ParentsOf b s r
-  unfolding storesParents
-  parents-none e q = record { tells = rw e (le-ltb r (nodeCount b) (omega arith)); is = λ h. absurd (omega arith) }
+  pub parents_none : is_ranged (tree_of b) NGON s ≡ false → r ≡ node_count b → ParentsOf b s r
+  unfolding stores_parents
+  parents_none e q = record { tells = rw e (le-ltb r (node_count b) (omega arith)); is = λ h. absurd (omega arith) }
 
-  pub parents-by : isRanged (tree_of b) NGON s ≡ true → r ≡ parentsOf (tree_of b) s → ParentsOf b s r
-  unfolding storesParents found tree_of
-  parents-by e q = record { tells = rw (e, q); is = λ h. q }
+  pub parents_by : is_ranged (tree_of b) NGON s ≡ true → r ≡ parents_of (tree_of b) s → ParentsOf b s r
+  unfolding stores_parents found tree_of
+  parents_by e q = record { tells = rw (e, q); is = λ h. q }
 
 module _ {b : List ℕ} {s r : ℕ} (o : ParentsOf b s r) where
-  pub has-parents : r < nodeCount b → storesParents (tree_of b) s ≡ true
-  has-parents h = sym o.tells ∙ lt-ltb r (nodeCount b) h
+  pub has_parents_lem : r < node_count b → stores_parents (tree_of b) s ≡ true
+  has_parents_lem h = sym o.tells ∙ lt-ltb r (node_count b) h
 
-  pub no-parents : nodeCount b ≤ r → storesParents (tree_of b) s ≡ false
-  no-parents h = sym o.tells ∙ le-ltb r (nodeCount b) h
+  pub no_parents : node_count b ≤ r → stores_parents (tree_of b) s ≡ false
+  no_parents h = sym o.tells ∙ le-ltb r (node_count b) h
 
 module _ (t : Tree) (s : ℕ) where
-  pub stores-ranged : storesParents t s ≡ true → isRanged t NGON s ≡ true
-  unfolding storesParents
-  stores-ranged e = and_first _ (found t (parentsOf t s)) e
+  pub stores-ranged : stores_parents t s ≡ true → is_ranged t NGON s ≡ true
+  unfolding stores_parents
+  stores-ranged e = and_first _ (found t (parents_of t s)) e
 
-  stores-found : storesParents t s ≡ true → found t (parentsOf t s) ≡ true
-  unfolding storesParents
-  stores-found e = and_second (isRanged t NGON s) _ e
+  stores-found : stores_parents t s ≡ true → found t (parents_of t s) ≡ true
+  unfolding stores_parents
+  stores-found e = and_second (is_ranged t NGON s) _ e
 
-  pub none-broken : storesParents t s ≡ false → parentsBroken t s ≡ false
-  unfolding parentsBroken
-  none-broken e = rw e
+  pub none_broken : stores_parents t s ≡ false → parents_broken t s ≡ false
+  unfolding parents_broken
+  none_broken e = rw e
 
-  pub broken-by : storesParents t s ≡ true → not (parentsLawful t s) ≡ parentsBroken t s
-  unfolding parentsBroken
-  broken-by e = rw e
+  pub broken_by : stores_parents t s ≡ true → not (parents_lawful t s) ≡ parents_broken t s
+  unfolding parents_broken
+  broken_by e = rw e
 
 -- no node before the first that stores parents breaks the rule
-pub start-broken : (t : Tree) (n : ℕ) {start : ℕ} → start ≡ seekFrom (storesParents t) n 0 → SeekLeft (parentsBroken t) n start (seekFrom (parentsBroken t) n 0)
-start-broken t n {start} e = seek-start (parentsBroken t) n start (rw e (omega (arith, within))) (λ j h. none-broken t j (by-test j h (storesParents t j) refl))
+pub start_broken : (t : Tree) (n : ℕ) {start : ℕ} → start ≡ seek_from (stores_parents t) n 0 → SeekLeft (parents_broken t) n start (seek_from (parents_broken t) n 0)
+start_broken t n {start} e = seek_start (parents_broken t) n start (rw e (omega (arith, within))) (λ j h. none_broken t j (by_test j h (stores_parents t j) refl))
   where
-    within : seekFrom (storesParents t) n 0 ≤ 0 + n
-    within = seek-within (storesParents t) n 0
+    within : seek_from (stores_parents t) n 0 ≤ 0 + n
+    within = seek_within (stores_parents t) n 0
 
-    by-test : (j : ℕ) → j < start → (c : Bool) → storesParents t j ≡ c → c ≡ false
-    by-test j h true f = absurd (omega (arith, e, within, seek-before (storesParents t) n 0 j f (omega arith) (omega (arith, e, within))))
-    by-test j h false f = refl
+    by_test : (j : ℕ) → j < start → (c : Bool) → stores_parents t j ≡ c → c ≡ false
+    by_test j h true f = absurd (omega (arith, e, within, seek_before (stores_parents t) n 0 j f (omega arith) (omega (arith, e, within))))
+    by_test j h false f = refl
 
 -- validation has come to section s, and rules 20 to 26 hold there
 module _ {b : List ℕ} {s : ℕ} (g : NodesTo b s) (d : SectionContext b s) (v : validated (tree_of b) s ≡ true)
-    (c : check s (sidsRules (tree_of b) s) ≡ passed) where
+    (c : check s (sids_rules (tree_of b) s) ≡ passed) where
   -- no earlier node broke rule 39
-  none_before : (r : ℕ) → r < s → parentsBroken (tree_of b) r ≡ false
-  unfolding parentRules
-  none_before r h = by-test (storesParents (tree_of b) r) refl
+  none_before : (r : ℕ) → r < s → parents_broken (tree_of b) r ≡ false
+  unfolding parent_rules
+  none_before r h = by_test (stores_parents (tree_of b) r) refl
     where
-      by-test : (x : Bool) → storesParents (tree_of b) r ≡ x → parentsBroken (tree_of b) r ≡ false
-      by-test true e =
+      by_test : (x : Bool) → stores_parents (tree_of b) r ≡ x → parents_broken (tree_of b) r ≡ false
+      by_test true e =
           let t = tree_of b in
           let held = then-second _ _ (then-second _ _ (section-passed g r h (is-section g.sound NGON r (stores-ranged t r e)))) in
-          let rule = claim 39 (parentRules t r) (check-pass r (parentRules t r) held) in
-          sym (broken-by t r e) ∙ ap not (when (found t (parentsOf t r)) (parentsLawful t r) rule (stores-found t r e))
-      by-test false e = none-broken (tree_of b) r e
+          let rule = claim 39 (parent_rules t r) (check_pass r (parent_rules t r) held) in
+          sym (broken_by t r e) ∙ ap not (when (found t (parents_of t r)) (parents_lawful t r) rule (stores-found t r e))
+      by_test false e = none_broken (tree_of b) r e
 
   -- its own data and range count
-  ready-faces : found (tree_of b) (parentsOf (tree_of b) s) ≡ true → isRanged (tree_of b) NGON s ≡ true
-  unfolding isRanged isWanted ◌⊃◌ parentsOf sidsRules
-  ready-faces f =
+  ready_faces : found (tree_of b) (parents_of (tree_of b) s) ≡ true → is_ranged (tree_of b) NGON s ≡ true
+  unfolding is_ranged is_wanted ◌⊃◌ parents_of sids_rules
+  ready_faces f =
       let t = tree_of b in
-      let e = ready-ranged d v in
-      let held = check-pass s (sidsRules t s) c in
+      let e = ready_ranged d v in
+      let held = check_pass s (sids_rules t s) c in
       rw (
         is-section g.sound 0 s e,
         range-found g.sound 0 s e,
-        claim 24 (sidsRules t s) held,
-        claim 25 (sidsRules t s) held,
-        (or-missing t (eqb (elementType t s) NGON) _ f).1,
+        claim 24 (sids_rules t s) held,
+        claim 25 (sids_rules t s) held,
+        (or_missing_lem t (eqb (element_type_of t s) NGON) _ f).1,
       )
 
-  broken-is : parentsBroken (tree_of b) s ≡ not (found (tree_of b) (parentsOf (tree_of b) s) ⊃ parentsLawful (tree_of b) s)
-  unfolding parentsBroken storesParents ◌⊃◌
-  broken-is = by-test (found (tree_of b) (parentsOf (tree_of b) s)) refl
+  broken_is : parents_broken (tree_of b) s ≡ not (found (tree_of b) (parents_of (tree_of b) s) ⊃ parents_lawful (tree_of b) s)
+  unfolding parents_broken stores_parents ◌⊃◌
+  broken_is = by_test (found (tree_of b) (parents_of (tree_of b) s)) refl
     where
-      by-test : (x : Bool) → found (tree_of b) (parentsOf (tree_of b) s) ≡ x
-          → (isRanged (tree_of b) NGON s && x && not (parentsLawful (tree_of b) s)) ≡ not (x ⊃ parentsLawful (tree_of b) s)
-      by-test true f = rw (ready-faces f)
-      by-test false f = rw (and-false (isRanged (tree_of b) NGON s))
+      by_test : (x : Bool) → found (tree_of b) (parents_of (tree_of b) s) ≡ x
+          → (is_ranged (tree_of b) NGON s && x && not (parents_lawful (tree_of b) s)) ≡ not (x ⊃ parents_lawful (tree_of b) s)
+      by_test true f = rw (ready_faces f)
+      by_test false f = rw (and-false (is_ranged (tree_of b) NGON s))
 
   -- s is the first node that breaks it, exactly where it does
-  pub parents-is : {o : ℕ} → o ≡ seekFrom (parentsBroken (tree_of b)) (nodeCount b) 0
-      → eqb s o ≡ not (found (tree_of b) (parentsOf (tree_of b) s) ⊃ parentsLawful (tree_of b) s)
-  parents-is h = first-is (parentsBroken (tree_of b)) (nodeCount b) s g.inside none_before h ∙ broken-is
+  pub parents_is : {o : ℕ} → o ≡ seek_from (parents_broken (tree_of b)) (node_count b) 0
+      → eqb s o ≡ not (found (tree_of b) (parents_of (tree_of b) s) ⊃ parents_lawful (tree_of b) s)
+  parents_is h = first-is (parents_broken (tree_of b)) (node_count b) s g.inside none_before h ∙ broken_is

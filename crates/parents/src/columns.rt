@@ -1,13 +1,13 @@
 // A column of parents: its numbers are cells of a zone, or 0 where that is allowed.
 ghost use Rattle.std.specs.Prelude.{◌≡◌, false, ◌&&◌, ◌+◌, ◌≤◌, ◌<◌, ltb, leb};
-ghost use Rattle.model.specs.Lists.{everyFrom};
+ghost use Rattle.model.specs.Lists.{every_from};
 ghost use Rattle.model.specs.Image.{tree_of};
-ghost use Rattle.model.specs.Values.{maxNumber};
+ghost use Rattle.model.specs.Values.{max_number};
 ghost use Rattle.rows.specs.Rows.{Numbers};
-ghost use Rattle.ranges.specs.Tables.{key, inRanges, Ordered, Covered};
+ghost use Rattle.ranges.specs.Tables.{key, in_ranges, Ordered, Covered};
 ghost use Rattle.section_data.specs.Passing.{Passed};
 ghost use Rattle.section_data.specs.Ranges.{Cells};
-ghost use Rattle.parents.specs.Parents.{isKnown, known_at, parentAt};
+ghost use Rattle.parents.specs.Parents.{is_known, known_at, parent_at};
 
 use ranges::Interval;
 use rows::Row;
@@ -15,7 +15,7 @@ use rows::Row;
 // Is x 0 where that is allowed, or in an interval?
 fn is_known(interval: Interval, none: bool, x: u64) -> bool
     requires { interval.low + interval.size ≤ 4294967296 }
-    ensures { result ≡ isKnown interval none x }
+    ensures { result ≡ is_known interval none x }
 {
     (none && x == 0) || ranges::within(interval, x)
 }
@@ -42,7 +42,7 @@ fn first_unknown(image: &[u8], row: Row, k: usize, interval: Interval, none: boo
 fn interval_of(firsts: &[u64], reach: &[u64], n: usize, z: usize, x: u64) -> Interval
     requires { Ordered firsts.now reach.now n × (z < 4096) }
     ensures covered { Covered firsts.now reach.now n z result }
-    ensures size_value { ltb 0 result.size ≡ (leb x maxNumber && inRanges firsts.now reach.now n (key z x)) }
+    ensures size_value { ltb 0 result.size ≡ (leb x max_number && in_ranges firsts.now reach.now n (key z x)) }
 {
     if types::MAX_NUMBER < x {
         return Interval { low: 0, size: 0 };
@@ -62,7 +62,7 @@ pub fn are_cells(
 ) -> bool
     requires numbers { Numbers image.now row.at row.width row.n × (z < 4096) }
     requires cells { Cells (tree_of image.now) firsts.now reach.now cells }
-    ensures { result ≡ everyFrom (parentAt (tree_of image.now) z none image.now row) row.n 0 }
+    ensures { result ≡ every_from (parent_at (tree_of image.now) z none image.now row) row.n 0 }
 {
     let n = row.n;
     let mut k = first_unknown(image, row, 0, Interval { low: 0, size: 0 }, none);

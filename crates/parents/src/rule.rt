@@ -1,13 +1,13 @@
 // Rule 39 at a section, and the first node that breaks it.
 ghost use Rattle.std.specs.Prelude.{◌≡◌, true, ◌*◌, ◌≤◌, ◌<◌, length};
-ghost use Rattle.model.specs.Lists.{seekFrom, everyFrom};
-ghost use Rattle.model.specs.Image.{tree_of, nodeCount};
+ghost use Rattle.model.specs.Lists.{seek_from, every_from};
+ghost use Rattle.model.specs.Image.{tree_of, node_count};
 ghost use Rattle.model.specs.Given.{Sound};
-ghost use Rattle.model.specs.Elements.{NGON, parentsOf, parentsLawful};
+ghost use Rattle.model.specs.Elements.{NGON, parents_of, parents_lawful};
 ghost use Rattle.index.specs.Index.{Index};
 ghost use Rattle.section_data.specs.Given.{Stores};
-ghost use Rattle.section_data.specs.Ranges.{isRanged, Cells};
-ghost use Rattle.parents.specs.Parents.{pair_at, storesParents, parentsBroken, ParentsOf};
+ghost use Rattle.section_data.specs.Ranges.{is_ranged, Cells};
+ghost use Rattle.parents.specs.Parents.{pair_at, stores_parents, parents_broken, ParentsOf};
 
 use super::columns::are_cells;
 use element_types::NGON;
@@ -29,7 +29,7 @@ fn columns_lawful(
 ) -> bool
     requires sound { (Sound image.now × Stores image.now j (n * 2)) × (z < 4096) }
     requires cells { Cells (tree_of image.now) firsts.now reach.now cells }
-    ensures { result ≡ everyFrom (pair_at (tree_of image.now) z j n) n 0 }
+    ensures { result ≡ every_from (pair_at (tree_of image.now) z j n) n 0 }
 {
     let at = records::data_start(image, j);
     let width = records::width_at(image, j);
@@ -55,10 +55,10 @@ fn is_lawful(
     reach: &[u64],
     cells: usize,
 ) -> bool
-    requires index { (Index image.now index.now × (s < nodeCount image.now)) × (isRanged (tree_of image.now) NGON s ≡ true) }
-    requires j_value { (j ≡ parentsOf (tree_of image.now) s) × (j < nodeCount image.now) }
+    requires index { (Index image.now index.now × (s < node_count image.now)) × (is_ranged (tree_of image.now) NGON s ≡ true) }
+    requires j_value { (j ≡ parents_of (tree_of image.now) s) × (j < node_count image.now) }
     requires cells { Cells (tree_of image.now) firsts.now reach.now cells }
-    ensures { result ≡ parentsLawful (tree_of image.now) s }
+    ensures { result ≡ parents_lawful (tree_of image.now) s }
 {
     let n = element_count(image, range_of(image, index, s), s);
     if !types::typed_either(image, j, I4, I8) {
@@ -73,7 +73,7 @@ fn is_lawful(
 
 // The ParentElements of node i where it is a section of faces whose own data and range count; else the node count.
 fn parents_if(image: &[u8], index: &[u16], i: usize) -> usize
-    requires { Index image.now index.now × (i < nodeCount image.now) }
+    requires { Index image.now index.now × (i < node_count image.now) }
     ensures { ParentsOf image.now i result }
 {
     let nodes = labels::node_count(image);
@@ -95,9 +95,9 @@ fn is_broken(
     reach: &[u64],
     cells: usize,
 ) -> bool
-    requires index { Index image.now index.now × (i < nodeCount image.now) }
+    requires index { Index image.now index.now × (i < node_count image.now) }
     requires cells { Cells (tree_of image.now) firsts.now reach.now cells }
-    ensures { result ≡ parentsBroken (tree_of image.now) i }
+    ensures { result ≡ parents_broken (tree_of image.now) i }
 {
     let j = parents_if(image, index, i);
     if labels::node_count(image) <= j {
@@ -109,7 +109,7 @@ fn is_broken(
 // The first section of faces that stores parents; the node count where none does.
 fn first_stored(image: &[u8], index: &[u16]) -> usize
     requires { Index image.now index.now }
-    ensures { result ≡ seekFrom (storesParents (tree_of image.now)) (nodeCount image.now) 0 }
+    ensures { result ≡ seek_from (stores_parents (tree_of image.now)) (node_count image.now) 0 }
 {
     let nodes = labels::node_count(image);
     let mut i: usize = 0;
@@ -132,8 +132,8 @@ fn first_broken_from(
     cells: usize,
 ) -> usize
     requires index { Index image.now index.now × Cells (tree_of image.now) firsts.now reach.now cells }
-    requires start_value { start ≡ seekFrom (storesParents (tree_of image.now)) (nodeCount image.now) 0 }
-    ensures { result ≡ seekFrom (parentsBroken (tree_of image.now)) (nodeCount image.now) 0 }
+    requires start_value { start ≡ seek_from (stores_parents (tree_of image.now)) (node_count image.now) 0 }
+    ensures { result ≡ seek_from (parents_broken (tree_of image.now)) (node_count image.now) 0 }
 {
     let nodes = labels::node_count(image);
     let mut i = start;
@@ -150,7 +150,7 @@ fn first_broken_from(
 pub fn first_broken(image: &[u8], index: &[u16], firsts: &mut [u64], reach: &mut [u64]) -> usize
     requires index { Index image.now index.now }
     requires in_bounds { (2048 ≤ length firsts.old) × (2048 ≤ length reach.old) }
-    ensures { result ≡ seekFrom (parentsBroken (tree_of image.now)) (nodeCount image.now) 0 }
+    ensures { result ≡ seek_from (parents_broken (tree_of image.now)) (node_count image.now) 0 }
 {
     let start = first_stored(image, index);
     if labels::node_count(image) <= start {

@@ -1,9 +1,9 @@
 // The path of a node: the names from below the root, each after a slash.
 ghost use Rattle.std.specs.Prelude.{◌≡◌, ◌+◌, ◌≤◌, ◌<◌, length, take, drop};
-ghost use Rattle.model.specs.Lists.{over, overAt};
-ghost use Rattle.model.specs.Image.{tree_of, nodeCount, recordAt, name};
-ghost use Rattle.model.specs.Path.{trimmed, pathOf, pathAnswer, pathMemory};
-ghost use Rattle.model.specs.Answers.{countTells};
+ghost use Rattle.model.specs.Lists.{over, over_at};
+ghost use Rattle.model.specs.Image.{tree_of, node_count, record_at, name};
+ghost use Rattle.model.specs.Path.{trimmed, path_of, path_answer, path_memory};
+ghost use Rattle.model.specs.Answers.{count_tells};
 ghost use Rattle.model.specs.Bounds.{Laid};
 ghost use Rattle.model.specs.Given.{Sound};
 ghost use Rattle.paths.specs.Names.{step_of, names_of};
@@ -28,17 +28,17 @@ fn text_length(image: &[u8], at: usize) -> usize
 
 // The length of the name of node i.
 fn name_length(image: &[u8], i: usize) -> usize
-    requires { Laid image.now × (i < nodeCount image.now) }
-    ensures { (trimmed (name (tree_of image.now) i) ≡ take result (drop (recordAt i) image.now)) × (result ≤ 32) }
+    requires { Laid image.now × (i < node_count image.now) }
+    ensures { (trimmed (name (tree_of image.now) i) ≡ take result (drop (record_at i) image.now)) × (result ≤ 32) }
 {
     text_length(image, Record::at(i))
 }
 
 // Writes a slash and the name of node i to `out` from k on, and answers the index after them.
 fn write_name(image: &[u8], i: usize, out: &mut [u8], k: usize) -> usize
-    requires { (Laid image.now × (i < nodeCount image.now)) × (k + length (step_of (tree_of image.now) i) ≤ length out.old) }
+    requires { (Laid image.now × (i < node_count image.now)) × (k + length (step_of (tree_of image.now) i) ≤ length out.old) }
     ensures { (result ≡ k + length (step_of (tree_of image.now) i))
-        × (out.new ≡ overAt k out.old (step_of (tree_of image.now) i)) }
+        × (out.new ≡ over_at k out.old (step_of (tree_of image.now) i)) }
 {
     let p = Record::at(i);
     let n = name_length(image, i);
@@ -49,7 +49,7 @@ fn write_name(image: &[u8], i: usize, out: &mut [u8], k: usize) -> usize
 
 // Writes the names from below the root down to node i in front of `out`, the parent's first, and answers their length.
 fn write_names(image: &[u8], i: usize, out: &mut [u8]) -> usize
-    requires { (Sound image.now × (i < nodeCount image.now)) × (length (names_of (tree_of image.now) i) ≤ length out.old) }
+    requires { (Sound image.now × (i < node_count image.now)) × (length (names_of (tree_of image.now) i) ≤ length out.old) }
     ensures { (result ≡ length (names_of (tree_of image.now) i))
         × (out.new ≡ over out.old (names_of (tree_of image.now) i)) }
 {
@@ -63,7 +63,7 @@ fn write_names(image: &[u8], i: usize, out: &mut [u8]) -> usize
 
 // The length of the names from below the root down to node i, each with its slash.
 fn names_length(image: &[u8], i: usize) -> usize
-    requires { Sound image.now × (i < nodeCount image.now) }
+    requires { Sound image.now × (i < node_count image.now) }
     ensures { result ≡ length (names_of (tree_of image.now) i) }
 {
     let mut n: usize = 0;
@@ -77,8 +77,8 @@ fn names_length(image: &[u8], i: usize) -> usize
 
 // The length of the path of node i; the root's is one slash.
 fn path_length(image: &[u8], i: usize) -> usize
-    requires { Sound image.now × (i < nodeCount image.now) }
-    ensures { result ≡ length (pathOf (tree_of image.now) i) }
+    requires { Sound image.now × (i < node_count image.now) }
+    ensures { result ≡ length (path_of (tree_of image.now) i) }
 {
     if i == 0 {
         return 1;
@@ -88,8 +88,8 @@ fn path_length(image: &[u8], i: usize) -> usize
 
 // Writes the path of node i in front of `out`; the bytes beyond it stay.
 fn write_path(image: &[u8], i: usize, out: &mut [u8])
-    requires { (Sound image.now × (i < nodeCount image.now)) × (length (pathOf (tree_of image.now) i) ≤ length out.old) }
-    ensures { out.new ≡ over out.old (pathOf (tree_of image.now) i) }
+    requires { (Sound image.now × (i < node_count image.now)) × (length (path_of (tree_of image.now) i) ≤ length out.old) }
+    ensures { out.new ≡ over out.old (path_of (tree_of image.now) i) }
 {
     if i == 0 {
         out[0] = 47;
@@ -101,8 +101,8 @@ fn write_path(image: &[u8], i: usize, out: &mut [u8])
 // The path of a node of an image in which rules 1 to 18 hold: rule 40, then 46, then the path in front of `out` and its length.
 fn sound_path(image: &[u8], node: u64, out: &mut [u8]) -> Count
     requires { Sound image.now }
-    ensures { (countTells result ≡ pathAnswer image.now node (length out.old))
-        × (out.new ≡ pathMemory image.now node out.old) }
+    ensures { (count_tells result ≡ path_answer image.now node (length out.old))
+        × (out.new ≡ path_memory image.now node out.old) }
 {
     let count = words::u32_at(image, Header::NODE_COUNT);
     if count <= node {
@@ -120,8 +120,8 @@ fn sound_path(image: &[u8], node: u64, out: &mut [u8]) -> Count
 // The path of a node: rules 1 to 18, then 40, then 46; the path is written in front of `out`, its length answered, and the bytes beyond it stay.
 // A rejection leaves `out` as it was.
 pub fn path(image: &[u8], node: u64, out: &mut [u8]) -> Count
-    ensures { (countTells result ≡ pathAnswer image.now node (length out.old))
-        × (out.new ≡ pathMemory image.now node out.old) }
+    ensures { (count_tells result ≡ path_answer image.now node (length out.old))
+        × (out.new ≡ path_memory image.now node out.old) }
 {
     let stage = table::table_stage(image);
     let Stage::Pass = stage else {

@@ -7,9 +7,9 @@ both true b f g = sym (f refl)
 both false true f g = g refl
 both false false f g = refl
 
-pub one-or-none : (b : Bool) {r : ℕ} → (b ≡ true → r ≡ 1) → (b ≡ false → r ≡ 0) → r ≡ cond b 1 0
-one-or-none true f g = f refl
-one-or-none false f g = g refl
+pub one_or_none : (b : Bool) {r : ℕ} → (b ≡ true → r ≡ 1) → (b ≡ false → r ≡ 0) → r ≡ cond b 1 0
+one_or_none true f g = f refl
+one_or_none false f g = g refl
 
 pub sides : {A : Type 0} (place i : ℕ) → (i < place → A) → (i ≡ place → A) → ((j : ℕ) → place ≤ j → i ≡ suc j → A) → A
 sides place i f g h =

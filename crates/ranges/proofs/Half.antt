@@ -1,29 +1,29 @@
 -- Where each number of a kind has a number of its own that is not of the kind, at most half of all numbers are of it.
 use Rattle.std.proofs.Common.{◌≡◌, ℕ, zero, suc, ◌+◌, ◌-◌, ◌*◌, ◌<◌, ◌≤◌, Bool, true, false, cond, not, ◌&&◌, ltb, refl, ◌∙◌, add-zero, suc-add, zero-add, add-one, arith, ltb-true, le-ltb, lt-ltb}
 use native.Mathlib.Decide.{ℕ_discrete}
-use Rattle.model.specs.Lists.{countFrom}
+use Rattle.model.specs.Lists.{count_from}
 use Rattle.model.proofs.Logic.{untrue, and_first, and_second, and_both}
-use Rattle.model.proofs.Walks.{count-both, countFrom-step}
+use Rattle.model.proofs.Walks.{count_both, count_from_step}
 
 -- m numbers, then k more
-count-split : (p : ℕ → Bool) (m k i : ℕ) → countFrom p (m + k) i ≡ countFrom p m i + countFrom p k (i + m)
-unfolding countFrom
-count-split p zero k i = rw (zero-add k, add-zero i) (omega arith)
-count-split p (suc m) k i = let e : i + suc m ≡ suc i + m = omega arith in rw (suc-add, e) (by-test (p i) _ _ _ (count-split p m k (suc i)))
+count_split : (p : ℕ → Bool) (m k i : ℕ) → count_from p (m + k) i ≡ count_from p m i + count_from p k (i + m)
+unfolding count_from
+count_split p zero k i = rw (zero-add k, add-zero i) (omega arith)
+count_split p (suc m) k i = let e : i + suc m ≡ suc i + m = omega arith in rw (suc-add, e) (by_test (p i) _ _ _ (count_split p m k (suc i)))
   where
-    by-test : (t : Bool) (x y d : ℕ) → x ≡ y + d → cond t (suc x) x ≡ cond t (suc y) y + d
-    by-test true x y d h = omega arith
-    by-test false x y d h = h
+    by_test : (t : Bool) (x y d : ℕ) → x ≡ y + d → cond t (suc x) x ≡ cond t (suc y) y + d
+    by_test true x y d h = omega arith
+    by_test false x y d h = h
 
-pub count_next : (p : ℕ → Bool) (i : ℕ) → countFrom p (i + 1) 0 ≡ countFrom p i 0 + cond (p i) 1 0
-unfolding countFrom
-count_next p i = count-split p i 1 0 ∙ rw (zero-add i)
+pub count_next : (p : ℕ → Bool) (i : ℕ) → count_from p (i + 1) 0 ≡ count_from p i 0 + cond (p i) 1 0
+unfolding count_from
+count_next p i = count_split p i 1 0 ∙ rw (zero-add i)
 
 -- a number of the kind is not counted before it
-pub count_room : (p : ℕ → Bool) (i n : ℕ) → i < n → p i ≡ true → countFrom p i 0 < countFrom p n 0
+pub count_room : (p : ℕ → Bool) (i n : ℕ) → i < n → p i ≡ true → count_from p i 0 < count_from p n 0
 count_room p i n h e =
     let q : i + (n - i) ≡ n = omega arith in
-    omega (arith, rw (q, zero-add i) at (count-split p i (n - i) 0), rw e at (countFrom-step p n i h))
+    omega (arith, rw (q, zero-add i) at (count_split p i (n - i) 0), rw e at (count_from_step p n i h))
 
 -- where the test holds of more numbers, more are counted: of x besides
 module _ (p q : ℕ → Bool) (f : (j : ℕ) → p j ≡ true → q j ≡ true) where
@@ -36,18 +36,18 @@ module _ (p q : ℕ → Bool) (f : (j : ℕ) → p j ≡ true → q j ≡ true) 
       by_tests false true g = omega arith
       by_tests false false g = h
 
-  count-le : (k i : ℕ) → countFrom p k i + 0 ≤ countFrom q k i
-  unfolding countFrom
+  count-le : (k i : ℕ) → count_from p k i + 0 ≤ count_from q k i
+  unfolding count_from
   count-le zero i = omega arith
   count-le (suc k) i = here i 0 _ _ (count-le k (suc i))
 
-  count-lt : (k i x : ℕ) → p x ≡ false → q x ≡ true → i ≤ x → x < i + k → countFrom p k i + 1 ≤ countFrom q k i
-  unfolding countFrom
-  count-lt zero i x e g l h = absurd (omega arith)
-  count-lt (suc k) i x e g l h =
+  count_lt : (k i x : ℕ) → p x ≡ false → q x ≡ true → i ≤ x → x < i + k → count_from p k i + 1 ≤ count_from q k i
+  unfolding count_from
+  count_lt zero i x e g l h = absurd (omega arith)
+  count_lt (suc k) i x e g l h =
       elim (ℕ_discrete i x) [
         | yes y ↦ rw (y, e, g) (omega (arith, count-le k (suc x)))
-        | no d ↦ here i 1 _ _ (count-lt k (suc i) x e g (omega (arith, d)) (omega arith))
+        | no d ↦ here i 1 _ _ (count_lt k (suc i) x e g (omega (arith, d)) (omega arith))
       ]
 
 -- each s of E has c s below n, which is not of E and leads back to s
@@ -56,30 +56,30 @@ module _ (E : ℕ → Bool) (c up : ℕ → ℕ) (n : ℕ) (own : (s : ℕ) → 
   abbrev leads : ℕ → ℕ → Bool
   leads k j = not (E j) && ltb (up j) k
 
-  leads-on : (k j : ℕ) → leads k j ≡ true → leads (k + 1) j ≡ true
-  leads-on k j e =
+  leads_on : (k j : ℕ) → leads k j ≡ true → leads (k + 1) j ≡ true
+  leads_on k j e =
       let l = ltb-true (up j) k (and_second (not (E j)) _ e) in
       and_both _ _ (and_first (not (E j)) (ltb (up j) k) e) (lt-ltb (up j) (k + 1) (omega arith))
 
-  step : (k : ℕ) → k < n → countFrom E k 0 ≤ countFrom (leads k) n 0 → countFrom E (k + 1) 0 ≤ countFrom (leads (k + 1)) n 0
-  step k h r = rw (count_next E k) (by-test (E k) refl)
+  step : (k : ℕ) → k < n → count_from E k 0 ≤ count_from (leads k) n 0 → count_from E (k + 1) 0 ≤ count_from (leads (k + 1)) n 0
+  step k h r = rw (count_next E k) (by_test (E k) refl)
     where
-      by-test : (t : Bool) → E k ≡ t → countFrom E k 0 + cond t 1 0 ≤ countFrom (leads (k + 1)) n 0
-      by-test true e =
+      by_test : (t : Bool) → E k ≡ t → count_from E k 0 + cond t 1 0 ≤ count_from (leads (k + 1)) n 0
+      by_test true e =
           let o = own k h e in
           omega (
             arith,
-            count-lt (leads k) (leads (k + 1)) (leads-on k) n 0 (c k)
+            count_lt (leads k) (leads (k + 1)) (leads_on k) n 0 (c k)
                 (rw (o.2, o.1) (le-ltb k k (omega arith))) (rw (o.2, o.1) (lt-ltb k (k + 1) (omega arith))) (omega arith) (omega arith),
           )
-      by-test false e = omega (arith, count-le (leads k) (leads (k + 1)) (leads-on k) n 0)
+      by_test false e = omega (arith, count-le (leads k) (leads (k + 1)) (leads_on k) n 0)
 
-  counted : (k : ℕ) → k ≤ n → countFrom E k 0 ≤ countFrom (leads k) n 0
-  unfolding countFrom
+  counted : (k : ℕ) → k ≤ n → count_from E k 0 ≤ count_from (leads k) n 0
+  unfolding count_from
   counted zero h = omega arith
   counted (suc k) h = rw (add-one k) at (step k h (counted k (omega arith)))
 
-  pub half : 2 * countFrom E n 0 ≤ n
+  pub half : 2 * count_from E n 0 ≤ n
   half =
       let l = count-le (leads n) (λ j. not (E j)) (λ j e. and_first (not (E j)) _ e) n 0 in
-      omega (arith, counted n (omega arith), count-both E (λ j. not (E j)) n 0 (λ j. refl))
+      omega (arith, counted n (omega arith), count_both E (λ j. not (E j)) n 0 (λ j. refl))

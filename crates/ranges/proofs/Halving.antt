@@ -1,10 +1,10 @@
 -- The search by halving: the last entry that begins no later than a range ends decides whether one meets it.
 use Rattle.std.proofs.Common.{◌≡◌, ℕ, zero, suc, ◌+◌, ◌-◌, ◌*◌, ◌<◌, ◌≤◌, Bool, true, false, cond, ◌&&◌, ltb, leb, List, get_or, sym, refl, ◌∙◌, arith, ltb-true, lt-ltb, le-leb, leb-false, leb-true}
 use native.Mathlib.Decide.{ℕ_discrete, dec_lt}
-use Rattle.model.specs.Lists.{someFrom}
+use Rattle.model.specs.Lists.{some_from}
 use Rattle.model.proofs.Logic.{and_first, and_second, and_both}
-use Rattle.model.proofs.Walks.{some_at, some-by}
-use Rattle.ranges.specs.Tables.{meetsAt, Found, Rising, Ordered, Begun}
+use Rattle.model.proofs.Walks.{some_at, some_by}
+use Rattle.ranges.specs.Tables.{meets_at, Found, Rising, Ordered, Begun}
 use Rattle.ranges.proofs.Cases.{both}
 
 -- any two entries
@@ -16,12 +16,12 @@ rising r i (suc j) h l =
       | no d ↦ omega (arith, rising r i j (omega arith) (omega arith), r.rises j l)
     ]
 
-pub begun-start : (s : List ℕ) (n f : ℕ) → Begun s n f 0 n
-begun-start s n f = omega arith
+pub begun_start : (s : List ℕ) (n f : ℕ) → Begun s n f 0 n
+begun_start s n f = omega arith
 
 -- no fewer begin no later than a greater number
-pub begun-up : {s : List ℕ} {n f g r q : ℕ} → Begun s n f r 0 → Begun s n g q 0 → f ≤ g → r ≤ q
-begun-up {r = r} {q = q} b d h =
+pub begun_up : {s : List ℕ} {n f g r q : ℕ} → Begun s n f r 0 → Begun s n g q 0 → f ≤ g → r ≤ q
+begun_up {r = r} {q = q} b d h =
     elim (dec_lt q r) [
       | yes l ↦ absurd (omega (arith, b.inside, b.begins (r - 1) (omega arith), d.later (r - 1) (omega arith) (omega (arith, b.inside))))
       | no l ↦ omega arith
@@ -29,18 +29,18 @@ begun-up {r = r} {q = q} b d h =
 
 module _ {s : List ℕ} {n f from left half : ℕ} (b : Begun s n f from left) (r : Rising s n) (z : 1 ≤ half) (h : half + half ≤ left + 1) where
   -- c tells whether the entry in the middle begins no later
-  pub begun-half : {c : ℕ} → c ≡ cond (leb (get_or s (from + half - 1) 0) f) 1 0 → Begun s n f (from + half * c) (left - half)
-  begun-half e = rw e (by-test (leb (get_or s (from + half - 1) 0) f) refl)
+  pub begun_half : {c : ℕ} → c ≡ cond (leb (get_or s (from + half - 1) 0) f) 1 0 → Begun s n f (from + half * c) (left - half)
+  begun_half e = rw e (by_test (leb (get_or s (from + half - 1) 0) f) refl)
     where
-      by-test : (t : Bool) → leb (get_or s (from + half - 1) 0) f ≡ t → Begun s n f (from + half * cond t 1 0) (left - half)
-      by-test true t =
+      by_test : (t : Bool) → leb (get_or s (from + half - 1) 0) f ≡ t → Begun s n f (from + half * cond t 1 0) (left - half)
+      by_test true t =
           let l = leb-true _ f t in
           record {
             inside = omega arith;
             begins = λ i u. omega (arith, rising r i (from + half - 1) (omega arith) (omega arith));
             later = λ i k u. b.later i (omega arith) u;
           }
-      by-test false t =
+      by_test false t =
           let l = leb-false _ f t in
           record {
             inside = omega arith;
@@ -49,36 +49,36 @@ module _ {s : List ℕ} {n f from left half : ℕ} (b : Begun s n f from left) (
           }
 
 module _ (firsts reach : List ℕ) (a c : ℕ) where
-  pub met : (i : ℕ) → meetsAt firsts reach a c i ≡ true → (get_or firsts i 0 ≤ c) × (a ≤ get_or reach i 0)
-  unfolding meetsAt
+  pub met : (i : ℕ) → meets_at firsts reach a c i ≡ true → (get_or firsts i 0 ≤ c) × (a ≤ get_or reach i 0)
+  unfolding meets_at
   met i e = (leb-true _ _ (and_first (leb (get_or firsts i 0) c) _ e), leb-true _ _ (and_second (leb (get_or firsts i 0) c) _ e))
 
-  pub meets_at : (i : ℕ) → get_or firsts i 0 ≤ c → a ≤ get_or reach i 0 → meetsAt firsts reach a c i ≡ true
-  unfolding meetsAt
-  meets_at i l h = and_both _ _ (le-leb _ c l) (le-leb a _ h)
+  pub meets_at_lem : (i : ℕ) → get_or firsts i 0 ≤ c → a ≤ get_or reach i 0 → meets_at firsts reach a c i ≡ true
+  unfolding meets_at
+  meets_at_lem i l h = and_both _ _ (le-leb _ c l) (le-leb a _ h)
 
   module _ (n : ℕ) where
-    pub meet : (i : ℕ) → i < n → get_or firsts i 0 ≤ c → a ≤ get_or reach i 0 → someFrom (meetsAt firsts reach a c) n 0 ≡ true
-    meet i h l u = some-by (meetsAt firsts reach a c) n 0 i (meets_at i l u) (omega arith) (omega arith)
+    pub meet : (i : ℕ) → i < n → get_or firsts i 0 ≤ c → a ≤ get_or reach i 0 → some_from (meets_at firsts reach a c) n 0 ≡ true
+    meet i h l u = some_by (meets_at firsts reach a c) n 0 i (meets_at_lem i l u) (omega arith) (omega arith)
 
     -- the entry r meets the numbers from a to c; none does
-    pub found : (r : ℕ) → r < n → meetsAt firsts reach a c r ≡ true → Found firsts reach n a c r
-    found r h e = (lt-ltb r n h ∙ sym (some-by (meetsAt firsts reach a c) n 0 r e (omega arith) (omega arith)), λ l. e)
+    pub found : (r : ℕ) → r < n → meets_at firsts reach a c r ≡ true → Found firsts reach n a c r
+    found r h e = (lt-ltb r n h ∙ sym (some_by (meets_at firsts reach a c) n 0 r e (omega arith) (omega arith)), λ l. e)
 
-    pub entry_found : (r : ℕ) → (ltb r n && meetsAt firsts reach a c r) ≡ true → Found firsts reach n a c r
-    entry_found r e = found r (ltb-true r n (and_first _ (meetsAt firsts reach a c r) e)) (and_second (ltb r n) _ e)
+    pub entry_found : (r : ℕ) → (ltb r n && meets_at firsts reach a c r) ≡ true → Found firsts reach n a c r
+    entry_found r e = found r (ltb-true r n (and_first _ (meets_at firsts reach a c r) e)) (and_second (ltb r n) _ e)
 
     pub none_found : {r : ℕ} → Ordered firsts reach n → Begun firsts n c r 0 → (0 < r → get_or reach (r - 1) 0 < a)
         → Found firsts reach n a c n
     none_found {r} o b h = (
       both _ _ (λ e. absurd (omega (arith, ltb-true n n e)))
-          (λ e. let s = some_at (meetsAt firsts reach a c) n 0 e in absurd (none s.at (omega arith) (met s.at s.holds))),
+          (λ e. let s = some_at (meets_at firsts reach a c) n 0 e in absurd (none s.at (omega arith) (met s.at s.holds))),
       λ l. absurd (omega arith),
     )
       where
         none : (i : ℕ) → i < n → (get_or firsts i 0 ≤ c) × (a ≤ get_or reach i 0) → ⊥
         none i l d =
             elim (dec_lt i r) [
-              | yes k ↦ omega (arith, h (omega arith), rising o.reach-rises i (r - 1) (omega arith) (omega arith))
+              | yes k ↦ omega (arith, h (omega arith), rising o.reach_rises i (r - 1) (omega arith) (omega arith))
               | no k ↦ omega (arith, b.later i (omega arith) l)
             ]

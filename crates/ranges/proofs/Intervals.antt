@@ -2,15 +2,15 @@
 use Rattle.std.proofs.Common.{◌≡◌, ℕ, ◌+◌, ◌-◌, ◌%◌, ◌^◌, ◌<◌, ◌≤◌, min, Bool, true, ltb, leb, List, get_or, sym, ◌∙◌, arith, ltb-true, le-ltb, lt-ltb, le-leb, leb-true}
 use Rattle.model.proofs.Logic.{and_first, and_second, and_both}
 use Rattle.ranges.specs.declared.Interval.{Interval}
-use Rattle.ranges.specs.Tables.{key, holds, inRanges, isWithin, Covered}
+use Rattle.ranges.specs.Tables.{key, holds, in_ranges, is_within, Covered}
 use Rattle.ranges.proofs.Cases.{both}
 use Rattle.ranges.proofs.Halving.{met, meet}
 
 -- d is f less `low`, round 2^64
-pub within-is : (r : Interval) (f d : ℕ) → r.low + r.size ≤ 4294967296 → f < 18446744073709551616 → d < 18446744073709551616
-    → (d + r.low) % 18446744073709551616 ≡ f → ltb d r.size ≡ isWithin r f
-unfolding isWithin
-within-is r f d small h l e =
+pub within_is : (r : Interval) (f d : ℕ) → r.low + r.size ≤ 4294967296 → f < 18446744073709551616 → d < 18446744073709551616
+    → (d + r.low) % 18446744073709551616 ≡ f → ltb d r.size ≡ is_within r f
+unfolding is_within
+within_is r f d small h l e =
     both _ _ (λ t.
     let q = ltb-true d r.size t in
     and_both _ _ (le-leb r.low f (omega arith)) (lt-ltb f (r.low + r.size) (omega arith)))
@@ -20,25 +20,25 @@ within-is r f d small h l e =
     lt-ltb d r.size (omega arith))
 
 pub none-covered : (firsts reach : List ℕ) (n z : ℕ) → Covered firsts reach n z (record { low = 0; size = 0 })
-unfolding isWithin
+unfolding is_within
 none-covered firsts reach n z =
     record { small = omega arith; covered = λ g e. absurd (omega (arith, ltb-true g 0 (and_second (leb 0 g) _ e))) }
 
 -- what is found of a key
-pub tells : (firsts reach : List ℕ) (n z f : ℕ) {x : ℕ} {t : Bool} → x ≡ key z f → t ≡ inRanges firsts reach n x → t ≡ inRanges firsts reach n (key z f)
+pub tells : (firsts reach : List ℕ) (n z f : ℕ) {x : ℕ} {t : Bool} → x ≡ key z f → t ≡ in_ranges firsts reach n x → t ≡ in_ranges firsts reach n (key z f)
 tells firsts reach n z f e q = rw (← e) q
 
 -- entry j holds f of zone z: the interval of its numbers, cut to the zone's
 module _ (firsts reach : List ℕ) (z f j : ℕ) {x base low high : ℕ} (e : holds firsts reach x j ≡ true) (p : x ≡ key z f) (q : base
     ≡ key z 0) (h : f < 4294967296)
     (a : low ≡ min (get_or firsts j 0 - base) 4294967295) (b : high ≡ min (get_or reach j 0 - base) 4294967295) where
-  pub low-high : (low ≤ f) × (f ≤ high)
+  pub low_high : (low ≤ f) × (f ≤ high)
   unfolding key
-  low-high = let m = met firsts reach x x j e in (omega arith, omega arith)
+  low_high = let m = met firsts reach x x j e in (omega arith, omega arith)
 
-  pub all-covered : {n : ℕ} → j < n → Covered firsts reach n z (record { low = low; size = high + 1 - low })
-  unfolding isWithin key
-  all-covered {n} l =
+  pub all_covered : {n : ℕ} → j < n → Covered firsts reach n z (record { low = low; size = high + 1 - low })
+  unfolding is_within key
+  all_covered {n} l =
       let m = met firsts reach x x j e in
       record {
         small = omega arith;

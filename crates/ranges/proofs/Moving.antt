@@ -15,8 +15,8 @@ pub record Moved (old new : List ℕ) (n k : ℕ) : Type 0 where
   pub up_to : (i : ℕ) → i ≤ k → get_or new i 0 ≡ get_or old i 0
   pub above : (i : ℕ) → k ≤ i → i < n → get_or new (suc i) 0 ≡ get_or old i 0
 
-pub moved-start : (s : List ℕ) (n : ℕ) → Moved s s n n
-moved-start s n = omega arith
+pub moved_start : (s : List ℕ) (n : ℕ) → Moved s s n n
+moved_start s n = omega arith
 
 module _ {old new : List ℕ} {n k : ℕ} (m : Moved old new n k) (h : k < length new) where
   -- entry k takes the one before it
@@ -34,8 +34,8 @@ module _ {old new : List ℕ} {n k : ℕ} (m : Moved old new n k) (h : k < lengt
       }
 
   -- x is put there
-  pub moved-put : (x : ℕ) → Placed x old (set new k x) n k
-  moved-put x =
+  pub moved_put : (x : ℕ) → Placed x old (set new k x) n k
+  moved_put x =
       record {
         before = λ i l. get_or-set_other new k i x 0 (omega arith) ∙ m.up_to i (omega arith);
         here = get_or-set_same new k x 0 h;
@@ -48,12 +48,12 @@ pub record RaisedTo (least : ℕ) (old new : List ℕ) (place k : ℕ) : Type 0 
   pub raised : Raised least old new k place
   pub from : (i : ℕ) → k ≤ i → get_or new i 0 ≡ get_or old i 0
 
-pub raised-start : (least : ℕ) (s : List ℕ) (place : ℕ) → RaisedTo least s s place place
-raised-start least s place = omega arith
+pub raised_start : (least : ℕ) (s : List ℕ) (place : ℕ) → RaisedTo least s s place place
+raised_start least s place = omega arith
 
 module _ {least : ℕ} {old new : List ℕ} {place k : ℕ} (m : RaisedTo least old new place k) (p : place ≤ k) where
-  pub raised-more : k < length new → get_or new k 0 < least → RaisedTo least old (set new k least) place (k + 1)
-  raised-more h b =
+  pub raised_more : k < length new → get_or new k 0 < least → RaisedTo least old (set new k least) place (k + 1)
+  raised_more h b =
       record {
         long = length-set new k least ∙ m.long;
         raised = record {
@@ -89,10 +89,10 @@ placed-rises p r zero h l = absurd (omega arith)
 placed-rises p r (suc i) h l = omega (arith, p.after i (omega arith) (omega arith), p.after (suc i) (omega arith) (omega arith), r.rises i (omega arith))
 
 -- what holds of each number of a table and the one beside it in another, where both get one more at the same place
-pub placed-every : {x y : ℕ} {xs xs' ys ys' : List ℕ} {n place : ℕ} → Placed x xs xs' n place → Placed y ys ys' n place → place ≤ n
+pub placed_every : {x y : ℕ} {xs xs' ys ys' : List ℕ} {n place : ℕ} → Placed x xs xs' n place → Placed y ys ys' n place → place ≤ n
     → (P : ℕ → ℕ → Type 0) → P x y → ((j : ℕ) → j < n → P (get_or xs j 0) (get_or ys j 0))
     → (j : ℕ) → j < n + 1 → P (get_or xs' j 0) (get_or ys' j 0)
-placed-every p q h P one every j l =
+placed_every p q h P one every j l =
     sides _ j (λ k. rw (p.before j k, q.before j k) (every j (omega arith)))
     (λ e. rw (e, p.here, q.here) one)
     (λ i k e. rw (e, p.after i k (omega arith), q.after i k (omega arith)) (every i (omega arith)))

@@ -1,6 +1,6 @@
 -- Ranges of numbers in two tables, in ascending order of their first numbers: firsts[j], and reach[j], the greatest last number of the ranges up to j.
 use Rattle.std.specs.Prelude.{◌≡◌, ℕ, suc, ◌+◌, ◌*◌, ◌<◌, ◌≤◌, max, Bool, true, ◌&&◌, ◌||◌, List, length, nat_le, nat_lt, slice_index, slice_index_or}
-use Rattle.model.specs.Lists.{someFrom, countFrom}
+use Rattle.model.specs.Lists.{some_from, count_from}
 use Rattle.ranges.specs.declared.Interval.{Interval}
 
 -- the number of an element with its zone, so that one table serves all zones of an image
@@ -8,20 +8,20 @@ unfoldable pub key : ℕ → ℕ → ℕ
 key z f = 4294967296 * z + f
 
 -- entry j begins no later than `last`, and a range up to it reaches `first`
-unfoldable pub meetsAt : List ℕ → List ℕ → ℕ → ℕ → ℕ → Bool
-meetsAt firsts reach first last j = nat_le (slice_index firsts j) last && nat_le first (slice_index reach j)
+unfoldable pub meets_at : List ℕ → List ℕ → ℕ → ℕ → ℕ → Bool
+meets_at firsts reach first last j = nat_le (slice_index firsts j) last && nat_le first (slice_index reach j)
 
 -- entry j holds f
 abbrev pub holds : List ℕ → List ℕ → ℕ → ℕ → Bool
-holds firsts reach f = meetsAt firsts reach f f
+holds firsts reach f = meets_at firsts reach f f
 
 -- one of the first n entries holds f
-abbrev pub inRanges : List ℕ → List ℕ → ℕ → ℕ → Bool
-inRanges firsts reach n f = someFrom (holds firsts reach f) n 0
+abbrev pub in_ranges : List ℕ → List ℕ → ℕ → ℕ → Bool
+in_ranges firsts reach n f = some_from (holds firsts reach f) n 0
 
 -- the answer of a search: an entry of n that meets the numbers from first to last, where there is one
 abbrev pub Found : List ℕ → List ℕ → ℕ → ℕ → ℕ → ℕ → Type 0
-Found firsts reach n first last r = (nat_lt r n ≡ someFrom (meetsAt firsts reach first last) n 0) × (r < n → meetsAt firsts reach first last r ≡ true)
+Found firsts reach n first last r = (nat_lt r n ≡ some_from (meets_at firsts reach first last) n 0) × (r < n → meets_at firsts reach first last r ≡ true)
 
 -- n entries of a table, none below the one before it
 pub record Rising (s : List ℕ) (n : ℕ) : Type 0 where
@@ -35,8 +35,8 @@ pub record Firsts (s : List ℕ) (n : ℕ) : Type 0 where
 
 -- both tables rise
 pub record Ordered (firsts reach : List ℕ) (n : ℕ) : Type 0 where
-  pub firsts-rise : Firsts firsts n
-  pub reach-rises : Rising reach n
+  pub firsts_rise : Firsts firsts n
+  pub reach_rises : Rising reach n
 
 -- of n entries the first r begin no later than f, those after the next `left` later
 pub record Begun (firsts : List ℕ) (n f r left : ℕ) : Type 0 where
@@ -60,27 +60,27 @@ pub record Inserted (firsts reach : List ℕ) (n first last : ℕ) (firsts' reac
   pub inside : place ≤ n
   pub placed : Placed first firsts firsts' n place
   pub ordered : Ordered firsts' reach' (n + 1)
-  pub meets : (a c : ℕ) → someFrom (meetsAt firsts' reach' a c) (n + 1) 0 ≡ (someFrom (meetsAt firsts reach a c) n 0 || (nat_le first c && nat_le a last))
+  pub meets : (a c : ℕ) → some_from (meets_at firsts' reach' a c) (n + 1) 0 ≡ (some_from (meets_at firsts reach a c) n 0 || (nat_le first c && nat_le a last))
 
 -- an interval holds f
-unfoldable pub isWithin : Interval → ℕ → Bool
-isWithin r f = nat_le r.low f && nat_lt f (r.low + r.size)
+unfoldable pub is_within : Interval → ℕ → Bool
+is_within r f = nat_le r.low f && nat_lt f (r.low + r.size)
 
 -- an interval of a zone's numbers, all of them in ranges
 pub record Covered (firsts reach : List ℕ) (n zone : ℕ) (r : Interval) : Type 0 where
   pub small : r.low + r.size ≤ 4294967296
-  pub covered : (g : ℕ) → isWithin r g ≡ true → inRanges firsts reach n (key zone g) ≡ true
+  pub covered : (g : ℕ) → is_within r g ≡ true → in_ranges firsts reach n (key zone g) ≡ true
 
 -- section s meets the test, and its range the numbers from first to last
-unfoldable pub meetsSection : (ℕ → Bool) → (ℕ → ℕ) → (ℕ → ℕ) → ℕ → ℕ → ℕ → Bool
-meetsSection test first_of last_of first last s = test s && (nat_le (first_of s) last && nat_le first (last_of s))
+unfoldable pub meets_section : (ℕ → Bool) → (ℕ → ℕ) → (ℕ → ℕ) → ℕ → ℕ → ℕ → Bool
+meets_section test first_of last_of first last s = test s && (nat_le (first_of s) last && nat_le first (last_of s))
 
 -- section s meets the test, and its range holds f
 abbrev pub has : (ℕ → Bool) → (ℕ → ℕ) → (ℕ → ℕ) → ℕ → ℕ → Bool
-has test first_of last_of f = meetsSection test first_of last_of f f
+has test first_of last_of f = meets_section test first_of last_of f f
 
 -- n entries are the ranges of the sections before i that meet the test; `meets f f` is that they hold f where one of these has it
 pub record Gathered (test : ℕ → Bool) (first_of last_of : ℕ → ℕ) (firsts reach : List ℕ) (n i : ℕ) : Type 0 where
-  pub few : n ≤ countFrom test i 0
+  pub few : n ≤ count_from test i 0
   pub ordered : Ordered firsts reach n
-  pub meets : (a c : ℕ) → someFrom (meetsAt firsts reach a c) n 0 ≡ someFrom (meetsSection test first_of last_of a c) i 0
+  pub meets : (a c : ℕ) → some_from (meets_at firsts reach a c) n 0 ≡ some_from (meets_section test first_of last_of a c) i 0

@@ -1,8 +1,8 @@
 // Ranges of numbers in two tables, in ascending order of their first numbers, found by halving; ranges may overlap.
 // Entry j begins with firsts[j]; reach[j] is the greatest last number of the entries up to j.
 ghost use Rattle.std.specs.Prelude.{◌≡◌, ℕ, suc, ◌+◌, ◌-◌, ◌<◌, ◌≤◌, min, max, ◌&&◌, ◌∷◌, length, if◌then◌else◌, nat_le, nat_lt, slice_index};
-ghost use Rattle.model.specs.Lists.{someFrom};
-ghost use Rattle.ranges.specs.Tables.{key, meetsAt, holds, inRanges, Found, Firsts, Ordered, Begun, Raised, Placed, Inserted, isWithin, Covered};
+ghost use Rattle.model.specs.Lists.{some_from};
+ghost use Rattle.ranges.specs.Tables.{key, meets_at, holds, in_ranges, Found, Firsts, Ordered, Begun, Raised, Placed, Inserted, is_within, Covered};
 
 pub mod search_tree; // search_tree.rt: guesses of the entries that hold numbers
 
@@ -117,7 +117,7 @@ fn meeting(firsts: &[u64], reach: &[u64], n: usize, first: u64, last: u64) -> us
 // Does one of n ranges meet the numbers from first to last?
 pub fn meets(firsts: &[u64], reach: &[u64], n: usize, first: u64, last: u64) -> bool
     requires { Ordered firsts.now reach.now n × (last < 9223372036854775808) }
-    ensures { result ≡ someFrom (meetsAt firsts.now reach.now first last) n 0 }
+    ensures { result ≡ some_from (meets_at firsts.now reach.now first last) n 0 }
 {
     meeting(firsts, reach, n, first, last) < n
 }
@@ -165,7 +165,7 @@ pub struct Interval {
 // Does an interval hold f? One comparison tells: where f is below it, the difference wraps round and is greater than every size.
 pub fn within(interval: Interval, f: u64) -> bool
     requires { interval.low + interval.size ≤ 4294967296 }
-    ensures { result ≡ isWithin interval f }
+    ensures { result ≡ is_within interval f }
 {
     wrapping_sub_u64(f, interval.low) < interval.size
 }
@@ -187,7 +187,7 @@ fn cut(x: u64, base: u64) -> u64
 pub fn interval_around(firsts: &[u64], reach: &[u64], n: usize, zone: usize, f: u64) -> Interval
     requires { Ordered firsts.now reach.now n × ((zone < 4096) × (f < 4294967296)) }
     ensures covered { Covered firsts.now reach.now n zone result }
-    ensures size_value { nat_lt 0 result.size ≡ inRanges firsts.now reach.now n (key zone f) }
+    ensures size_value { nat_lt 0 result.size ≡ in_ranges firsts.now reach.now n (key zone f) }
 {
     let j = find(firsts, reach, n, n, key(zone, f));
     if n <= j {

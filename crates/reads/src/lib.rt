@@ -1,8 +1,8 @@
 // Corner reads with the entries of a flat list: one of them, and a list of them.
 ghost use Rattle.std.specs.Prelude.{◌≡◌, ◌<◌};
-ghost use Rattle.model.specs.Answers.{cornerTells};
+ghost use Rattle.model.specs.Answers.{corner_tells};
 ghost use Rattle.model.specs.Reads.{EntryRead};
-ghost use Rattle.model.specs.ReadList.{requestsIn, answerAt, number_of, ruleOf, ReadsAnswered};
+ghost use Rattle.model.specs.ReadList.{requests_in, answer_at, number_of, rule_of, ReadsAnswered};
 
 use corners::corner;
 use model::{Corner, Count, Rejection};
@@ -31,7 +31,7 @@ pub fn one_read(
 
 // An answer's number; 0 where it is a rejection.
 fn number_of(c: Corner) -> i64
-    ensures { result ≡ number_of (cornerTells c) }
+    ensures { result ≡ number_of (corner_tells c) }
 {
     match c {
         Corner::Number(n) => n,
@@ -41,7 +41,7 @@ fn number_of(c: Corner) -> i64
 
 // An answer's rule; 0 where it is a number.
 fn rule_of(c: Corner) -> u64
-    ensures { result ≡ ruleOf (cornerTells c) }
+    ensures { result ≡ rule_of (corner_tells c) }
 {
     match c {
         Corner::Number(_) => 0,
@@ -51,8 +51,8 @@ fn rule_of(c: Corner) -> u64
 
 // The i-th read of a list, three numbers each: entry, element, corner.
 fn answer_at(image: &[u8], entries: &[u64], reads: &[u64], i: usize) -> Corner
-    requires { i < requestsIn reads.now }
-    ensures { cornerTells result ≡ answerAt image.now entries.now reads.now i }
+    requires { i < requests_in reads.now }
+    ensures { corner_tells result ≡ answer_at image.now entries.now reads.now i }
 {
     let j = 3 * i;
     one_read(image, entries, reads[j], reads[j + 1], reads[j + 2])

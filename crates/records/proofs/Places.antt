@@ -4,17 +4,17 @@ use mathlib.Core.Path.{◌≡◌, refl}
 use mathlib.Core.List.{List}
 use lib.ListN.{drop}
 use Rattle.model.specs.Bytes.{le}
-use Rattle.model.specs.Image.{headerWord, nodeCount, dataOffset, tree_of}
+use Rattle.model.specs.Image.{header_word, node_count, data_offset, tree_of}
 
 module _ (b : List ℕ) where
-  pub node-count-at : nodeCount b ≡ le 4 (drop 8 b)
-  unfolding nodeCount headerWord
+  pub node-count-at : node_count b ≡ le 4 (drop 8 b)
+  unfolding node_count header_word
   node-count-at = refl
 
-  pub data-offset-at : dataOffset b ≡ le 4 (drop 24 b)
-  unfolding dataOffset headerWord
-  data-offset-at = refl
+  pub data_offset-at : data_offset b ≡ le 4 (drop 24 b)
+  unfolding data_offset header_word
+  data_offset-at = refl
 
-  pub area-at : (tree_of b).areaAt ≡ dataOffset b
+  pub area_at_lem : (tree_of b).area_at ≡ data_offset b
   unfolding tree_of
-  area-at = refl
+  area_at_lem = refl

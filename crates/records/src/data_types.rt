@@ -1,8 +1,8 @@
 // Data types and their widths.
 ghost use Rattle.std.specs.Prelude.{◌≡◌, ◌≤◌, ◌<◌, get_or};
-ghost use Rattle.model.specs.Image.{tree_of, nodeCount, dataType, width, widths};
+ghost use Rattle.model.specs.Image.{tree_of, node_count, data_type_of, width, widths};
 ghost use Rattle.model.specs.Bounds.{Laid};
-ghost use Rattle.records.specs.Table.{typeByCode};
+ghost use Rattle.records.specs.Table.{type_by_code};
 
 use super::{node_table, nodes};
 
@@ -24,7 +24,7 @@ pub const LINK: u64 = 0x4b4c;
 
 // The data type whose two bytes are this number, the lower first; 0 for none.
 pub fn by_code(code: u64) -> u64
-    ensures { (result ≡ typeByCode code) × (result ≤ 11) }
+    ensures { (result ≡ type_by_code code) × (result ≤ 11) }
 {
     match code {
         0x544d => 1, // MT
@@ -44,8 +44,8 @@ pub fn by_code(code: u64) -> u64
 
 // The data type of node i: its place among the eleven, from 1, and 0 for any other.
 pub fn data_type_of(image: &[u8], i: usize) -> u64
-    requires { Laid image.now × (i < nodeCount image.now) }
-    ensures { (result ≡ dataType (tree_of image.now) i) × (result ≤ 11) }
+    requires { Laid image.now × (i < node_count image.now) }
+    ensures { (result ≡ data_type_of (tree_of image.now) i) × (result ≤ 11) }
 {
     nodes::data_type_of(node_table(image), i)
 }
@@ -73,7 +73,7 @@ pub fn width_of(data_type: u64) -> u64
 
 // The width in bytes of what node i stores.
 pub fn width_at(image: &[u8], i: usize) -> usize
-    requires { Laid image.now × (i < nodeCount image.now) }
+    requires { Laid image.now × (i < node_count image.now) }
     ensures { (result ≡ width (tree_of image.now) i) × (result ≤ 16) }
 {
     nodes::width_at(node_table(image), i)

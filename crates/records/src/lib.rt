@@ -1,9 +1,9 @@
 // The header, the node records, data types, dimension words and stored numbers, read from the image's bytes. A node is read from the bytes of a table
 // (`nodes`), which an image has after its header.
 ghost use Rattle.std.specs.Prelude.{◌≡◌, ◌+◌, ◌≤◌, ◌<◌, length, drop};
-ghost use Rattle.model.specs.Image.{tree_of, nodeCount, recordAt, parent};
+ghost use Rattle.model.specs.Image.{tree_of, node_count, record_at, parent};
 ghost use Rattle.model.specs.Bounds.{Laid};
-ghost use Rattle.records.specs.Fields.{headerOf, numbersOf, recordOf};
+ghost use Rattle.records.specs.Fields.{header_of, numbers_of, record_of};
 ghost use Rattle.records.specs.Table.{size_of};
 
 mod data; // data.rt: dimension words and stored numbers
@@ -49,7 +49,7 @@ impl Header {
     // The header of an image that has one.
     pub fn read(image: &[u8]) -> Header
         requires { 32 ≤ length image.now }
-        ensures { result ≡ headerOf image.now }
+        ensures { result ≡ header_of image.now }
     {
         Header {
             form: words::u32_at(image, Header::FORM),
@@ -108,8 +108,8 @@ pub struct RecordNumbers {
 impl RecordNumbers {
     // The numbers of node i.
     pub fn read(image: &[u8], i: usize) -> RecordNumbers
-        requires { Laid image.now × (i < nodeCount image.now) }
-        ensures { result ≡ numbersOf (tree_of image.now) i }
+        requires { Laid image.now × (i < node_count image.now) }
+        ensures { result ≡ numbers_of (tree_of image.now) i }
     {
         nodes::numbers(node_table(image), i)
     }
@@ -152,15 +152,15 @@ impl Record {
     // Where the record of node i starts.
     pub fn at(i: usize) -> usize
         requires { i < 4096 }
-        ensures { result ≡ recordAt i }
+        ensures { result ≡ record_at i }
     {
         Header::SIZE + Record::SIZE * i
     }
 
     // The record of node i.
     pub fn read(image: &[u8], i: usize) -> Record
-        requires { Laid image.now × (i < nodeCount image.now) }
-        ensures { result ≡ recordOf (tree_of image.now) i }
+        requires { Laid image.now × (i < node_count image.now) }
+        ensures { result ≡ record_of (tree_of image.now) i }
     {
         nodes::record(node_table(image), i)
     }
@@ -168,7 +168,7 @@ impl Record {
 
 // The parent of node i.
 pub fn parent_of(image: &[u8], i: usize) -> usize
-    requires { Laid image.now × (i < nodeCount image.now) }
+    requires { Laid image.now × (i < node_count image.now) }
     ensures { (result ≡ parent (tree_of image.now) i) × (result < 4294967296) }
 {
     nodes::parent_of(node_table(image), i)

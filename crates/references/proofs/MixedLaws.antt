@@ -7,135 +7,135 @@ use mathlib.Core.List.{List}
 use native.Mathlib.Omega.{arith}
 use native.Mathlib.Numerals.{add-one}
 use borrow.Author.Tests.{eqb-true, eq-eqb}
-use Rattle.model.specs.Lists.{◌⊃◌, everyFrom}
-use Rattle.model.specs.Rules.{check, passed, rejected, rejection, rejectionAt}
+use Rattle.model.specs.Lists.{◌⊃◌, every_from}
+use Rattle.model.specs.Rules.{check, passed, rejected, rejection, rejection_at}
 use Rattle.model.specs.Image.{tree_of, parent}
 use Rattle.model.specs.Given.{Sound}
-use Rattle.model.specs.Values.{size, vertexSize, offsetsOf, connectivityOf}
-use Rattle.model.specs.Elements.{MIXED, hasOffsets, elementType, elementCount, lengthsFit, startOffset, elementStart, start_of, ownType}
-use Rattle.model.specs.Elements.{NFACE, startsAtZero, allRise, endsAtLength, typeFits, layout_of, allTypesFit, startsAt, isTypeNumber, isNode, referenceCheck}
+use Rattle.model.specs.Values.{size, vertex_size, offsets_of, connectivity_of}
+use Rattle.model.specs.Elements.{MIXED, has_offsets, element_type_of, element_count, lengths_fit, start_offset, element_start, start_of, own_type}
+use Rattle.model.specs.Elements.{NFACE, starts_at_zero, all_rise, ends_at_length, type_fits, layout_of, all_types_fit, starts_at, is_type_number, is_node, reference_check}
 use Rattle.model.proofs.Logic.{when, or_left}
-use Rattle.model.proofs.Walks.{some-by}
-use Rattle.model.proofs.Loops.{EveryLeft, every-start, every_more, every-stop, every-done}
-use Rattle.model.proofs.Passed.{Hold, check-pass, then-on, then-off}
+use Rattle.model.proofs.Walks.{some_by}
+use Rattle.model.proofs.Loops.{EveryLeft, every_start, every_more, every_stop, every_done}
+use Rattle.model.proofs.Passed.{Hold, check_pass, then-on, then-off}
 use Rattle.model.proofs.StartOffsets.{offsets-first, offsets-next, offsets-last}
-use Rattle.model.proofs.Layouts.{no-type-between}
+use Rattle.model.proofs.Layouts.{no_type_between}
 use Rattle.model.proofs.TwosComplement.{rise-last}
 use Rattle.rows.specs.declared.Row.{Row}
 use Rattle.rows.specs.Rows.{Numbers}
-use Rattle.references.specs.Arrays.{isWithin, FirstFailing, Failing}
-use Rattle.references.specs.Groups.{shapeRules, typeRules, connectivityCheck}
+use Rattle.references.specs.Arrays.{is_within, FirstFailing, Failing}
+use Rattle.references.specs.Groups.{shape_rules, type_rules, connectivity_check}
 use Rattle.section_data.specs.Given.{RowOf}
-use Rattle.references.specs.Mixed.{fitsIn, start_at, fitsAt, Filled, MixedRows}
-use Rattle.model.proofs.Walks.{every-same}
-use Rattle.references.proofs.Failing.{failing-start, failing-on, failing-behind, failing-none}
+use Rattle.references.specs.Mixed.{fits_in, start_at, fits_at, Filled, MixedRows}
+use Rattle.model.proofs.Walks.{every_same}
+use Rattle.references.proofs.Failing.{failing_start, failing_on, failing_behind, failing_none}
 use Rattle.section_data.proofs.ArrayLaws.{row-numbers, row_number}
-use Rattle.references.proofs.RuleLaws.{long-is, reference-is, node-same, nodes-kept, nodes-broken}
+use Rattle.references.proofs.RuleLaws.{long-is, reference-is, node-same, nodes-kept, nodes_broken}
 
 -- an element ends in the connectivity
-start-inside : {b : List ℕ} {o c : Row} {n : ℕ} → Filled b o c n → (k : ℕ) → k < n → start_at b o (suc k) ≤ c.n
-start-inside {b} {o} {c} {n} f k h =
+start_inside : {b : List ℕ} {o c : Row} {n : ℕ} → Filled b o c n → (k : ℕ) → k < n → start_at b o (suc k) ≤ c.n
+start_inside {b} {o} {c} {n} f k h =
     let r = rise-last n (start_at b o) f.rise (suc k) (n - suc k) (omega arith) in
     omega (arith, f.last)
 
-module _ (b : List ℕ) (s : ℕ) (e : elementType (tree_of b) s ≡ MIXED) (shape : check s (shapeRules (tree_of b) s) ≡ passed) where
-  tests : Hold (shapeRules (tree_of b) s)
-  tests = check-pass s (shapeRules (tree_of b) s) shape
+module _ (b : List ℕ) (s : ℕ) (e : element_type_of (tree_of b) s ≡ MIXED) (shape : check s (shape_rules (tree_of b) s) ≡ passed) where
+  tests : Hold (shape_rules (tree_of b) s)
+  tests = check_pass s (shape_rules (tree_of b) s) shape
 
   -- 29: there are n + 1 start offsets
-  pub offsets-counted : size (tree_of b) (offsetsOf (tree_of b) s) ≡ elementCount (tree_of b) s + 1
-  unfolding shapeRules lengthsFit hasOffsets
-  offsets-counted = eqb-true _ _ (rw e at tests.0)
+  pub offsets_counted : size (tree_of b) (offsets_of (tree_of b) s) ≡ element_count (tree_of b) s + 1
+  unfolding shape_rules lengths_fit has_offsets
+  offsets_counted = eqb-true _ _ (rw e at tests.0)
 
   -- 30, 31, 32
-  first-is : startsAtZero (tree_of b) s ≡ true
-  unfolding shapeRules hasOffsets
+  first-is : starts_at_zero (tree_of b) s ≡ true
+  unfolding shape_rules has_offsets
   first-is = when _ _ tests.1.0 (rw e)
 
-  all-rise : allRise (tree_of b) s ≡ true
-  unfolding shapeRules hasOffsets
-  all-rise = when _ _ tests.1.1.0 (rw e)
+  all_rise_lem : all_rise (tree_of b) s ≡ true
+  unfolding shape_rules has_offsets
+  all_rise_lem = when _ _ tests.1.1.0 (rw e)
 
-  last-is : endsAtLength (tree_of b) s ≡ true
-  unfolding shapeRules hasOffsets
+  last-is : ends_at_length (tree_of b) s ≡ true
+  unfolding shape_rules has_offsets
   last-is = when _ _ tests.1.1.1.0 (rw e)
 
-  start-offset : (k : ℕ) → elementStart (tree_of b) s k ≡ startOffset (tree_of b) s k
-  unfolding elementStart start_of layout_of hasOffsets
-  start-offset k = rw e
+  start_offset_lem : (k : ℕ) → element_start (tree_of b) s k ≡ start_offset (tree_of b) s k
+  unfolding element_start start_of layout_of has_offsets
+  start_offset_lem k = rw e
 
-  start-rises : (k : ℕ) → k < elementCount (tree_of b) s → elementStart (tree_of b) s k < elementStart (tree_of b) s (suc k)
-  start-rises k h = rw (start-offset k, start-offset (suc k)) (offsets-next (tree_of b) s first-is all-rise k h)
+  start_rises : (k : ℕ) → k < element_count (tree_of b) s → element_start (tree_of b) s k < element_start (tree_of b) s (suc k)
+  start_rises k h = rw (start_offset_lem k, start_offset_lem (suc k)) (offsets-next (tree_of b) s first-is all_rise_lem k h)
 
-  module _ (g : Sound b) {o c : Row} (offsets : RowOf b (offsetsOf (tree_of b) s) o) (connectivity : RowOf b (connectivityOf (tree_of b) s) c) where
-    count-is : o.n ≡ elementCount (tree_of b) s + 1
-    count-is = offsets.long ∙ offsets-counted
+  module _ (g : Sound b) {o c : Row} (offsets : RowOf b (offsets_of (tree_of b) s) o) (connectivity : RowOf b (connectivity_of (tree_of b) s) c) where
+    count-is : o.n ≡ element_count (tree_of b) s + 1
+    count-is = offsets.long ∙ offsets_counted
 
-    offset-is : (k : ℕ) → k ≤ elementCount (tree_of b) s → startOffset (tree_of b) s k ≡ start_at b o k
-    unfolding startOffset
+    offset-is : (k : ℕ) → k ≤ element_count (tree_of b) s → start_offset (tree_of b) s k ≡ start_at b o k
+    unfolding start_offset
     offset-is k h = row_number g offsets k (omega (arith, count-is))
 
-    filled : Filled b o c (elementCount (tree_of b) s)
+    filled : Filled b o c (element_count (tree_of b) s)
     filled =
         record {
           count = count-is;
-          first = sym (offset-is 0 (omega arith)) ∙ offsets-first (tree_of b) s first-is all-rise;
-          rise = λ k h. rw (← offset-is k (omega arith), ← offset-is (suc k) h) (offsets-next (tree_of b) s first-is all-rise k h);
-          last = sym (offset-is _ (omega arith)) ∙ offsets-last (tree_of b) s first-is all-rise last-is ∙ long-is g s connectivity;
+          first = sym (offset-is 0 (omega arith)) ∙ offsets-first (tree_of b) s first-is all_rise_lem;
+          rise = λ k h. rw (← offset-is k (omega arith), ← offset-is (suc k) h) (offsets-next (tree_of b) s first-is all_rise_lem k h);
+          last = sym (offset-is _ (omega arith)) ∙ offsets-last (tree_of b) s first-is all_rise_lem last-is ∙ long-is g s connectivity;
         }
 
-    start_is : (k : ℕ) → k ≤ elementCount (tree_of b) s → elementStart (tree_of b) s k ≡ start_at b o k
-    start_is k h = start-offset k ∙ offset-is k h
+    start_is : (k : ℕ) → k ≤ element_count (tree_of b) s → element_start (tree_of b) s k ≡ start_at b o k
+    start_is k h = start_offset_lem k ∙ offset-is k h
 
     -- 38
-    fits-same : (k : ℕ) → k < elementCount (tree_of b) s → fitsAt b o c k ≡ typeFits (layout_of (tree_of b) s) k
-    unfolding fitsAt fitsIn typeFits ownType layout_of elementStart
-    fits-same k h =
-        rw (start_is k (omega arith), start_is (suc k) h, e, reference-is g s connectivity (start_at b o k) (omega (arith, filled.rise k h, start-inside filled k h)))
+    fits_same : (k : ℕ) → k < element_count (tree_of b) s → fits_at b o c k ≡ type_fits (layout_of (tree_of b) s) k
+    unfolding fits_at fits_in type_fits own_type layout_of element_start
+    fits_same k h =
+        rw (start_is k (omega arith), start_is (suc k) h, e, reference-is g s connectivity (start_at b o k) (omega (arith, filled.rise k h, start_inside filled k h)))
 
-    all_fit : everyFrom (fitsAt b o c) (elementCount (tree_of b) s) 0 ≡ allTypesFit (tree_of b) s
-    unfolding allTypesFit
-    all_fit = every-same (fitsAt b o c) (typeFits (layout_of (tree_of b) s)) (elementCount (tree_of b) s) 0 (λ k l h. fits-same k (omega arith))
+    all_fit : every_from (fits_at b o c) (element_count (tree_of b) s) 0 ≡ all_types_fit (tree_of b) s
+    unfolding all_types_fit
+    all_fit = every_same (fits_at b o c) (type_fits (layout_of (tree_of b) s)) (element_count (tree_of b) s) 0 (λ k l h. fits_same k (omega arith))
 
     -- 34: an element begins with a type number, and no other entry of it is one
-    module _ (limit : ℕ) (v : limit ≡ vertexSize (tree_of b) (parent (tree_of b) s) 0) where
-      first-type : (k : ℕ) → k < elementCount (tree_of b) s → isNode (tree_of b) s (start_at b o k) ≡ true
-      unfolding isNode isTypeNumber startsAt
+    module _ (limit : ℕ) (v : limit ≡ vertex_size (tree_of b) (parent (tree_of b) s) 0) where
+      first-type : (k : ℕ) → k < element_count (tree_of b) s → is_node (tree_of b) s (start_at b o k) ≡ true
+      unfolding is_node is_type_number starts_at
       first-type k h =
-          or_left (isTypeNumber (tree_of b) s (start_at b o k)) _ (rw e
-          (some-by (startsAt (tree_of b) s (start_at b o k)) (elementCount (tree_of b) s) 0 k (eq-eqb _ _ (start_is k (omega arith))) (omega arith) (omega arith)))
+          or_left (is_type_number (tree_of b) s (start_at b o k)) _ (rw e
+          (some_by (starts_at (tree_of b) s (start_at b o k)) (element_count (tree_of b) s) 0 k (eq-eqb _ _ (start_is k (omega arith))) (omega arith) (omega arith)))
 
-      others-nodes : (k p : ℕ) → k < elementCount (tree_of b) s → start_at b o k < p → p < start_at b o (suc k)
-          → isNode (tree_of b) s p ≡ isWithin b c.at c.width limit p
+      others-nodes : (k p : ℕ) → k < element_count (tree_of b) s → start_at b o k < p → p < start_at b o (suc k)
+          → is_node (tree_of b) s p ≡ is_within b c.at c.width limit p
       others-nodes k p h from to =
-          sym (node-same g s connectivity limit v p (omega (arith, start-inside filled k h))
-          (no-type-between (tree_of b) s start-rises k p h (rw (start_is k (omega arith)) from) (rw (start_is (suc k) h) to)))
+          sym (node-same g s connectivity limit v p (omega (arith, start_inside filled k h))
+          (no_type_between (tree_of b) s start_rises k p h (rw (start_is k (omega arith)) from) (rw (start_is (suc k) h) to)))
 
       -- the nodes of element k
-      element-nodes : (k : ℕ) → k < elementCount (tree_of b) s → {place : ℕ}
-          → Failing (isWithin b c.at c.width limit) c.n (start_at b o k + 1) (start_at b o (suc k)) place
-          → Failing (isNode (tree_of b) s) c.n (start_at b o k) (start_at b o (suc k)) place
+      element-nodes : (k : ℕ) → k < element_count (tree_of b) s → {place : ℕ}
+          → Failing (is_within b c.at c.width limit) c.n (start_at b o k + 1) (start_at b o (suc k)) place
+          → Failing (is_node (tree_of b) s) c.n (start_at b o k) (start_at b o (suc k)) place
       element-nodes k h f =
-          failing-behind (filled.rise k h) (start-inside filled k h) (first-type k h) (λ p from to. sym (others-nodes k p h from to)) f
+          failing_behind (filled.rise k h) (start_inside filled k h) (first-type k h) (λ p from to. sym (others-nodes k p h from to)) f
 
 -- the pass over the elements: k of them have a type that fits, and `place` tells of their nodes
 pub record Walked (b : List ℕ) (s : ℕ) (o c : Row) (k start place : ℕ) : Type 0 where
-  pub start-at : start ≡ start_at b o k
-  pub fits : EveryLeft (fitsAt b o c) (o.n - 1) k (everyFrom (fitsAt b o c) (o.n - 1) 0)
-  pub nodes : Failing (isNode (tree_of b) s) c.n 0 start place
+  pub start_at_lem : start ≡ start_at b o k
+  pub fits : EveryLeft (fits_at b o c) (o.n - 1) k (every_from (fits_at b o c) (o.n - 1) 0)
+  pub nodes : Failing (is_node (tree_of b) s) c.n 0 start place
 
 module _ {b : List ℕ} {s : ℕ} {o c : Row} {limit : ℕ} (m : MixedRows b s o c limit) where
-  count : o.n - 1 ≡ elementCount (tree_of b) s
+  count : o.n - 1 ≡ element_count (tree_of b) s
   count = omega (arith, count-is b s m.mixed m.shaped m.sound m.offsets m.connectivity)
 
-  all-filled : Filled b o c (elementCount (tree_of b) s)
-  all-filled = filled b s m.mixed m.shaped m.sound m.offsets m.connectivity
+  all_filled : Filled b o c (element_count (tree_of b) s)
+  all_filled = filled b s m.mixed m.shaped m.sound m.offsets m.connectivity
 
-  types_are : everyFrom (fitsAt b o c) (o.n - 1) 0 ≡ allTypesFit (tree_of b) s
+  types_are : every_from (fits_at b o c) (o.n - 1) 0 ≡ all_types_fit (tree_of b) s
   types_are = rw count (all_fit b s m.mixed m.shaped m.sound m.offsets m.connectivity)
 
   pub some-offset : 0 < o.n
-  some-offset = omega (arith, all-filled.count)
+  some-offset = omega (arith, all_filled.count)
 
   pub offset-row : Numbers b o.at o.width o.n
   offset-row = row-numbers m.sound m.offsets
@@ -144,63 +144,63 @@ module _ {b : List ℕ} {s : ℕ} {o c : Row} {limit : ℕ} (m : MixedRows b s o
   reference-row = row-numbers m.sound m.connectivity
 
   pub walked_start : Walked b s o c 0 0 0
-  walked_start = record { start-at = sym all-filled.first; fits = every-start (fitsAt b o c) (o.n - 1); nodes = failing-start (isNode (tree_of b) s) c.n }
+  walked_start = record { start_at_lem = sym all_filled.first; fits = every_start (fits_at b o c) (o.n - 1); nodes = failing_start (is_node (tree_of b) s) c.n }
 
   module _ {k start end place : ℕ} (w : Walked b s o c k start place) (h : k < o.n - 1) (e : end ≡ start_at b o (k + 1)) where
-    inside : k < elementCount (tree_of b) s
+    inside : k < element_count (tree_of b) s
     inside = omega (arith, count)
 
     next : end ≡ start_at b o (suc k)
     next = rw add-one at e
 
     -- where the element stands
-    pub start-before : start < end
-    start-before = rw (w.start-at, next) (all-filled.rise k inside)
+    pub start_before : start < end
+    start_before = rw (w.start_at_lem, next) (all_filled.rise k inside)
 
     pub end-inside : end ≤ c.n
-    end-inside = rw next (start-inside all-filled k inside)
+    end-inside = rw next (start_inside all_filled k inside)
 
-    fits-is : fitsAt b o c k ≡ fitsIn b c start end
-    unfolding fitsAt
-    fits-is = rw (w.start-at, next)
+    fits_is : fits_at b o c k ≡ fits_in b c start end
+    unfolding fits_at
+    fits_is = rw (w.start_at_lem, next)
 
-    pub walked_on : {later : ℕ} → fitsIn b c start end ≡ true
-        → (0 < place → later ≡ place) × (place ≡ 0 → Failing (isWithin b c.at c.width limit) c.n (start + 1) end later)
+    pub walked_on : {later : ℕ} → fits_in b c start end ≡ true
+        → (0 < place → later ≡ place) × (place ≡ 0 → Failing (is_within b c.at c.width limit) c.n (start + 1) end later)
         → Walked b s o c (k + 1) end later
     walked_on f l =
         record {
-          start-at = e;
-          fits = every_more w.fits h (fits-is ∙ f);
-          nodes = failing-on w.nodes (omega (arith, start-before)) l.0
-              (λ z. rw (w.start-at, next)
+          start_at_lem = e;
+          fits = every_more w.fits h (fits_is ∙ f);
+          nodes = failing_on w.nodes (omega (arith, start_before)) l.0
+              (λ z. rw (w.start_at_lem, next)
               (element-nodes b s m.mixed m.shaped m.sound m.offsets m.connectivity limit m.vertices k inside
-              (rw (w.start-at, next) at (l.1 z))));
+              (rw (w.start_at_lem, next) at (l.1 z))));
         }
 
-    pub walked-off : fitsIn b c start end ≡ false → rejected (rejection 38 s) ≡ connectivityCheck (tree_of b) s
-    unfolding connectivityCheck typeRules check ◌⊃◌
-    walked-off f = sym (then-off (referenceCheck (tree_of b) s) (rw (m.mixed, ← types_are, ← every-stop w.fits h (fits-is ∙ f))))
+    pub walked_off : fits_in b c start end ≡ false → rejected (rejection 38 s) ≡ connectivity_check (tree_of b) s
+    unfolding connectivity_check type_rules check ◌⊃◌
+    walked_off f = sym (then-off (reference_check (tree_of b) s) (rw (m.mixed, ← types_are, ← every_stop w.fits h (fits_is ∙ f))))
 
   module _ {k start place : ℕ} (w : Walked b s o c k start place) (h : o.n - 1 ≤ k) where
-    all-walked : start ≡ c.n
-    all-walked = let q : k ≡ elementCount (tree_of b) s = omega (arith, w.fits.inside, count) in w.start-at ∙ rw q all-filled.last
+    all_walked : start ≡ c.n
+    all_walked = let q : k ≡ element_count (tree_of b) s = omega (arith, w.fits.inside, count) in w.start_at_lem ∙ rw q all_filled.last
 
-    references-left : connectivityCheck (tree_of b) s ≡ referenceCheck (tree_of b) s
-    unfolding connectivityCheck typeRules check ◌⊃◌
-    references-left = then-on (referenceCheck (tree_of b) s) (rw (m.mixed, ← types_are, ← every-done w.fits h))
+    references_left : connectivity_check (tree_of b) s ≡ reference_check (tree_of b) s
+    unfolding connectivity_check type_rules check ◌⊃◌
+    references_left = then-on (reference_check (tree_of b) s) (rw (m.mixed, ← types_are, ← every_done w.fits h))
 
-    no_cells : elementType (tree_of b) s ≡ NFACE → ⊥
+    no_cells : element_type_of (tree_of b) s ≡ NFACE → ⊥
     no_cells q = let z : MIXED ≡ NFACE = sym m.mixed ∙ q in absurd (omega arith)
 
-    pub walked-kept : place ≡ 0 → passed ≡ connectivityCheck (tree_of b) s
-    walked-kept z =
-        rw references-left
-        (nodes-kept (tree_of b) s (long-is m.sound s m.connectivity) no_cells (failing-none (rw all-walked at (w.nodes.none z)) (omega arith)) (omega arith))
+    pub walked_kept : place ≡ 0 → passed ≡ connectivity_check (tree_of b) s
+    walked_kept z =
+        rw references_left
+        (nodes-kept (tree_of b) s (long-is m.sound s m.connectivity) no_cells (failing_none (rw all_walked at (w.nodes.none z)) (omega arith)) (omega arith))
 
-    pub walked-broken : (place ≡ 0 → ⊥) → rejected (rejectionAt 34 s place) ≡ connectivityCheck (tree_of b) s
-    walked-broken d =
+    pub walked_broken : (place ≡ 0 → ⊥) → rejected (rejection_at 34 s place) ≡ connectivity_check (tree_of b) s
+    walked_broken d =
         let l : 0 < place = omega (arith, d) in
         let f = w.nodes.before l in
         let q : place ≡ place - 1 + 1 = omega arith in
-        let first : FirstFailing (isNode (tree_of b) s) c.n (place - 1) = record { before = f.0; fails = λ u. w.nodes.fails l } in
-        rw (references-left, q) (nodes-broken (tree_of b) s (long-is m.sound s m.connectivity) no_cells first (omega (arith, f.1, all-walked)))
+        let first : FirstFailing (is_node (tree_of b) s) c.n (place - 1) = record { before = f.0; fails = λ u. w.nodes.fails l } in
+        rw (references_left, q) (nodes_broken (tree_of b) s (long-is m.sound s m.connectivity) no_cells first (omega (arith, f.1, all_walked)))

@@ -2,7 +2,7 @@
 use Rattle.std.specs.Prelude.{ℕ, ◌-◌, ◌≤◌, ◌<◌, ◌≡◌, Bool, false, ◌&&◌, ◌||◌, List, leb}
 use Rattle.model.specs.Bytes.{magnitude}
 use Rattle.model.specs.Image.{Tree}
-use Rattle.model.specs.Elements.{faceOf}
+use Rattle.model.specs.Elements.{face_of}
 use Rattle.model.specs.Corner.{number_at}
 use Rattle.rows.specs.declared.Row.{Row}
 use Rattle.ranges.specs.declared.Interval.{Interval}
@@ -10,20 +10,20 @@ use Rattle.ranges.specs.Tables as Tables
 use Rattle.section_data.specs.Passing.{Passed}
 
 -- 34: number k lies in 1 to limit
-unfoldable pub isWithin : List ℕ → ℕ → ℕ → ℕ → ℕ → Bool
-isWithin b at w limit k = leb 1 (number_at b at w k) && leb (number_at b at w k) limit
+unfoldable pub is_within : List ℕ → ℕ → ℕ → ℕ → ℕ → Bool
+is_within b at w limit k = leb 1 (number_at b at w k) && leb (number_at b at w k) limit
 
 -- the magnitude of number k of a row is a face of zone z
-unfoldable pub refersFace : Tree → ℕ → List ℕ → ℕ → ℕ → ℕ → Bool
-refersFace t z b at w k = faceOf t z (magnitude w (number_at b at w k))
+unfoldable pub refers_face : Tree → ℕ → List ℕ → ℕ → ℕ → ℕ → Bool
+refers_face t z b at w k = face_of t z (magnitude w (number_at b at w k))
 
 -- one of two intervals holds f
-abbrev pub isKnown : Interval → Interval → ℕ → Bool
-isKnown last before f = Tables.isWithin last f || Tables.isWithin before f
+abbrev pub is_known : Interval → Interval → ℕ → Bool
+is_known last before f = Tables.is_within last f || Tables.is_within before f
 
 -- one of them holds the magnitude of number i of a row
 abbrev pub known_at : List ℕ → Row → Interval → Interval → ℕ → Bool
-known_at b row last before i = isKnown last before (magnitude row.width (number_at b row.at row.width i))
+known_at b row last before i = is_known last before (magnitude row.width (number_at b row.at row.width i))
 
 -- j is the first of n numbers that does not meet a test; n where each does
 pub record FirstFailing (p : ℕ → Bool) (n j : ℕ) : Type 0 where

@@ -1,19 +1,19 @@
 // Rules 35 to 37: the face references of a section.
 ghost use Rattle.std.specs.Prelude.{◌≡◌, true, ◌+◌, ◌≤◌, ◌<◌, length};
-ghost use Rattle.model.specs.Image.{tree_of, nodeCount};
+ghost use Rattle.model.specs.Image.{tree_of, node_count};
 ghost use Rattle.model.specs.Given.{Sound};
-ghost use Rattle.model.specs.Values.{connectivityOf};
-ghost use Rattle.model.specs.Elements.{NFACE, elementType, isFace, referenceCheck};
-ghost use Rattle.model.specs.Answers.{stageTells};
+ghost use Rattle.model.specs.Values.{connectivity_of};
+ghost use Rattle.model.specs.Elements.{NFACE, element_type_of, is_face, reference_check};
+ghost use Rattle.model.specs.Answers.{stage_tells};
 ghost use Rattle.index.specs.Index.{Index};
 ghost use Rattle.rows.specs.Rows.{Numbers};
 ghost use Rattle.ranges.specs.SearchTree.{Built};
 ghost use Rattle.section_data.specs.Passing.{Passed};
-ghost use Rattle.references.specs.Arrays.{isKnown, known_at, FirstFailing};
+ghost use Rattle.references.specs.Arrays.{is_known, known_at, FirstFailing};
 ghost use Rattle.section_data.specs.Given.{RowOf, SectionContext};
-ghost use Rattle.references.specs.Arrays.{refersFace};
+ghost use Rattle.references.specs.Arrays.{refers_face};
 ghost use Rattle.section_data.specs.Ranges.{Faces};
-ghost use Rattle.references.specs.Groups.{faceRule};
+ghost use Rattle.references.specs.Groups.{face_rule};
 
 use model::{Rejection, Stage};
 use ranges::search_tree::{Four, SearchTree};
@@ -24,7 +24,7 @@ use section_data::is_element;
 // Does one of two intervals hold f?
 fn is_known(last: Interval, before: Interval, f: u64) -> bool
     requires { (last.low + last.size ≤ 4294967296) × (before.low + before.size ≤ 4294967296) }
-    ensures { result ≡ isKnown last before f }
+    ensures { result ≡ is_known last before f }
 {
     ranges::within(last, f) || ranges::within(before, f)
 }
@@ -57,9 +57,9 @@ fn entry_refers(
     count: usize,
     entry: usize,
 ) -> bool
-    requires sound { Sound image.now × (z < nodeCount image.now) }
+    requires sound { Sound image.now × (z < node_count image.now) }
     requires numbers { (Numbers image.now row.at row.width row.n × (k < row.n)) × Faces (tree_of image.now) firsts.now reach.now count }
-    ensures { result ≡ true → refersFace (tree_of image.now) z image.now row.at row.width k ≡ true }
+    ensures { result ≡ true → refers_face (tree_of image.now) z image.now row.at row.width k ≡ true }
 {
     let f = rows::magnitude_at(image, row, k);
     if types::MAX_NUMBER < f {
@@ -79,10 +79,10 @@ fn eight_refer(
     count: usize,
     entries: &[usize],
 ) -> bool
-    requires sound { Sound image.now × (z < nodeCount image.now) }
+    requires sound { Sound image.now × (z < node_count image.now) }
     requires numbers { (Numbers image.now row.at row.width row.n × (k + 8 ≤ row.n)) × Faces (tree_of image.now) firsts.now reach.now count }
     requires in_bounds { 8 ≤ length entries.now }
-    ensures { result ≡ true → Passed (refersFace (tree_of image.now) z image.now row.at row.width) row.n k (k + 8) }
+    ensures { result ≡ true → Passed (refers_face (tree_of image.now) z image.now row.at row.width) row.n k (k + 8) }
 {
     let end = k + 8;
     let mut j = k;
@@ -160,10 +160,10 @@ fn guessed_to(
     levels: &[u32],
     tree: SearchTree,
 ) -> usize
-    requires sound { (Sound image.now × (z < nodeCount image.now)) × ((k ≤ end) × (end ≤ row.n)) }
+    requires sound { (Sound image.now × (z < node_count image.now)) × ((k ≤ end) × (end ≤ row.n)) }
     requires numbers { Numbers image.now row.at row.width row.n × Faces (tree_of image.now) firsts.now reach.now count }
     requires built { Built tree × (2048 ≤ length levels.now) }
-    ensures { Passed (refersFace (tree_of image.now) z image.now row.at row.width) row.n k result }
+    ensures { Passed (refers_face (tree_of image.now) z image.now row.at row.width) row.n k result }
 {
     let mut entries: [usize; 8] = [0; 8];
     let mut j = k;
@@ -189,10 +189,10 @@ fn first_no_face(
     levels: &[u32],
     tree: SearchTree,
 ) -> usize
-    requires sound { Sound image.now × (z < nodeCount image.now) }
+    requires sound { Sound image.now × (z < node_count image.now) }
     requires numbers { Numbers image.now row.at row.width row.n × Faces (tree_of image.now) firsts.now reach.now count }
     requires built { Built tree × (2048 ≤ length levels.now) }
-    ensures { FirstFailing (refersFace (tree_of image.now) z image.now row.at row.width) row.n result }
+    ensures { FirstFailing (refers_face (tree_of image.now) z image.now row.at row.width) row.n result }
 {
     let n = row.n;
     let mut last = Interval { low: 0, size: 0 };
@@ -225,9 +225,9 @@ fn first_broken(
     levels: &mut [u32],
 ) -> usize
     requires sound { Sound image.now × SectionContext image.now s }
-    requires row_of { RowOf image.now (connectivityOf (tree_of image.now) s) row }
+    requires row_of { RowOf image.now (connectivity_of (tree_of image.now) s) row }
     requires faces { Faces (tree_of image.now) firsts.now reach.now faces × (2048 ≤ length levels.old) }
-    ensures { FirstFailing (isFace (tree_of image.now) s) row.n result }
+    ensures { FirstFailing (is_face (tree_of image.now) s) row.n result }
 {
     let z = records::parent_of(image, s);
     if row.n < faces / 4 {
@@ -241,7 +241,7 @@ fn first_broken(
 // The rule that a reference to f breaks, which is no face of zone z: 35 for zero, 36 for no element of the zone, 37 for one.
 fn face_rule(image: &[u8], index: &[u16], z: usize, f: u64) -> u64
     requires { Index image.now index.now }
-    ensures { result ≡ faceRule (tree_of image.now) z f }
+    ensures { result ≡ face_rule (tree_of image.now) z f }
 {
     if f == 0 {
         return 35;
@@ -264,9 +264,9 @@ pub fn face_stage(
     levels: &mut [u32],
 ) -> Stage
     requires index { Index image.now index.now × SectionContext image.now s }
-    requires row_of { RowOf image.now (connectivityOf (tree_of image.now) s) row × (elementType (tree_of image.now) s ≡ NFACE) }
+    requires row_of { RowOf image.now (connectivity_of (tree_of image.now) s) row × (element_type_of (tree_of image.now) s ≡ NFACE) }
     requires faces { Faces (tree_of image.now) firsts.now reach.now faces × (2048 ≤ length levels.old) }
-    ensures { stageTells result ≡ referenceCheck (tree_of image.now) s }
+    ensures { stage_tells result ≡ reference_check (tree_of image.now) s }
 {
     let k = first_broken(image, s, row, firsts, reach, faces, levels);
     if row.n <= k {

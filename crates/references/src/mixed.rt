@@ -1,16 +1,16 @@
 // Rules 38 and 34 of a MIXED section: each element begins with its own type, and its nodes follow.
 ghost use Rattle.std.specs.Prelude.{◌≡◌, ◌+◌, ◌≤◌, ◌<◌};
 ghost use Rattle.model.specs.Image.{tree_of};
-ghost use Rattle.model.specs.Values.{connectivityOf};
-ghost use Rattle.model.specs.Elements.{MIXED, elementType};
+ghost use Rattle.model.specs.Values.{connectivity_of};
+ghost use Rattle.model.specs.Elements.{MIXED, element_type_of};
 ghost use Rattle.model.specs.Rules.{check, passed};
-ghost use Rattle.model.specs.Answers.{stageTells};
+ghost use Rattle.model.specs.Answers.{stage_tells};
 ghost use Rattle.index.specs.Index.{Index};
 ghost use Rattle.rows.specs.Rows.{Numbers};
-ghost use Rattle.references.specs.Arrays.{isWithin, Failing};
+ghost use Rattle.references.specs.Arrays.{is_within, Failing};
 ghost use Rattle.section_data.specs.Given.{RowOf, SectionContext};
-ghost use Rattle.references.specs.Groups.{shapeRules, connectivityCheck};
-ghost use Rattle.references.specs.Mixed.{fitsIn, MixedRows};
+ghost use Rattle.references.specs.Groups.{shape_rules, connectivity_check};
+ghost use Rattle.references.specs.Mixed.{fits_in, MixedRows};
 
 use super::nodes::{is_within, vertex_size};
 use element_types::fits_length;
@@ -23,7 +23,7 @@ use sids::offsets_of;
 fn type_fits(image: &[u8], connectivity: Row, start: usize, end: usize) -> bool
     requires numbers { Numbers image.now connectivity.at connectivity.width connectivity.n }
     requires start_lt_end { (start < end) × (end ≤ connectivity.n) }
-    ensures { result ≡ fitsIn image.now connectivity start end }
+    ensures { result ≡ fits_in image.now connectivity start end }
 {
     let own_type = rows::number_at(image, connectivity, start);
     fits_length(own_type, (end - start) as u64)
@@ -42,7 +42,7 @@ fn place_outside(
     requires numbers { Numbers image.now connectivity.at connectivity.width connectivity.n }
     requires start_lt_end { (start < end) × (end ≤ connectivity.n) }
     ensures { (0 < place → result ≡ place)
-        × (place ≡ 0 → Failing (isWithin image.now connectivity.at connectivity.width limit) connectivity.n (start + 1) end result) }
+        × (place ≡ 0 → Failing (is_within image.now connectivity.at connectivity.width limit) connectivity.n (start + 1) end result) }
 {
     if 0 < place {
         return place;
@@ -60,7 +60,7 @@ fn place_outside(
 // Rules 38 and 34 of section s by its two rows: one pass. A type that does not fit, anywhere, comes before a node outside 1 to limit.
 fn rows_stage(image: &[u8], s: usize, offsets: Row, connectivity: Row, limit: u64) -> Stage
     requires { MixedRows image.now s offsets connectivity limit }
-    ensures { stageTells result ≡ connectivityCheck (tree_of image.now) s }
+    ensures { stage_tells result ≡ connectivity_check (tree_of image.now) s }
 {
     let n = offsets.n - 1;
     let mut place: usize = 0;
@@ -84,9 +84,9 @@ fn rows_stage(image: &[u8], s: usize, offsets: Row, connectivity: Row, limit: u6
 // Rules 38 and 34 at the MIXED section s, where rules 29 to 33 hold; its connectivity is the row.
 pub fn mixed_stage(image: &[u8], index: &[u16], s: usize, row: Row) -> Stage
     requires index { Index image.now index.now × SectionContext image.now s }
-    requires row_of { RowOf image.now (connectivityOf (tree_of image.now) s) row × (elementType (tree_of image.now) s ≡ MIXED) }
-    requires s_value { check s (shapeRules (tree_of image.now) s) ≡ passed }
-    ensures { stageTells result ≡ connectivityCheck (tree_of image.now) s }
+    requires row_of { RowOf image.now (connectivity_of (tree_of image.now) s) row × (element_type_of (tree_of image.now) s ≡ MIXED) }
+    requires s_value { check s (shape_rules (tree_of image.now) s) ≡ passed }
+    ensures { stage_tells result ≡ connectivity_check (tree_of image.now) s }
 {
     let offsets = row_of(image, offsets_of(image, index, s));
     let vertices = vertex_size(image, s);

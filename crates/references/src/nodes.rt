@@ -2,11 +2,11 @@
 ghost use Rattle.std.specs.Prelude.{◌≡◌, cond, ◌&&◌, ◌+◌, ◌<◌};
 ghost use Rattle.model.specs.Image.{tree_of, parent};
 ghost use Rattle.model.specs.Given.{Sound};
-ghost use Rattle.model.specs.Values.{vertexSize, connectivityOf};
-ghost use Rattle.model.specs.Elements.{MIXED, NFACE, elementType, referenceCheck};
-ghost use Rattle.model.specs.Answers.{stageTells};
+ghost use Rattle.model.specs.Values.{vertex_size, connectivity_of};
+ghost use Rattle.model.specs.Elements.{MIXED, NFACE, element_type_of, reference_check};
+ghost use Rattle.model.specs.Answers.{stage_tells};
 ghost use Rattle.rows.specs.Rows.{Numbers};
-ghost use Rattle.references.specs.Arrays.{isWithin, FirstFailing};
+ghost use Rattle.references.specs.Arrays.{is_within, FirstFailing};
 ghost use Rattle.section_data.specs.Given.{RowOf, SectionContext};
 
 use model::{Rejection, Stage};
@@ -15,7 +15,7 @@ use rows::Row;
 // Does number k of a row lie in 1 to limit?
 pub fn is_within(image: &[u8], row: Row, limit: u64, k: usize) -> bool
     requires { Numbers image.now row.at row.width row.n × (k < row.n) }
-    ensures { result ≡ isWithin image.now row.at row.width limit k }
+    ensures { result ≡ is_within image.now row.at row.width limit k }
 {
     let x = rows::number_at(image, row, k);
     if x < 1 {
@@ -28,7 +28,7 @@ pub fn is_within(image: &[u8], row: Row, limit: u64, k: usize) -> bool
 fn two_within(image: &[u8], row: Row, limit: u64, k: usize) -> bool
     requires { Numbers image.now row.at row.width row.n × (k + 1 < row.n) }
     ensures { result
-        ≡ (isWithin image.now row.at row.width limit k && isWithin image.now row.at row.width limit (k + 1)) }
+        ≡ (is_within image.now row.at row.width limit k && is_within image.now row.at row.width limit (k + 1)) }
 {
     if !is_within(image, row, limit, k) {
         return false;
@@ -39,7 +39,7 @@ fn two_within(image: &[u8], row: Row, limit: u64, k: usize) -> bool
 // k, or k + 1 where number k of a row lies in 1 to limit.
 fn past_within(image: &[u8], row: Row, limit: u64, k: usize) -> usize
     requires { Numbers image.now row.at row.width row.n × (k < row.n) }
-    ensures { result ≡ cond (isWithin image.now row.at row.width limit k) (k + 1) k }
+    ensures { result ≡ cond (is_within image.now row.at row.width limit k) (k + 1) k }
 {
     if is_within(image, row, limit, k) {
         return k + 1;
@@ -51,7 +51,7 @@ fn past_within(image: &[u8], row: Row, limit: u64, k: usize) -> usize
 // puts it.
 fn first_no_node(image: &[u8], row: Row, limit: u64) -> usize
     requires { Numbers image.now row.at row.width row.n }
-    ensures { FirstFailing (isWithin image.now row.at row.width limit) row.n result }
+    ensures { FirstFailing (is_within image.now row.at row.width limit) row.n result }
 {
     let n = row.n;
     let mut k: usize = 0;
@@ -70,7 +70,7 @@ fn first_no_node(image: &[u8], row: Row, limit: u64) -> usize
 // VertexSize of the zone of section s.
 pub fn vertex_size(image: &[u8], s: usize) -> u64
     requires { Sound image.now × SectionContext image.now s }
-    ensures { result ≡ vertexSize (tree_of image.now) (parent (tree_of image.now) s) 0 }
+    ensures { result ≡ vertex_size (tree_of image.now) (parent (tree_of image.now) s) 0 }
 {
     types::whole(image, records::parent_of(image, s), 0)
 }
@@ -78,9 +78,9 @@ pub fn vertex_size(image: &[u8], s: usize) -> u64
 // Rule 34 at section s, whose references, those of the row, are all nodes: it is no MIXED section and none of cells.
 pub fn node_stage(image: &[u8], s: usize, row: Row) -> Stage
     requires sound { Sound image.now × SectionContext image.now s }
-    requires row_of { RowOf image.now (connectivityOf (tree_of image.now) s) row }
-    requires fact { (elementType (tree_of image.now) s ≡ MIXED → ⊥) × (elementType (tree_of image.now) s ≡ NFACE → ⊥) }
-    ensures { stageTells result ≡ referenceCheck (tree_of image.now) s }
+    requires row_of { RowOf image.now (connectivity_of (tree_of image.now) s) row }
+    requires fact { (element_type_of (tree_of image.now) s ≡ MIXED → ⊥) × (element_type_of (tree_of image.now) s ≡ NFACE → ⊥) }
+    ensures { stage_tells result ≡ reference_check (tree_of image.now) s }
 {
     let vertices = vertex_size(image, s);
     let k = first_no_node(image, row, vertices);

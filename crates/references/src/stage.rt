@@ -1,14 +1,14 @@
 // Rules 38 and 34 to 37 of a section, by its type.
 ghost use Rattle.std.specs.Prelude.{◌≡◌, ◌≤◌, length};
 ghost use Rattle.model.specs.Image.{tree_of};
-ghost use Rattle.model.specs.Values.{connectivityOf};
-ghost use Rattle.model.specs.Elements.{elementType};
+ghost use Rattle.model.specs.Values.{connectivity_of};
+ghost use Rattle.model.specs.Elements.{element_type_of};
 ghost use Rattle.model.specs.Rules.{check, passed};
-ghost use Rattle.model.specs.Answers.{stageTells};
+ghost use Rattle.model.specs.Answers.{stage_tells};
 ghost use Rattle.index.specs.Index.{Index};
 ghost use Rattle.section_data.specs.Given.{RowOf, SectionContext};
 ghost use Rattle.section_data.specs.Ranges.{Faces};
-ghost use Rattle.references.specs.Groups.{shapeRules, connectivityCheck};
+ghost use Rattle.references.specs.Groups.{shape_rules, connectivity_check};
 
 use super::face_references::face_stage;
 use super::mixed::mixed_stage;
@@ -30,10 +30,10 @@ pub fn reference_stage(
     levels: &mut [u32],
 ) -> Stage
     requires index { Index image.now index.now × SectionContext image.now s }
-    requires row_of { RowOf image.now (connectivityOf (tree_of image.now) s) row × (element_type ≡ elementType (tree_of image.now) s) }
+    requires row_of { RowOf image.now (connectivity_of (tree_of image.now) s) row × (element_type ≡ element_type_of (tree_of image.now) s) }
     requires faces { Faces (tree_of image.now) firsts.now reach.now faces × (2048 ≤ length levels.old) }
-    requires s_value { check s (shapeRules (tree_of image.now) s) ≡ passed }
-    ensures { stageTells result ≡ connectivityCheck (tree_of image.now) s }
+    requires s_value { check s (shape_rules (tree_of image.now) s) ≡ passed }
+    ensures { stage_tells result ≡ connectivity_check (tree_of image.now) s }
 {
     if element_type == MIXED {
         return mixed_stage(image, index, s, row);

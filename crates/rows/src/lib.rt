@@ -1,10 +1,10 @@
 // Rows of numbers of 4 or 8 bytes each in an image: start offsets, connectivities.
 ghost use Rattle.std.specs.Prelude.{◌≡◌, ◌-◌, ◌<◌, T};
-ghost use Rattle.model.specs.Lists.{seekFrom};
+ghost use Rattle.model.specs.Lists.{seek_from};
 ghost use Rattle.model.specs.Bytes.{half, negative, magnitude, signed};
 ghost use Rattle.model.specs.Corner.{inside, number_at};
-ghost use Rattle.words.specs.Width.{isWidth};
-ghost use Rattle.rows.specs.Rows.{Numbers, endsAfterAt};
+ghost use Rattle.words.specs.Width.{is_width};
+ghost use Rattle.rows.specs.Rows.{Numbers, ends_after_at};
 
 // n numbers of `width` bytes each, from the byte `at` on.
 #[derive(Drop)]
@@ -33,7 +33,7 @@ pub fn inside(image: &[u8], at: u64, width: u64, count: u64) -> bool
 
 // Half of the bit patterns of a width: the first that stands for a negative number.
 pub fn half_of(width: usize) -> u64
-    requires { T (isWidth width) }
+    requires { T (is_width width) }
     ensures { result ≡ half width }
 {
     if width == 4 {
@@ -93,7 +93,7 @@ pub fn magnitude_at(image: &[u8], row: Row, k: usize) -> u64
 // Of a row of start offsets, one more than there are elements: the first element that ends after entry k; how many there are where none does.
 pub fn ends_after(image: &[u8], row: Row, k: u64) -> usize
     requires { Numbers image.now row.at row.width row.n × (0 < row.n) }
-    ensures { (result ≡ seekFrom (endsAfterAt image.now row k) (row.n - 1) 0) × (result < row.n) }
+    ensures { (result ≡ seek_from (ends_after_at image.now row k) (row.n - 1) 0) × (result < row.n) }
 {
     let n = row.n - 1;
     let mut j: usize = 0;

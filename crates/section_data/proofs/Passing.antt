@@ -4,17 +4,17 @@ use mathlib.Core.Path.{◌≡◌, refl, sym, ◌∙◌}
 use mathlib.Core.Bool.{Bool, true, false}
 use native.Mathlib.Omega.{arith}
 use native.Mathlib.Decide.{ℕ_discrete, dec_lt}
-use Rattle.model.specs.Lists.{everyFrom}
+use Rattle.model.specs.Lists.{every_from}
 use Rattle.model.proofs.Logic.{untrue}
-use Rattle.model.proofs.Walks.{every-same, every_holds, every-at}
+use Rattle.model.proofs.Walks.{every_same, every_holds, every_at}
 use Rattle.section_data.specs.Passing.{Passed}
 
 pub passed_none : (p : ℕ → Bool) (n k : ℕ) → k ≤ n → Passed p n k k
 passed_none p n k h = record { from = omega arith; to = h; each = λ i x y. absurd (omega arith) }
 
 module _ {p : ℕ → Bool} {n k j : ℕ} (s : Passed p n k j) where
-  pub passed-more : j < n → p j ≡ true → Passed p n k (j + 1)
-  passed-more h e =
+  pub passed_more : j < n → p j ≡ true → Passed p n k (j + 1)
+  passed_more h e =
       record {
         from = omega (arith, s.from);
         to = omega arith;
@@ -36,13 +36,13 @@ module _ {p : ℕ → Bool} {n k j : ℕ} (s : Passed p n k j) where
       }
 
 -- all of them, or one that does not
-pub passed-every : {p : ℕ → Bool} {n k : ℕ} → Passed p n 0 k → n ≤ k → true ≡ everyFrom p n 0
-passed-every {p} {n} s h =
-    sym (every-same p (λ (j : ℕ). true) n 0 (λ j x y. s.each j x (omega arith)) ∙ every_holds (λ (j : ℕ). true) (λ j. refl) n 0)
+pub passed_every : {p : ℕ → Bool} {n k : ℕ} → Passed p n 0 k → n ≤ k → true ≡ every_from p n 0
+passed_every {p} {n} s h =
+    sym (every_same p (λ (j : ℕ). true) n 0 (λ j x y. s.each j x (omega arith)) ∙ every_holds (λ (j : ℕ). true) (λ j. refl) n 0)
 
-pub failed-every : (p : ℕ → Bool) (n k : ℕ) → k < n → p k ≡ false → false ≡ everyFrom p n 0
-failed-every p n k h e = by-test (everyFrom p n 0) refl
+pub failed_every : (p : ℕ → Bool) (n k : ℕ) → k < n → p k ≡ false → false ≡ every_from p n 0
+failed_every p n k h e = by_test (every_from p n 0) refl
   where
-    by-test : (c : Bool) → everyFrom p n 0 ≡ c → false ≡ c
-    by-test true f = untrue (sym e ∙ every-at p n 0 k f (omega arith) (omega arith))
-    by-test false f = refl
+    by_test : (c : Bool) → every_from p n 0 ≡ c → false ≡ c
+    by_test true f = untrue (sym e ∙ every_at p n 0 k f (omega arith) (omega arith))
+    by_test false f = refl

@@ -7,26 +7,26 @@ use native.Mathlib.Omega.{arith}
 use native.Mathlib.Decide.{dec_lt}
 use lib.Dec.{eqb, leb, ltb}
 use borrow.Author.Tests.{lt-ltb, le-ltb, ltb-true, leb-true}
-use Rattle.model.specs.Lists.{◌⊃◌, someFrom}
-use Rattle.model.specs.Image.{Tree, tree_of, nodeCount, parent}
+use Rattle.model.specs.Lists.{◌⊃◌, some_from}
+use Rattle.model.specs.Image.{Tree, tree_of, node_count, parent}
 use Rattle.model.specs.Given.{Sound}
-use Rattle.model.specs.Containment.{validatedAs, sectionOf, found, Elements}
-use Rattle.model.specs.Values.{typeLawful, valueLawful, range_of}
-use Rattle.model.specs.Elements.{elementType, firstElement, lastElement, in_range, conformingSection, faceSection, hasFace, faceOf}
+use Rattle.model.specs.Containment.{validated_as, section_of, found, Elements}
+use Rattle.model.specs.Values.{type_lawful, value_lawful, range_of}
+use Rattle.model.specs.Elements.{element_type_of, first_element, last_element, in_range, conforming_section, face_section, has_face, face_of}
 use Rattle.model.proofs.Logic.{untrue, and_first, and_second}
-use Rattle.model.proofs.Walks.{some_at, some-by, some_same}
+use Rattle.model.proofs.Walks.{some_at, some_by, some_same}
 use Rattle.ranges.specs.declared.Interval.{Interval}
-use Rattle.ranges.specs.Tables.{key, holds, inRanges, isWithin, Covered, meetsSection, Gathered}
+use Rattle.ranges.specs.Tables.{key, holds, in_ranges, is_within, Covered, meets_section, Gathered}
 use Rattle.ranges.proofs.Keys.{key_meets}
-use Rattle.section_data.specs.Ranges.{isWanted, isRanged, firstKey, lastKey, has_of, ofType, TableOf}
+use Rattle.section_data.specs.Ranges.{is_wanted, is_ranged, first_key, last_key, has_of, of_type, TableOf}
 use Rattle.section_data.proofs.RangeLaws.{ranged, ranged-few}
 
 -- a section of a zone, of type e
-section-is : (t : Tree) (e : ℕ) → 0 < e → (z s : ℕ) → (conformingSection t z s && eqb (elementType t s) e) ≡ (eqb (parent t s) z && isRanged t e s)
-unfolding conformingSection sectionOf isRanged isWanted ◌⊃◌
+section-is : (t : Tree) (e : ℕ) → 0 < e → (z s : ℕ) → (conforming_section t z s && eqb (element_type_of t s) e) ≡ (eqb (parent t s) z && is_ranged t e s)
+unfolding conforming_section section_of is_ranged is_wanted ◌⊃◌
 section-is t e h z s =
     rw (lt-ltb 0 e h)
-    (split (eqb (parent t s) z) (validatedAs t Elements s) (typeLawful t s) (valueLawful t s) (eqb (elementType t s) e) (found t (range_of t s)))
+    (split (eqb (parent t s) z) (validated_as t Elements s) (type_lawful t s) (value_lawful t s) (eqb (element_type_of t s) e) (found t (range_of t s)))
   where
     split : (p v a c n f : Bool) → (p && v && a && c && f && n) ≡ (p && (v && (a && c && n) && f))
     split false v a c n f = refl
@@ -41,88 +41,88 @@ section-is t e h z s =
 module _ {b : List ℕ} (g : Sound b) (e : ℕ) (some : 0 < e) where
   -- it has the elements that its keys hold
   key_has : (z f : ℕ) → f < 4294967296 → (s : ℕ)
-      → meetsSection (isRanged (tree_of b) e) (firstKey (tree_of b)) (lastKey (tree_of b)) (key z f) (key z f) s ≡ has_of (tree_of b) e z f s
-  unfolding meetsSection has_of in_range firstKey lastKey
-  key_has z f h s = rw (section-is (tree_of b) e some z s) (by-test (isRanged (tree_of b) e s) refl)
+      → meets_section (is_ranged (tree_of b) e) (first_key (tree_of b)) (last_key (tree_of b)) (key z f) (key z f) s ≡ has_of (tree_of b) e z f s
+  unfolding meets_section has_of in_range first_key last_key
+  key_has z f h s = rw (section-is (tree_of b) e some z s) (by_test (is_ranged (tree_of b) e s) refl)
     where
       turn : (p r : Bool) → (p && r) ≡ (p && true && r)
       turn true r = refl
       turn false r = refl
 
-      shut : (p : Bool) → false ≡ (p && false && (leb (firstElement (tree_of b) s) f && leb f (lastElement (tree_of b) s)))
+      shut : (p : Bool) → false ≡ (p && false && (leb (first_element (tree_of b) s) f && leb f (last_element (tree_of b) s)))
       shut true = refl
       shut false = refl
 
-      by-test : (c : Bool) → isRanged (tree_of b) e s ≡ c
-          → (c && (leb (key (parent (tree_of b) s) (firstElement (tree_of b) s)) (key z f)
-          && leb (key z f) (key (parent (tree_of b) s) (lastElement (tree_of b) s))))
-          ≡ (eqb (parent (tree_of b) s) z && c && (leb (firstElement (tree_of b) s) f && leb f (lastElement (tree_of b) s)))
-      by-test true q =
+      by_test : (c : Bool) → is_ranged (tree_of b) e s ≡ c
+          → (c && (leb (key (parent (tree_of b) s) (first_element (tree_of b) s)) (key z f)
+          && leb (key z f) (key (parent (tree_of b) s) (last_element (tree_of b) s))))
+          ≡ (eqb (parent (tree_of b) s) z && c && (leb (first_element (tree_of b) s) f && leb f (last_element (tree_of b) s)))
+      by_test true q =
           let t = tree_of b in
           let m = (ranged g e s q).most in
-          rw (key_meets (parent t s) z (firstElement t s) (lastElement t s) f f (omega arith) h)
-          (turn (eqb (parent t s) z) (leb (firstElement t s) f && leb f (lastElement t s)))
-      by-test false q = shut (eqb (parent (tree_of b) s) z)
+          rw (key_meets (parent t s) z (first_element t s) (last_element t s) f f (omega arith) h)
+          (turn (eqb (parent t s) z) (leb (first_element t s) f && leb f (last_element t s)))
+      by_test false q = shut (eqb (parent (tree_of b) s) z)
 
   -- none has a greater number than 2,147,483,647
-  too-great : (z f : ℕ) → 2147483647 < f → ofType (tree_of b) e z f ≡ false
-  unfolding ofType has_of in_range
-  too-great z f h = by-test (ofType (tree_of b) e z f) refl
+  too_great : (z f : ℕ) → 2147483647 < f → of_type (tree_of b) e z f ≡ false
+  unfolding of_type has_of in_range
+  too_great z f h = by_test (of_type (tree_of b) e z f) refl
     where
-      by-test : (c : Bool) → someFrom (has_of (tree_of b) e z f) (tree_of b).count 0 ≡ c → c ≡ false
-      by-test true q =
+      by_test : (c : Bool) → some_from (has_of (tree_of b) e z f) (tree_of b).count 0 ≡ c → c ≡ false
+      by_test true q =
           let t = tree_of b in
           let w = some_at (has_of t e z f) t.count 0 q in
           let s = w.at in
-          let o = conformingSection t z s && eqb (elementType t s) e in
+          let o = conforming_section t z s && eqb (element_type_of t s) e in
           let p = sym (section-is t e some z s) ∙ and_first o _ w.holds in
           let m = (ranged g e s (and_second (eqb (parent t s) z) _ p)).most in
-          let l = leb-true f (lastElement t s) (and_second (leb (firstElement t s) f) _ (and_second o _ w.holds)) in
+          let l = leb-true f (last_element t s) (and_second (leb (first_element t s) f) _ (and_second o _ w.holds)) in
           absurd (omega arith)
-      by-test false q = refl
+      by_test false q = refl
 
-  pub table-by : {firsts reach : List ℕ} {n i : ℕ} → Gathered (isRanged (tree_of b) e) (firstKey (tree_of b)) (lastKey (tree_of b)) firsts reach n i
-      → i ≡ nodeCount b → TableOf (ofType (tree_of b) e) firsts reach n
-  unfolding ofType tree_of
-  table-by {firsts} {reach} {n} {i} l q =
+  pub table_by : {firsts reach : List ℕ} {n i : ℕ} → Gathered (is_ranged (tree_of b) e) (first_key (tree_of b)) (last_key (tree_of b)) firsts reach n i
+      → i ≡ node_count b → TableOf (of_type (tree_of b) e) firsts reach n
+  unfolding of_type tree_of
+  table_by {firsts} {reach} {n} {i} l q =
       let k = rw q at l.few in
       let m = ranged-few g e in
       record {
         few = omega arith;
         ordered = l.ordered;
-        in-ranges = λ z f h. l.meets (key z f) (key z f)
-            ∙ rw q (some_same (meetsSection (isRanged (tree_of b) e) (firstKey (tree_of b)) (lastKey (tree_of b)) (key z f) (key z f)) (has_of (tree_of b) e z f)
-            (nodeCount b) 0
+        in_ranges_lem = λ z f h. l.meets (key z f) (key z f)
+            ∙ rw q (some_same (meets_section (is_ranged (tree_of b) e) (first_key (tree_of b)) (last_key (tree_of b)) (key z f) (key z f)) (has_of (tree_of b) e z f)
+            (node_count b) 0
             (λ s x y. key_has z f h s));
-        small = too-great;
+        small = too_great;
       }
 
 -- a face has no greater number
-pub face-small : {b : List ℕ} → Sound b → (z f : ℕ) → faceOf (tree_of b) z f ≡ true → f ≤ 2147483647
-unfolding faceOf hasFace faceSection ofType has_of
+pub face-small : {b : List ℕ} → Sound b → (z f : ℕ) → face_of (tree_of b) z f ≡ true → f ≤ 2147483647
+unfolding face_of has_face face_section of_type has_of
 face-small g z f e =
     elim (dec_lt 2147483647 f) [
-      | yes h ↦ untrue (sym (too-great g 22 (omega arith) z f h) ∙ e)
+      | yes h ↦ untrue (sym (too_great g 22 (omega arith) z f h) ∙ e)
       | no h ↦ omega arith
     ]
 
 -- numbers by the tables: those of an interval that ranges cover, of an entry, and a number looked up
 module _ {p : ℕ → ℕ → Bool} {firsts reach : List ℕ} {n : ℕ} (g : TableOf p firsts reach n) (z : ℕ) where
-  pub covered-is : {r : Interval} → Covered firsts reach n z r → (f : ℕ) → isWithin r f ≡ true → p z f ≡ true
-  unfolding isWithin
+  pub covered-is : {r : Interval} → Covered firsts reach n z r → (f : ℕ) → is_within r f ≡ true → p z f ≡ true
+  unfolding is_within
   covered-is {r} c f e =
       let h = ltb-true f (r.low + r.size) (and_second (leb r.low f) _ e) in
-      sym (g.in-ranges z f (omega (arith, c.small))) ∙ c.covered f e
+      sym (g.in_ranges_lem z f (omega (arith, c.small))) ∙ c.covered f e
 
   -- an entry holds the key x of f
   pub held-is : {f x : ℕ} (j : ℕ) → f < 4294967296 → x ≡ key z f → (ltb j n && holds firsts reach x j) ≡ true → p z f ≡ true
   held-is {f} {x} j h q e =
       let l = ltb-true j n (and_first _ (holds firsts reach x j) e) in
-      sym (g.in-ranges z f h) ∙ rw (← q) (some-by (holds firsts reach x) n 0 j (and_second (ltb j n) _ e) (omega arith) (omega arith))
+      sym (g.in_ranges_lem z f h) ∙ rw (← q) (some_by (holds firsts reach x) n 0 j (and_second (ltb j n) _ e) (omega arith) (omega arith))
 
-  module _ {f s : ℕ} (h : f < 4294967296) (e : ltb 0 s ≡ inRanges firsts reach n (key z f)) where
+  module _ {f s : ℕ} (h : f < 4294967296) (e : ltb 0 s ≡ in_ranges firsts reach n (key z f)) where
     pub found-is : (s ≡ 0 → ⊥) → p z f ≡ true
-    found-is u = sym (g.in-ranges z f h) ∙ sym e ∙ lt-ltb 0 s (omega (arith, u))
+    found-is u = sym (g.in_ranges_lem z f h) ∙ sym e ∙ lt-ltb 0 s (omega (arith, u))
 
-    pub missed-is : s ≡ 0 → p z f ≡ false
-    missed-is u = sym (g.in-ranges z f h) ∙ sym e ∙ le-ltb 0 s (omega arith)
+    pub missed_is : s ≡ 0 → p z f ≡ false
+    missed_is u = sym (g.in_ranges_lem z f h) ∙ sym e ∙ le-ltb 0 s (omega arith)

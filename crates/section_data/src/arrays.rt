@@ -1,6 +1,6 @@
 // The numbers that a node stores in one dimension.
 ghost use Rattle.std.specs.Prelude.{◌≡◌, ◌≤◌, ◌<◌};
-ghost use Rattle.model.specs.Image.{tree_of, nodeCount};
+ghost use Rattle.model.specs.Image.{tree_of, node_count};
 ghost use Rattle.model.specs.Given.{Sound};
 ghost use Rattle.model.specs.Values.{size};
 ghost use Rattle.section_data.specs.Given.{Indexed, RowOf};
@@ -9,8 +9,8 @@ use rows::Row;
 
 // How many numbers node j stores in its one dimension; 0 where there is no such node.
 pub fn size_of(image: &[u8], j: usize) -> u64
-    requires sound { Sound image.now × (j ≤ nodeCount image.now) }
-    requires indexed { j < nodeCount image.now → Indexed image.now j }
+    requires sound { Sound image.now × (j ≤ node_count image.now) }
+    requires indexed { j < node_count image.now → Indexed image.now j }
     ensures { result ≡ size (tree_of image.now) j }
 {
     if labels::node_count(image) <= j {

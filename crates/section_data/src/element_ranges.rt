@@ -1,15 +1,15 @@
 // The element ranges of sections, of all zones in one pair of tables: rule 28, the faces of rules 35 to 37, the cells of rule 39; the elements of a zone.
 ghost use Rattle.std.specs.Prelude.{◌≡◌, ◌&&◌, ◌≤◌, ◌<◌, ◌+◌, length};
-ghost use Rattle.model.specs.Lists.{seekFrom};
-ghost use Rattle.model.specs.Image.{tree_of, nodeCount, parent};
+ghost use Rattle.model.specs.Lists.{seek_from};
+ghost use Rattle.model.specs.Image.{tree_of, node_count, parent};
 ghost use Rattle.model.specs.Given.{Sound};
 ghost use Rattle.model.specs.Containment.{role, found, Elements};
-ghost use Rattle.model.specs.Values.{typeLawful, valueLawful, range_of};
-ghost use Rattle.model.specs.Elements.{elementCount, in_range, hasElement, elementOf};
+ghost use Rattle.model.specs.Values.{type_lawful, value_lawful, range_of};
+ghost use Rattle.model.specs.Elements.{element_count, in_range, has_element, element_of};
 ghost use Rattle.index.specs.Index.{Index, kind};
 ghost use Rattle.ranges.specs.Tables.{Gathered};
 ghost use Rattle.section_data.specs.Given.{Ranged};
-ghost use Rattle.section_data.specs.Ranges.{isWanted, isRanged, firstKey, lastKey, overlapAt, RangeOf, ofType, TableOf, Faces, Cells};
+ghost use Rattle.section_data.specs.Ranges.{is_wanted, is_ranged, first_key, last_key, overlap_at, RangeOf, of_type, TableOf, Faces, Cells};
 
 use element_types::{NFACE, NGON};
 use labels::roles::ELEMENTS;
@@ -18,8 +18,8 @@ use sids::range_of;
 
 // Does section i meet rules 24 and 25?
 fn is_lawful(image: &[u8], i: usize) -> bool
-    requires { (Sound image.now × (i < nodeCount image.now)) × (role (tree_of image.now) i ≡ Elements) }
-    ensures { result ≡ (typeLawful (tree_of image.now) i && valueLawful (tree_of image.now) i) }
+    requires { (Sound image.now × (i < node_count image.now)) × (role (tree_of image.now) i ≡ Elements) }
+    ensures { result ≡ (type_lawful (tree_of image.now) i && value_lawful (tree_of image.now) i) }
 {
     if !types::typed(image, i, I4) {
         return false;
@@ -32,8 +32,8 @@ fn is_lawful(image: &[u8], i: usize) -> bool
 
 // Does section i count: where a type is asked for, does it meet rules 24 and 25, and have the type? 0 asks for any section.
 fn is_wanted(image: &[u8], element_type: u64, i: usize) -> bool
-    requires { (Sound image.now × (i < nodeCount image.now)) × (role (tree_of image.now) i ≡ Elements) }
-    ensures { result ≡ isWanted (tree_of image.now) element_type i }
+    requires { (Sound image.now × (i < node_count image.now)) × (role (tree_of image.now) i ≡ Elements) }
+    ensures { result ≡ is_wanted (tree_of image.now) element_type i }
 {
     if element_type == 0 {
         return true;
@@ -46,7 +46,7 @@ fn is_wanted(image: &[u8], element_type: u64, i: usize) -> bool
 
 // The ElementRange of node i where it is a section, of the type that is asked for; else the node count.
 pub fn range_if(image: &[u8], index: &[u16], element_type: u64, i: usize) -> usize
-    requires { Index image.now index.now × (i < nodeCount image.now) }
+    requires { Index image.now index.now × (i < node_count image.now) }
     ensures { RangeOf image.now element_type i result }
 {
     if index::kind_of(image, index, i) != ELEMENTS {
@@ -67,9 +67,9 @@ struct Keys {
 
 // The keys of section i, by its ElementRange.
 fn keys_of(image: &[u8], i: usize, range: usize) -> Keys
-    requires sound { (Sound image.now × (i < nodeCount image.now)) × (parent (tree_of image.now) i < nodeCount image.now) }
+    requires sound { (Sound image.now × (i < node_count image.now)) × (parent (tree_of image.now) i < node_count image.now) }
     requires range_value { (range ≡ range_of (tree_of image.now) i) × Ranged image.now i }
-    ensures first_value { (result.first ≡ firstKey (tree_of image.now) i) × (result.last ≡ lastKey (tree_of image.now) i) }
+    ensures first_value { (result.first ≡ first_key (tree_of image.now) i) × (result.last ≡ last_key (tree_of image.now) i) }
     ensures first_bound { (result.first < 17592186044416) × (result.last < 17592186044416) }
 {
     let zone = records::parent_of(image, i);
@@ -88,10 +88,10 @@ fn gather_node(
     reach: &mut [u64],
     n: usize,
 ) -> usize
-    requires index { Index image.now index.now × (i < nodeCount image.now) }
-    requires gathered { Gathered (isRanged (tree_of image.now) element_type) (firstKey (tree_of image.now)) (lastKey (tree_of image.now)) firsts.old reach.old n i }
+    requires index { Index image.now index.now × (i < node_count image.now) }
+    requires gathered { Gathered (is_ranged (tree_of image.now) element_type) (first_key (tree_of image.now)) (last_key (tree_of image.now)) firsts.old reach.old n i }
     requires in_bounds { (2048 ≤ length firsts.old) × (2048 ≤ length reach.old) }
-    ensures { Gathered (isRanged (tree_of image.now) element_type) (firstKey (tree_of image.now)) (lastKey (tree_of image.now))
+    ensures { Gathered (is_ranged (tree_of image.now) element_type) (first_key (tree_of image.now)) (last_key (tree_of image.now))
         firsts.new reach.new result (i + 1) }
 {
     let range = range_if(image, index, element_type, i);
@@ -112,9 +112,9 @@ fn meets_earlier(
     reach: &[u64],
     n: usize,
 ) -> bool
-    requires index { Index image.now index.now × (i < nodeCount image.now) }
-    requires gathered { Gathered (isRanged (tree_of image.now) 0) (firstKey (tree_of image.now)) (lastKey (tree_of image.now)) firsts.now reach.now n i }
-    ensures { result ≡ overlapAt (tree_of image.now) i }
+    requires index { Index image.now index.now × (i < node_count image.now) }
+    requires gathered { Gathered (is_ranged (tree_of image.now) 0) (first_key (tree_of image.now)) (last_key (tree_of image.now)) firsts.now reach.now n i }
+    ensures { result ≡ overlap_at (tree_of image.now) i }
 {
     let range = range_if(image, index, 0, i);
     if labels::node_count(image) <= range {
@@ -128,7 +128,7 @@ fn meets_earlier(
 pub fn first_overlap(image: &[u8], index: &[u16], firsts: &mut [u64], reach: &mut [u64]) -> usize
     requires index { Index image.now index.now }
     requires in_bounds { (2048 ≤ length firsts.old) × (2048 ≤ length reach.old) }
-    ensures { result ≡ seekFrom (overlapAt (tree_of image.now)) (nodeCount image.now) 0 }
+    ensures { result ≡ seek_from (overlap_at (tree_of image.now)) (node_count image.now) 0 }
 {
     let nodes = labels::node_count(image);
     let mut n: usize = 0;
@@ -153,7 +153,7 @@ fn gather(
 ) -> usize
     requires index { Index image.now index.now × (0 < element_type) }
     requires in_bounds { (2048 ≤ length firsts.old) × (2048 ≤ length reach.old) }
-    ensures { TableOf (ofType (tree_of image.now) element_type) firsts.new reach.new result }
+    ensures { TableOf (of_type (tree_of image.now) element_type) firsts.new reach.new result }
 {
     let nodes = labels::node_count(image);
     let mut n: usize = 0;
@@ -186,7 +186,7 @@ pub fn gather_cells(image: &[u8], index: &[u16], firsts: &mut [u64], reach: &mut
 // How many elements section i has, one of those that count.
 pub fn element_count(image: &[u8], range: usize, i: usize) -> u64
     requires { Sound image.now × ((range ≡ range_of (tree_of image.now) i) × Ranged image.now i) }
-    ensures { (result ≡ elementCount (tree_of image.now) i) × (result ≤ 2147483647) }
+    ensures { (result ≡ element_count (tree_of image.now) i) × (result ≤ 2147483647) }
 {
     let first = types::whole(image, range, 0);
     let last = types::whole(image, range, 1);
@@ -205,8 +205,8 @@ fn in_range(image: &[u8], range: usize, i: usize, e: u64) -> bool
 
 // Does section i, whose own data and range are to count, have element e?
 fn section_has(image: &[u8], index: &[u16], i: usize, e: u64) -> bool
-    requires { (Index image.now index.now × (i < nodeCount image.now)) × (kind (tree_of image.now) i ≡ Elements) }
-    ensures { result ≡ (typeLawful (tree_of image.now) i && valueLawful (tree_of image.now) i
+    requires { (Index image.now index.now × (i < node_count image.now)) × (kind (tree_of image.now) i ≡ Elements) }
+    ensures { result ≡ (type_lawful (tree_of image.now) i && value_lawful (tree_of image.now) i
         && found (tree_of image.now) (range_of (tree_of image.now) i) && in_range (tree_of image.now) i e) }
 {
     if !is_lawful(image, i) {
@@ -221,8 +221,8 @@ fn section_has(image: &[u8], index: &[u16], i: usize, e: u64) -> bool
 
 // Does node i bring element e to zone z?
 fn has_element(image: &[u8], index: &[u16], z: usize, e: u64, i: usize) -> bool
-    requires { Index image.now index.now × (i < nodeCount image.now) }
-    ensures { result ≡ hasElement (tree_of image.now) z e i }
+    requires { Index image.now index.now × (i < node_count image.now) }
+    ensures { result ≡ has_element (tree_of image.now) z e i }
 {
     if records::parent_of(image, i) != z {
         return false;
@@ -236,7 +236,7 @@ fn has_element(image: &[u8], index: &[u16], z: usize, e: u64, i: usize) -> bool
 // Is e an element of zone z?
 pub fn is_element(image: &[u8], index: &[u16], z: usize, e: u64) -> bool
     requires { Index image.now index.now }
-    ensures { result ≡ elementOf (tree_of image.now) z e }
+    ensures { result ≡ element_of (tree_of image.now) z e }
 {
     let n = labels::node_count(image);
     let mut i: usize = 0;

@@ -3,25 +3,25 @@ use Rattle.std.specs.Prelude.{ℕ, ◌≤◌, ◌<◌, ◌≡◌, List, [], ◌�
 use Rattle.model.specs.declared.Count.{Count}
 use Rattle.model.specs.declared.Count.TheVariants as Count
 use Rattle.model.specs.Rules.{◌unless◌, Check, check}
-use Rattle.model.specs.Image.{Tree, tree_of, nodeCount}
-use Rattle.model.specs.Containment.{isZone}
+use Rattle.model.specs.Image.{Tree, tree_of, node_count}
+use Rattle.model.specs.Containment.{is_zone}
 use Rattle.model.specs.Given.{Accepted}
-use Rattle.model.specs.Sections.{sectionNodes}
+use Rattle.model.specs.Sections.{section_nodes}
 use Rattle.index.specs.Index.{Index}
 
 -- n entries of the zone are to be written, in a list of room places
 pub record EntriesDue (b index : List ℕ) (z room n : ℕ) : Type 0 where
   pub few : n ≤ room
-  pub index-where : 0 < n → Index b index
-  pub accepted-where : 0 < n → Accepted b
-  pub zone-where : 0 < n → z < nodeCount b
-  pub all-where : 0 < n → n ≡ length (sectionNodes (tree_of b) z)
+  pub index_where : 0 < n → Index b index
+  pub accepted_where : 0 < n → Accepted b
+  pub zone_where : 0 < n → z < node_count b
+  pub all_where : 0 < n → n ≡ length (section_nodes (tree_of b) z)
 
 -- rule 40, then 46; room counts entries
-unfoldable pub zoneCheck : Tree → ℕ → ℕ → Check
-zoneCheck t z room = check 0 (40 unless isZone t z ∷ 46 unless leb (length (sectionNodes t z)) room ∷ [])
+unfoldable pub zone_check : Tree → ℕ → ℕ → Check
+zone_check t z room = check 0 (40 unless is_zone t z ∷ 46 unless leb (length (section_nodes t z)) room ∷ [])
 
 -- how many entries an answer says are written: none where it is a refusal
-abbrev pub answeredCount : Count → ℕ
-answeredCount (Count.Of n) = n
-answeredCount (Count.Rejected r) = 0
+abbrev pub answered_count : Count → ℕ
+answered_count (Count.Of n) = n
+answered_count (Count.Rejected r) = 0

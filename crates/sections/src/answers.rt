@@ -2,11 +2,11 @@
 ghost use Rattle.std.specs.Prelude.{◌≡◌, length, ◌≤◌};
 ghost use Rattle.model.specs.Rules.{passed, ◌gives◌};
 ghost use Rattle.model.specs.Image.{tree_of};
-ghost use Rattle.model.specs.Sections.{sectionNodes, sectionsAnswer};
-ghost use Rattle.model.specs.Answers.{countTells, stageTells};
-ghost use Rattle.model.specs.Validation.{imageCheck};
+ghost use Rattle.model.specs.Sections.{section_nodes, sections_answer};
+ghost use Rattle.model.specs.Answers.{count_tells, stage_tells};
+ghost use Rattle.model.specs.Validation.{image_check};
 ghost use Rattle.index.specs.Index.{Index};
-ghost use Rattle.sections.specs.Due.{zoneCheck, answeredCount};
+ghost use Rattle.sections.specs.Due.{zone_check, answered_count};
 
 use model::{Count, Rejection, Stage};
 use zone_sections::section_count;
@@ -14,7 +14,7 @@ use zone_sections::section_count;
 // Rule 40, then 46 where the zone has more than `room` sections, else the count of its sections.
 fn zone_answer(image: &[u8], index: &[u16], zone: u64, room: usize) -> Count
     requires { Index image.now index.now }
-    ensures { countTells result ≡ (zoneCheck (tree_of image.now) zone room gives length (sectionNodes (tree_of image.now) zone)) }
+    ensures { count_tells result ≡ (zone_check (tree_of image.now) zone room gives length (section_nodes (tree_of image.now) zone)) }
 {
     if !index::is_zone(image, index, zone) {
         return Count::Rejected(Rejection::at(40, 0));
@@ -28,8 +28,8 @@ fn zone_answer(image: &[u8], index: &[u16], zone: u64, room: usize) -> Count
 
 // The answer of the call where `stage` is what validation answers: its rejection, then rule 40, then 46, else the count of the zone's sections.
 fn answer_after(stage: Stage, image: &[u8], index: &[u16], zone: u64, room: usize) -> Count
-    requires { (stageTells stage ≡ imageCheck image.now) × (stageTells stage ≡ passed → Index image.now index.now) }
-    ensures { countTells result ≡ sectionsAnswer image.now zone room }
+    requires { (stage_tells stage ≡ image_check image.now) × (stage_tells stage ≡ passed → Index image.now index.now) }
+    ensures { count_tells result ≡ sections_answer image.now zone room }
 {
     let Stage::Pass = stage else {
         return Count::Rejected(stage.rejection());
@@ -41,8 +41,8 @@ fn answer_after(stage: Stage, image: &[u8], index: &[u16], zone: u64, room: usiz
 // The index is that of the image where validation accepts it.
 pub fn sections_answer(image: &[u8], index: &mut [u16], zone: u64, room: usize) -> Count
     requires { 16384 ≤ length index.old }
-    ensures result_value { countTells result ≡ sectionsAnswer image.now zone room }
-    ensures index { imageCheck image.now ≡ passed → Index image.now index.new }
+    ensures result_value { count_tells result ≡ sections_answer image.now zone room }
+    ensures index { image_check image.now ≡ passed → Index image.now index.new }
 {
     let stage = validation::image_stage(image, index);
     answer_after(stage, image, index, zone, room)
@@ -50,7 +50,7 @@ pub fn sections_answer(image: &[u8], index: &mut [u16], zone: u64, room: usize) 
 
 // How many entries an answer says are written; 0 where it is a rejection.
 pub fn answered_count(answer: Count) -> usize
-    ensures { result ≡ answeredCount answer }
+    ensures { result ≡ answered_count answer }
 {
     match answer {
         Count::Of(n) => n as usize,

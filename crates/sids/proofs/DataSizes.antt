@@ -8,10 +8,10 @@ use lib.ListN.{length, get_or}
 use borrow.Author.Tests.{lt-ltb, le-ltb, eqb-false}
 use Rattle.model.specs.Lists.{row}
 use Rattle.model.specs.Bytes.{text, same}
-use Rattle.model.specs.Image.{Tree, tree_of, nodeCount, node, parent, dimensions, I4, I8}
+use Rattle.model.specs.Image.{Tree, tree_of, node_count, node, parent, dimensions, I4, I8}
 use Rattle.model.specs.Containment.{role, found, GridCoordinates, FlowSolution, IndexRange, IndexArray}
-use Rattle.model.specs.Values.{typed, shaped, flat, size, typeLawful, valueLawful, conforming, zoneAbove, rangeShape, listShape, listCount}
-use Rattle.model.specs.Values.{pointRangeOf, pointListOf, points, sizesByZone, dataSizes}
+use Rattle.model.specs.Values.{typed, shaped, flat, size, type_lawful, value_lawful, conforming, zone_above, range_shape, list_shape, list_count}
+use Rattle.model.specs.Values.{point_range_of, point_list_of, points, sizes_by_zone, data_sizes}
 use Rattle.model.proofs.Logic.{untrue, and_second}
 use Rattle.model.proofs.Reading.{rank_is}
 use Rattle.model.proofs.Conforming.{conforming-type, conforming-value, conforming-parent, conforming-role}
@@ -26,37 +26,37 @@ module _ (t : Tree) (i x : ℕ) where
   unfolding shaped same size
   one_size e = rw (flat-is t i e) (sym (and-true (eqb (get_or (dimensions t i) 0 0) x)))
 
-  pub other-size : flat t i ≡ false → false ≡ shaped t i (x ∷ [])
+  pub other_size : flat t i ≡ false → false ≡ shaped t i (x ∷ [])
   unfolding shaped flat
-  other-size e = sym (same_not (dimensions t i) (x ∷ []) (eqb-false (length (dimensions t i)) 1 e))
+  other_size e = sym (same_not (dimensions t i) (x ∷ []) (eqb-false (length (dimensions t i)) 1 e))
 
-is_found : (b : List ℕ) (j : ℕ) → j < nodeCount b → found (tree_of b) j ≡ true
+is_found : (b : List ℕ) (j : ℕ) → j < node_count b → found (tree_of b) j ≡ true
 unfolding found tree_of
-is_found b j h = lt-ltb j (nodeCount b) h
+is_found b j h = lt-ltb j (node_count b) h
 
-is-missing : (b : List ℕ) (j : ℕ) → nodeCount b ≤ j → found (tree_of b) j ≡ false
+is_missing : (b : List ℕ) (j : ℕ) → node_count b ≤ j → found (tree_of b) j ≡ false
 unfolding found tree_of
-is-missing b j h = le-ltb j (nodeCount b) h
+is_missing b j h = le-ltb j (node_count b) h
 
 module _ (b : List ℕ) (p : ℕ) where
   -- which of the three
-  pub by-range : pointRangeOf (tree_of b) p < nodeCount b → dataSizes (tree_of b) p ≡ points (tree_of b) (pointRangeOf (tree_of b) p) ∷ []
-  unfolding dataSizes
-  by-range h = rw (is_found b (pointRangeOf (tree_of b) p) h)
+  pub by_range : point_range_of (tree_of b) p < node_count b → data_sizes (tree_of b) p ≡ points (tree_of b) (point_range_of (tree_of b) p) ∷ []
+  unfolding data_sizes
+  by_range h = rw (is_found b (point_range_of (tree_of b) p) h)
 
-  pub by-list : nodeCount b ≤ pointRangeOf (tree_of b) p → pointListOf (tree_of b) p < nodeCount b
-      → dataSizes (tree_of b) p ≡ listCount (tree_of b) (pointListOf (tree_of b) p) ∷ []
-  unfolding dataSizes
-  by-list h l = rw (is-missing b (pointRangeOf (tree_of b) p) h, is_found b (pointListOf (tree_of b) p) l)
+  pub by_list : node_count b ≤ point_range_of (tree_of b) p → point_list_of (tree_of b) p < node_count b
+      → data_sizes (tree_of b) p ≡ list_count (tree_of b) (point_list_of (tree_of b) p) ∷ []
+  unfolding data_sizes
+  by_list h l = rw (is_missing b (point_range_of (tree_of b) p) h, is_found b (point_list_of (tree_of b) p) l)
 
-  pub by-zone : nodeCount b ≤ pointRangeOf (tree_of b) p → nodeCount b ≤ pointListOf (tree_of b) p → dataSizes (tree_of b) p ≡ sizesByZone (tree_of b) p
-  unfolding dataSizes
-  by-zone h l = rw (is-missing b (pointRangeOf (tree_of b) p) h, is-missing b (pointListOf (tree_of b) p) l)
+  pub by_zone : node_count b ≤ point_range_of (tree_of b) p → node_count b ≤ point_list_of (tree_of b) p → data_sizes (tree_of b) p ≡ sizes_by_zone (tree_of b) p
+  unfolding data_sizes
+  by_zone h l = rw (is_missing b (point_range_of (tree_of b) p) h, is_missing b (point_list_of (tree_of b) p) l)
 
   -- a conforming PointRange of a flow solution
-  module _ (z : UnderZone b p) (f : role (tree_of b) p ≡ FlowSolution) (h : pointRangeOf (tree_of b) p < nodeCount b) where
-    pub range-typed : TypedRange b (pointRangeOf (tree_of b) p) × (valueLawful (tree_of b) (pointRangeOf (tree_of b) p) ≡ true)
-    unfolding pointRangeOf zoneAbove
+  module _ (z : UnderZone b p) (f : role (tree_of b) p ≡ FlowSolution) (h : point_range_of (tree_of b) p < node_count b) where
+    pub range-typed : TypedRange b (point_range_of (tree_of b) p) × (value_lawful (tree_of b) (point_range_of (tree_of b) p) ≡ true)
+    unfolding point_range_of zone_above
     range-typed =
         let t = tree_of b in
         let r = is_found b (conforming t p IndexRange (text "PointRange")) h in
@@ -73,9 +73,9 @@ module _ (b : List ℕ) (p : ℕ) where
         )
 
   -- a conforming PointList has two dimensions
-  pub list-rank : pointListOf (tree_of b) p < nodeCount b → (node (tree_of b) (pointListOf (tree_of b) p)).rank ≡ 2
-  unfolding pointListOf typeLawful listShape row
-  list-rank h =
+  pub list_rank : point_list_of (tree_of b) p < node_count b → (node (tree_of b) (point_list_of (tree_of b) p)).rank ≡ 2
+  unfolding point_list_of type_lawful list_shape row
+  list_rank h =
       let t = tree_of b in
       let j = conforming t p IndexArray (text "PointList") in
       let r = is_found b j h in
@@ -84,24 +84,24 @@ module _ (b : List ℕ) (p : ℕ) where
 
 -- under coordinates neither conforms
 module _ (t : Tree) (j : ℕ) (p : role t (parent t j) ≡ GridCoordinates) where
-  no-range : role t j ≡ IndexRange → typeLawful t j ≡ false
-  unfolding typeLawful rangeShape row
-  no-range r = rw (r, p) (and-false (typed t j (I4 ∷ I8 ∷ [])))
+  no_range : role t j ≡ IndexRange → type_lawful t j ≡ false
+  unfolding type_lawful range_shape row
+  no_range r = rw (r, p) (and-false (typed t j (I4 ∷ I8 ∷ [])))
 
-  no-list : role t j ≡ IndexArray → typeLawful t j ≡ false
-  unfolding typeLawful listShape row
-  no-list r = rw (r, p) (and-false (typed t j (I4 ∷ I8 ∷ [])))
+  no_list : role t j ≡ IndexArray → type_lawful t j ≡ false
+  unfolding type_lawful list_shape row
+  no_list r = rw (r, p) (and-false (typed t j (I4 ∷ I8 ∷ [])))
 
 module _ (t : Tree) (p : ℕ) (e : role t p ≡ GridCoordinates) where
-  none-conforms : (r : ℕ) (n : List ℕ) → ((j : ℕ) → role t (parent t j) ≡ GridCoordinates → role t j ≡ r → typeLawful t j ≡ false)
+  none_conforms : (r : ℕ) (n : List ℕ) → ((j : ℕ) → role t (parent t j) ≡ GridCoordinates → role t j ≡ r → type_lawful t j ≡ false)
       → found t (conforming t p r n) ≡ false
-  none-conforms r n f = by-test (found t (conforming t p r n)) refl
+  none_conforms r n f = by_test (found t (conforming t p r n)) refl
     where
-      by-test : (c : Bool) → found t (conforming t p r n) ≡ c → c ≡ false
-      by-test true q =
+      by_test : (c : Bool) → found t (conforming t p r n) ≡ c → c ≡ false
+      by_test true q =
           untrue (sym (f _ (ap (role t) (conforming-parent t p r n q) ∙ e) (conforming-role t p r n q)) ∙ conforming-type t p r n q)
-      by-test false q = refl
+      by_test false q = refl
 
-  pub coordinate-sizes : dataSizes t p ≡ sizesByZone t p
-  unfolding dataSizes pointRangeOf pointListOf
-  coordinate-sizes = rw (none-conforms IndexRange (text "PointRange") (no-range t), none-conforms IndexArray (text "PointList") (no-list t))
+  pub coordinate_sizes : data_sizes t p ≡ sizes_by_zone t p
+  unfolding data_sizes point_range_of point_list_of
+  coordinate_sizes = rw (none_conforms IndexRange (text "PointRange") (no_range t), none_conforms IndexArray (text "PointList") (no_list t))

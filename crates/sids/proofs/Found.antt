@@ -5,50 +5,50 @@ use mathlib.Core.Bool.{Bool, true, not, ◌&&◌, ◌||◌}
 use mathlib.Core.List.{List}
 use lib.Dec.{eqb, ltb}
 use borrow.Author.Tests.{eqb-true, eq-eqb, ltb-true, not-true}
-use Rattle.model.specs.Image.{Tree, tree_of, nodeCount, parent}
-use Rattle.model.specs.Containment.{role, Zone, FlowSolution, Rind, Root, UserDefinedData, child, isChild, orMissing}
+use Rattle.model.specs.Image.{Tree, tree_of, node_count, parent}
+use Rattle.model.specs.Containment.{role, Zone, FlowSolution, Rind, Root, UserDefinedData, child, is_child, or_missing}
 use Rattle.model.specs.Given.{Sound}
-use Rattle.model.specs.Values.{zoneAbove, typeLawful, valueLawful, conforming}
+use Rattle.model.specs.Values.{zone_above, type_lawful, value_lawful, conforming}
 use Rattle.model.proofs.Logic.{untrue, and_first, and_second, or_left, or_right}
 use Rattle.model.proofs.Validated.{validated-child}
 use Rattle.model.proofs.Sections.{not_root}
 use Rattle.model.proofs.Conforming.{child-is}
 use Rattle.types.specs.Given.{ZoneInBase, NodeContext}
 use Rattle.index.specs.Index.{kind}
-use Rattle.index.proofs.Marking.{kind-parts}
+use Rattle.index.proofs.Marking.{kind_parts}
 
 -- the child of role r of a node of kind k depends on the zone above that node
-abbrev pub asksZone : ℕ → ℕ → Bool
-asksZone k r = eqb r Rind || eqb k FlowSolution
+abbrev pub asks_zone : ℕ → ℕ → Bool
+asks_zone k r = eqb r Rind || eqb k FlowSolution
 
 -- a child of role r, but a zone, is looked up under a node of kind k
 abbrev pub asked : ℕ → ℕ → Bool
 asked k r = (ltb 0 k && not (eqb k UserDefinedData)) && (ltb 0 r && not (eqb r Root) && not (eqb r Zone))
 
-module _ (b : List ℕ) (i r : ℕ) (n : List ℕ) (h : child (tree_of b) i r n < nodeCount b) where
-  found-child : isChild (tree_of b) i r n (child (tree_of b) i r n) ≡ true
+module _ (b : List ℕ) (i r : ℕ) (n : List ℕ) (h : child (tree_of b) i r n < node_count b) where
+  found-child : is_child (tree_of b) i r n (child (tree_of b) i r n) ≡ true
   unfolding tree_of
   found-child = child-is (tree_of b) i r n h
 
   pub child-parent : parent (tree_of b) (child (tree_of b) i r n) ≡ i
-  unfolding isChild
+  unfolding is_child
   child-parent =
       let j = child (tree_of b) i r n in
       eqb-true _ _ (and_first (eqb (parent (tree_of b) j) i) _ (and_first (eqb (parent (tree_of b) j) i && eqb (role (tree_of b) j) r) _ found-child))
 
   pub child-role : role (tree_of b) (child (tree_of b) i r n) ≡ r
-  unfolding isChild
+  unfolding is_child
   child-role =
       let j = child (tree_of b) i r n in
       eqb-true _ _ (and_second (eqb (parent (tree_of b) j) i) _ (and_first (eqb (parent (tree_of b) j) i && eqb (role (tree_of b) j) r) _ found-child))
 
   -- it has a known label, and stands under a validated node that is no UserDefinedData_t: it can be judged
-  child-ready : Sound b → {k : ℕ} → kind (tree_of b) i ≡ k → asked k r ≡ true → (asksZone k r ≡ true → ZoneInBase b (parent (tree_of b) i))
+  child_ready : Sound b → {k : ℕ} → kind (tree_of b) i ≡ k → asked k r ≡ true → (asks_zone k r ≡ true → ZoneInBase b (parent (tree_of b) i))
       → NodeContext b (child (tree_of b) i r n)
-  unfolding zoneAbove
-  child-ready s {k} e q f =
+  unfolding zone_above
+  child_ready s {k} e q f =
       let j = child (tree_of b) i r n in
-      let p = kind-parts (tree_of b) i e (ltb-true 0 k (and_first (ltb 0 k) _ (and_first (ltb 0 k && not (eqb k UserDefinedData)) _ q))) in
+      let p = kind_parts (tree_of b) i e (ltb-true 0 k (and_first (ltb 0 k) _ (and_first (ltb 0 k && not (eqb k UserDefinedData)) _ q))) in
       let l = and_second (ltb 0 k && not (eqb k UserDefinedData)) _ q in
       let known = and_first (ltb 0 r) _ (and_first (ltb 0 r && not (eqb r Root)) _ l) in
       let other : (x : ℕ) → not (eqb r x) ≡ true → r ≡ x → ⊥ = λ x g z. untrue (sym (not-true (eqb r x) g) ∙ eq-eqb r x z) in
@@ -64,13 +64,13 @@ module _ (b : List ℕ) (i r : ℕ) (n : List ℕ) (h : child (tree_of b) i r n 
         flow = λ g z. zoned (f (or_right (eqb r Rind) (eqb k FlowSolution) (eq-eqb k FlowSolution (sym p.1 ∙ (rw child-parent at z)))));
       }
 
-pub found-ready : (b : List ℕ) → Sound b → (i r : ℕ) (n : List ℕ) {j k : ℕ} → kind (tree_of b) i ≡ k → asked k r ≡ true
-    → (asksZone k r ≡ true → ZoneInBase b (parent (tree_of b) i)) → j ≡ child (tree_of b) i r n
-    → j < nodeCount b → NodeContext b j
-found-ready b s i r n {j} e q f g h = rw g (child-ready b i r n (rw (← g) h) s e q f)
+pub found_ready : (b : List ℕ) → Sound b → (i r : ℕ) (n : List ℕ) {j k : ℕ} → kind (tree_of b) i ≡ k → asked k r ≡ true
+    → (asks_zone k r ≡ true → ZoneInBase b (parent (tree_of b) i)) → j ≡ child (tree_of b) i r n
+    → j < node_count b → NodeContext b j
+found_ready b s i r n {j} e q f g h = rw g (child_ready b i r n (rw (← g) h) s e q f)
 
--- a looked-up child, or nothing, as rules 24 and 25 have it
-pub conforming-by : (t : Tree) (i r : ℕ) (n : List ℕ) {j x : ℕ} → j ≡ child t i r n → x ≡ orMissing t (typeLawful t j && valueLawful t j) j
+-- a looked_up child, or nothing, as rules 24 and 25 have it
+pub conforming_by : (t : Tree) (i r : ℕ) (n : List ℕ) {j x : ℕ} → j ≡ child t i r n → x ≡ or_missing t (type_lawful t j && value_lawful t j) j
     → x ≡ conforming t i r n
 unfolding conforming
-conforming-by t i r n e f = f ∙ rw e
+conforming_by t i r n e f = f ∙ rw e

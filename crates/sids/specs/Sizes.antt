@@ -1,7 +1,7 @@
 -- A zone's sizes as three rows of three numbers: a direction that the zone lacks is 0.
 use Rattle.std.specs.Prelude.{ℕ, ◌+◌, Bool, cond, ◌&&◌, List, [], ◌∷◌, get_or, ltb, leb, eqb}
 use Rattle.model.specs.Image.{Tree, parent}
-use Rattle.model.specs.Values.{maxNumber, structured, indexDimension, vertexSize, cellSize, boundarySize, cellCentred, structuredSizes, unstructuredSizes}
+use Rattle.model.specs.Values.{max_number, structured, index_dimension, vertex_size, cell_size, boundary_size, cell_centred, structured_sizes, unstructured_sizes}
 
 -- f in direction d of n
 abbrev pub direction : (ℕ → ℕ) → ℕ → ℕ → ℕ
@@ -11,27 +11,27 @@ abbrev pub directions : (ℕ → ℕ) → ℕ → List ℕ
 directions f n = direction f n 0 ∷ direction f n 1 ∷ direction f n 2 ∷ []
 
 -- VertexSize, CellSize, VertexSizeBoundary
-abbrev pub zoneSizes : Tree → ℕ → List (List ℕ)
-zoneSizes t z =
-    directions (vertexSize t z) (indexDimension t z)
-    ∷ directions (cellSize t z) (indexDimension t z)
-    ∷ directions (boundarySize t z) (indexDimension t z)
+abbrev pub zone_sizes : Tree → ℕ → List (List ℕ)
+zone_sizes t z =
+    directions (vertex_size t z) (index_dimension t z)
+    ∷ directions (cell_size t z) (index_dimension t z)
+    ∷ directions (boundary_size t z) (index_dimension t z)
     ∷ []
 
 -- row k of sizes, in direction d
-abbrev pub sizeIn : List (List ℕ) → ℕ → ℕ → ℕ
-sizeIn sizes k d = get_or (get_or sizes k []) d 0
+abbrev pub size_in : List (List ℕ) → ℕ → ℕ → ℕ
+size_in sizes k d = get_or (get_or sizes k []) d 0
 
 -- the sizes of one direction are permitted
-abbrev pub structuredIn : ℕ → ℕ → ℕ → Bool
-structuredIn v c w = leb 2 v && leb v maxNumber && eqb (c + 1) v && eqb w 0
+abbrev pub structured_in : ℕ → ℕ → ℕ → Bool
+structured_in v c w = leb 2 v && leb v max_number && eqb (c + 1) v && eqb w 0
 
-abbrev pub unstructuredIn : ℕ → ℕ → ℕ → Bool
-unstructuredIn v c w = leb 1 v && leb v maxNumber && leb c maxNumber && leb w v
+abbrev pub unstructured_in : ℕ → ℕ → ℕ → Bool
+unstructured_in v c w = leb 1 v && leb v max_number && leb c max_number && leb w v
 
-abbrev pub permittedIn : Tree → ℕ → ℕ → Bool
-permittedIn t z d = cond (structured t z) (structuredSizes t z d) (unstructuredSizes t z d)
+abbrev pub permitted_in : Tree → ℕ → ℕ → Bool
+permitted_in t z d = cond (structured t z) (structured_sizes t z d) (unstructured_sizes t z d)
 
 -- VertexSize, or CellSize for CellCenter, of what stands under node p
-abbrev pub innerSize : Tree → ℕ → ℕ → ℕ
-innerSize t p d = cond (cellCentred t p) (cellSize t (parent t p) d) (vertexSize t (parent t p) d)
+abbrev pub inner_size : Tree → ℕ → ℕ → ℕ
+inner_size t p d = cond (cell_centred t p) (cell_size t (parent t p) d) (vertex_size t (parent t p) d)

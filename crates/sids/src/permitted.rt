@@ -1,7 +1,7 @@
 // Rule 25: the stored values are permitted.
 ghost use Rattle.std.specs.Prelude.{◌≡◌, true};
 ghost use Rattle.model.specs.Image.{tree_of};
-ghost use Rattle.model.specs.Values.{typeLawful, valueLawful};
+ghost use Rattle.model.specs.Values.{type_lawful, value_lawful};
 ghost use Rattle.index.specs.Index.{Index};
 ghost use Rattle.types.specs.Given.{NodeContext};
 
@@ -10,8 +10,8 @@ use labels::roles;
 
 // Rule 25 at a node that meets 24.
 pub fn value_lawful(image: &[u8], index: &[u16], i: usize) -> bool
-    requires { (Index image.now index.now × NodeContext image.now i) × (typeLawful (tree_of image.now) i ≡ true) }
-    ensures { result ≡ valueLawful (tree_of image.now) i }
+    requires { (Index image.now index.now × NodeContext image.now i) × (type_lawful (tree_of image.now) i ≡ true) }
+    ensures { result ≡ value_lawful (tree_of image.now) i }
 {
     let role = index::role_of(image, index, i);
     match role {

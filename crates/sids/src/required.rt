@@ -1,22 +1,22 @@
 // Rules 20 and 23: a node in its place, with the children that it needs.
 ghost use Rattle.std.specs.Prelude.{◌≡◌, true, ◌&&◌, ◌<◌, eqb};
-ghost use Rattle.model.specs.Lists.{◌⊃◌, someFrom};
-ghost use Rattle.model.specs.Image.{tree_of, nodeCount};
+ghost use Rattle.model.specs.Lists.{◌⊃◌, some_from};
+ghost use Rattle.model.specs.Image.{tree_of, node_count};
 ghost use Rattle.model.specs.Given.{Sound};
-ghost use Rattle.model.specs.Containment.{role, mayHold, found, validated, Elements};
-ghost use Rattle.model.specs.Values.{unstructured, baseChild, complete, range_of, connectivityOf};
+ghost use Rattle.model.specs.Containment.{role, may_hold, found, validated, Elements};
+ghost use Rattle.model.specs.Values.{unstructured, base_child, complete, range_of, connectivity_of};
 ghost use Rattle.index.specs.Index.{kind, Index};
-ghost use Rattle.sids.specs.Groups.{isRequired};
+ghost use Rattle.sids.specs.Groups.{is_required};
 
 use super::children::{connectivity_of, range_of};
 use labels::roles;
 
 // Rule 20 below node up: the placing table has the label under this parent; Elements_t in an unstructured zone only. Both are roles.
 pub fn placed(image: &[u8], index: &[u16], up: usize, above: u64, below: u64) -> bool
-    requires index { Index image.now index.now × (up < nodeCount image.now) }
+    requires index { Index image.now index.now × (up < node_count image.now) }
     requires up_value { (validated (tree_of image.now) up ≡ true) × (above ≡ role (tree_of image.now) up) }
     requires above_bound { (above < 16) × (below < 16) }
-    ensures { result ≡ (mayHold above below && (eqb below Elements ⊃ unstructured (tree_of image.now) up)) }
+    ensures { result ≡ (may_hold above below && (eqb below Elements ⊃ unstructured (tree_of image.now) up)) }
 {
     if !labels::may_hold(above, below) {
         return false;
@@ -29,8 +29,8 @@ pub fn placed(image: &[u8], index: &[u16], up: usize, above: u64, below: u64) ->
 
 // Node j is a CGNSBase_t child of the root.
 fn base_child(image: &[u8], j: usize) -> bool
-    requires { Sound image.now × (j < nodeCount image.now) }
-    ensures { result ≡ baseChild (tree_of image.now) j }
+    requires { Sound image.now × (j < node_count image.now) }
+    ensures { result ≡ base_child (tree_of image.now) j }
 {
     records::parent_of(image, j) == 0 && labels::role_of(image, j) == roles::BASE
 }
@@ -38,7 +38,7 @@ fn base_child(image: &[u8], j: usize) -> bool
 // The root has one.
 fn has_base(image: &[u8]) -> bool
     requires { Sound image.now }
-    ensures { result ≡ someFrom (baseChild (tree_of image.now)) (nodeCount image.now) 0 }
+    ensures { result ≡ some_from (base_child (tree_of image.now)) (node_count image.now) 0 }
 {
     let n = labels::node_count(image);
     let mut j = 0;
@@ -53,10 +53,10 @@ fn has_base(image: &[u8]) -> bool
 
 // A section has its range and its connectivity.
 fn section_complete(image: &[u8], index: &[u16], s: usize) -> bool
-    requires index { Index image.now index.now × (s < nodeCount image.now) }
+    requires index { Index image.now index.now × (s < node_count image.now) }
     requires s_value { kind (tree_of image.now) s ≡ Elements }
     ensures { result ≡ (found (tree_of image.now) (range_of (tree_of image.now) s)
-        && found (tree_of image.now) (connectivityOf (tree_of image.now) s)) }
+        && found (tree_of image.now) (connectivity_of (tree_of image.now) s)) }
 {
     let n = labels::node_count(image);
     range_of(image, index, s) < n && connectivity_of(image, index, s) < n
@@ -64,7 +64,7 @@ fn section_complete(image: &[u8], index: &[u16], s: usize) -> bool
 
 // Rule 23: the required children are there.
 pub fn complete(image: &[u8], index: &[u16], i: usize) -> bool
-    requires index { Index image.now index.now × (i < nodeCount image.now) }
+    requires index { Index image.now index.now × (i < node_count image.now) }
     requires i_value { validated (tree_of image.now) i ≡ true }
     ensures { result ≡ complete (tree_of image.now) i }
 {
@@ -79,8 +79,8 @@ pub fn complete(image: &[u8], index: &[u16], i: usize) -> bool
 
 // Node i is the ZoneType of a zone, or the ElementRange or ElementConnectivity of a section: rule 23 above it says that it meets 24 and 25.
 pub fn is_required(image: &[u8], index: &[u16], i: usize) -> bool
-    requires { Index image.now index.now × (i < nodeCount image.now) }
-    ensures { result ≡ isRequired (tree_of image.now) i }
+    requires { Index image.now index.now × (i < node_count image.now) }
+    ensures { result ≡ is_required (tree_of image.now) i }
 {
     if i == 0 {
         return false;

@@ -1,15 +1,15 @@
 // Rules 20 to 26 at a node, the lowest first.
 ghost use Rattle.std.specs.Prelude.{◌≡◌, true, ◌&&◌, ◌-◌, ◌<◌, eqb};
 ghost use Rattle.model.specs.Rules.{check, rejected, rejection};
-ghost use Rattle.model.specs.Image.{tree_of, nodeCount, parent};
+ghost use Rattle.model.specs.Image.{tree_of, node_count, parent};
 ghost use Rattle.model.specs.Given.{NodesTo};
-ghost use Rattle.model.specs.Containment.{validated, validatedAs, DataArray};
-ghost use Rattle.model.specs.Values.{sidsRules, sizedArray, sizesLawful};
-ghost use Rattle.model.specs.Answers.{stageTells};
+ghost use Rattle.model.specs.Containment.{validated, validated_as, DataArray};
+ghost use Rattle.model.specs.Values.{sids_rules, sized_array, sizes_lawful};
+ghost use Rattle.model.specs.Answers.{stage_tells};
 ghost use Rattle.index.specs.Index.{Index};
 ghost use Rattle.types.specs.Given.{NodeContext};
 ghost use Rattle.sids.specs.Given.{Sized};
-ghost use Rattle.sids.specs.Groups.{placeRules, contentRules};
+ghost use Rattle.sids.specs.Groups.{place_rules, content_rules};
 
 use super::data_size::has_data_size;
 use super::permitted::value_lawful;
@@ -19,16 +19,16 @@ use model::{Rejection, Stage};
 
 // The answer of a stage that a rule ends.
 fn reject(rule: u64, node: usize) -> Stage
-    ensures { stageTells result ≡ rejected (rejection rule node) }
+    ensures { stage_tells result ≡ rejected (rejection rule node) }
 {
     Stage::Rejected(Rejection::at(rule, node as u64))
 }
 
 // Rules 20 and 21.
 fn place_stage(image: &[u8], index: &[u16], i: usize) -> Stage
-    requires index { Index image.now index.now × (i < nodeCount image.now) }
+    requires index { Index image.now index.now × (i < node_count image.now) }
     requires i_value { validated (tree_of image.now) i ≡ true }
-    ensures { stageTells result ≡ check i (placeRules (tree_of image.now) i) }
+    ensures { stage_tells result ≡ check i (place_rules (tree_of image.now) i) }
 {
     if i == 0 {
         return Stage::Pass;
@@ -49,7 +49,7 @@ fn place_stage(image: &[u8], index: &[u16], i: usize) -> Stage
 fn content_stage(image: &[u8], index: &[u16], i: usize) -> Stage
     requires index { Index image.now index.now × NodeContext image.now i }
     requires nodes_to { NodesTo image.now i }
-    ensures { stageTells result ≡ check i (contentRules (tree_of image.now) i) }
+    ensures { stage_tells result ≡ check i (content_rules (tree_of image.now) i) }
 {
     if is_required(image, index, i) {
         return Stage::Pass;
@@ -68,9 +68,9 @@ fn content_stage(image: &[u8], index: &[u16], i: usize) -> Stage
 
 // Node i is a coordinate or flow array.
 pub fn sized_array(image: &[u8], index: &[u16], i: usize) -> bool
-    requires index { Index image.now index.now × (i < nodeCount image.now) }
+    requires index { Index image.now index.now × (i < node_count image.now) }
     requires i_value { validated (tree_of image.now) i ≡ true }
-    ensures { result ≡ sizedArray (tree_of image.now) i }
+    ensures { result ≡ sized_array (tree_of image.now) i }
 {
     if index::role_of(image, index, i) != roles::DATA_ARRAY {
         return false;
@@ -81,8 +81,8 @@ pub fn sized_array(image: &[u8], index: &[u16], i: usize) -> bool
 
 // The node before node i, whose parent is `up`, is an array with the same parent.
 fn follows_array(image: &[u8], index: &[u16], i: usize, up: usize) -> bool
-    requires { Index image.now index.now × ((0 < i) × (i < nodeCount image.now)) }
-    ensures { result ≡ (eqb (parent (tree_of image.now) (i - 1)) up && validatedAs (tree_of image.now) DataArray (i - 1)) }
+    requires { Index image.now index.now × ((0 < i) × (i < node_count image.now)) }
+    ensures { result ≡ (eqb (parent (tree_of image.now) (i - 1)) up && validated_as (tree_of image.now) DataArray (i - 1)) }
 {
     records::parent_of(image, i - 1) == up
         && index::validated_as(image, index, roles::DATA_ARRAY, i - 1)
@@ -92,8 +92,8 @@ fn follows_array(image: &[u8], index: &[u16], i: usize, up: usize) -> bool
 fn sizes_lawful(image: &[u8], index: &[u16], i: usize) -> bool
     requires nodes_to { NodesTo image.now i × Index image.now index.now }
     requires i_value { validated (tree_of image.now) i ≡ true }
-    requires sized { sizedArray (tree_of image.now) i ≡ true → Sized image.now (parent (tree_of image.now) i) }
-    ensures { result ≡ sizesLawful (tree_of image.now) i }
+    requires sized { sized_array (tree_of image.now) i ≡ true → Sized image.now (parent (tree_of image.now) i) }
+    ensures { result ≡ sizes_lawful (tree_of image.now) i }
 {
     if !sized_array(image, index, i) {
         return true;
@@ -109,7 +109,7 @@ fn sizes_lawful(image: &[u8], index: &[u16], i: usize) -> bool
 pub fn sids_stage(image: &[u8], index: &[u16], i: usize) -> Stage
     requires nodes_to { NodesTo image.now i × (validated (tree_of image.now) i ≡ true) }
     requires index { Index image.now index.now }
-    ensures { stageTells result ≡ check i (sidsRules (tree_of image.now) i) }
+    ensures { stage_tells result ≡ check i (sids_rules (tree_of image.now) i) }
 {
     let place = place_stage(image, index, i);
     let Stage::Pass = place else {

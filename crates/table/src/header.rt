@@ -1,9 +1,9 @@
 // Rules 1 to 6: the header.
 ghost use Rattle.std.specs.Prelude.{◌≡◌, ◌≤◌};
 ghost use Rattle.model.specs.Rules.{check};
-ghost use Rattle.model.specs.Header.{headerCheck};
-ghost use Rattle.model.specs.Answers.{stageTells};
-ghost use Rattle.table.specs.Groups.{laidOutBy, wordRules, layoutRules};
+ghost use Rattle.model.specs.Header.{header_check};
+ghost use Rattle.model.specs.Answers.{stage_tells};
+ghost use Rattle.table.specs.Groups.{laid_out_by, word_rules, layout_rules};
 
 use super::{is_within, reject};
 use model::Stage;
@@ -24,7 +24,7 @@ const MAX_WORDS: u64 = 49152;
 // Whether the offsets and the data length are those of an image with so many nodes and words.
 fn laid_out(h: Header) -> bool
     requires { (h.node_count ≤ 4096) × (h.word_count ≤ 49152) }
-    ensures { result ≡ laidOutBy h }
+    ensures { result ≡ laid_out_by h }
 {
     let nodes = h.node_count;
     let words = h.word_count;
@@ -50,7 +50,7 @@ fn laid_out(h: Header) -> bool
 
 // Rules 2 and 3 of the header of an image with so many bytes.
 fn word_stage(h: Header, length: u64) -> Stage
-    ensures { stageTells result ≡ check 0 (wordRules h length) }
+    ensures { stage_tells result ≡ check 0 (word_rules h length) }
 {
     if h.form != 1 {
         return reject(2, 0);
@@ -63,7 +63,7 @@ fn word_stage(h: Header, length: u64) -> Stage
 
 // Rules 4 to 6.
 fn layout_stage(h: Header) -> Stage
-    ensures { stageTells result ≡ check 0 (layoutRules h) }
+    ensures { stage_tells result ≡ check 0 (layout_rules h) }
 {
     if !is_within(h.node_count, 1, MAX_NODES) {
         return reject(4, 0);
@@ -79,7 +79,7 @@ fn layout_stage(h: Header) -> Stage
 
 // Rules 1 to 6.
 pub fn header_stage(image: &[u8]) -> Stage
-    ensures { stageTells result ≡ headerCheck image.now }
+    ensures { stage_tells result ≡ header_check image.now }
 {
     let length = image.len() as u64;
     if !is_within(length, HEADER_SIZE, MAX_LENGTH) {

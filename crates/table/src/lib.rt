@@ -1,10 +1,10 @@
 // The check of rules 1 to 18: header, node records, trailing words and bytes. It reads no data bytes.
 ghost use Rattle.std.specs.Prelude.{◌≡◌, ◌≤◌, length};
 ghost use Rattle.model.specs.Rules.{rejected, rejection};
-ghost use Rattle.model.specs.Records.{tableCheck, tableAnswer};
-ghost use Rattle.model.specs.NameBytes.{nameBytesAnswer};
-ghost use Rattle.model.specs.Answers.{stageTells, tableTells, countTells};
-ghost use Rattle.table.specs.Groups.{isWithin};
+ghost use Rattle.model.specs.Records.{table_check, table_answer};
+ghost use Rattle.model.specs.NameBytes.{name_bytes_answer};
+ghost use Rattle.model.specs.Answers.{stage_tells, table_tells, count_tells};
+ghost use Rattle.table.specs.Groups.{is_within};
 
 mod header; // header.rt: rules 1 to 6
 mod names; // names.rt: the name bytes that the comparison of siblings takes
@@ -20,14 +20,14 @@ pub use stages::records_stage;
 
 // The answer of a stage that a rule ends.
 pub fn reject(rule: u64, node: usize) -> Stage
-    ensures { stageTells result ≡ rejected (rejection rule node) }
+    ensures { stage_tells result ≡ rejected (rejection rule node) }
 {
     Stage::Rejected(Rejection::at(rule, node as u64))
 }
 
 // Whether x is one of low to high.
 pub fn is_within(x: u64, low: u64, high: u64) -> bool
-    ensures { result ≡ isWithin x low high }
+    ensures { result ≡ is_within x low high }
 {
     if x < low {
         return false;
@@ -38,7 +38,7 @@ pub fn is_within(x: u64, low: u64, high: u64) -> bool
 // Rules 1 to 18 as one stage, in a lent table for rule 11. The answer does not depend on what it holds; zeros are fastest.
 pub fn table_stage_with(image: &[u8], seen: &mut [u16]) -> Stage
     requires { 16384 ≤ length seen.old }
-    ensures { stageTells result ≡ tableCheck image.now }
+    ensures { stage_tells result ≡ table_check image.now }
 {
     let s = header::header_stage(image);
     let Stage::Pass = s else {
@@ -49,7 +49,7 @@ pub fn table_stage_with(image: &[u8], seen: &mut [u16]) -> Stage
 
 // Rules 1 to 18 as one stage.
 pub fn table_stage(image: &[u8]) -> Stage
-    ensures { stageTells result ≡ tableCheck image.now }
+    ensures { stage_tells result ≡ table_check image.now }
 {
     let mut seen: [u16; 16384] = [0; 16384];
     table_stage_with(image, &mut seen)
@@ -57,7 +57,7 @@ pub fn table_stage(image: &[u8]) -> Stage
 
 // Rules 1 to 18: the first that is broken, or how many nodes, dimension words and data bytes the image has.
 pub fn check_table(image: &[u8]) -> Table
-    ensures { tableTells result ≡ tableAnswer image.now }
+    ensures { table_tells result ≡ table_answer image.now }
 {
     let s = table_stage(image);
     let Stage::Pass = s else {
@@ -74,7 +74,7 @@ pub fn check_table(image: &[u8]) -> Table
 // Rules 1 to 18: the first that is broken, or how many name bytes are compared where each two siblings are, up to the first byte
 // that differs.
 pub fn name_bytes(image: &[u8]) -> Count
-    ensures { countTells result ≡ nameBytesAnswer image.now }
+    ensures { count_tells result ≡ name_bytes_answer image.now }
 {
     let mut lent: [u16; 16384] = [0; 16384];
     let s = table_stage_with(image, &mut lent);

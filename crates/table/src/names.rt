@@ -1,9 +1,9 @@
 // The name bytes that the comparison of all siblings takes. Each node is linked with the sibling before it, so that no other pair is looked at.
 ghost use Rattle.std.specs.Prelude.{◌≡◌, ◌+◌, ◌*◌, ◌≤◌, ◌<◌, length};
-ghost use Rattle.model.specs.Lists.{sumBefore};
+ghost use Rattle.model.specs.Lists.{sum_before};
 ghost use Rattle.model.specs.Image.{parent};
-ghost use Rattle.model.specs.NameBytes.{bytesWithEarlier};
-ghost use Rattle.records.specs.Table.{allRecords, HasRecord, LawfulBefore};
+ghost use Rattle.model.specs.NameBytes.{bytes_with_earlier};
+ghost use Rattle.records.specs.Table.{all_records, HasRecord, LawfulBefore};
 ghost use Rattle.texts.specs.Links.{Linked};
 
 use records::nodes;
@@ -12,8 +12,8 @@ use texts::links;
 // Links node i with the sibling before it. The root is nobody's child.
 fn link(table: &[u8], siblings: &mut [u16], i: usize)
     requires has_record { (HasRecord table.now i × LawfulBefore table.now (i + 1)) × (8192 ≤ length siblings.old) }
-    requires linked { Linked (parent (allRecords table.now)) i siblings.old }
-    ensures { Linked (parent (allRecords table.now)) (i + 1) siblings.new }
+    requires linked { Linked (parent (all_records table.now)) i siblings.old }
+    ensures { Linked (parent (all_records table.now)) (i + 1) siblings.new }
 {
     if i == 0 {
         siblings[links::BEFORE] = 0;
@@ -25,8 +25,8 @@ fn link(table: &[u8], siblings: &mut [u16], i: usize)
 // The name bytes compared of node i and the siblings before it.
 fn bytes_with_earlier(table: &[u8], siblings: &[u16], i: usize) -> u64
     requires has_record { HasRecord table.now i × (8192 ≤ length siblings.now) }
-    requires linked { Linked (parent (allRecords table.now)) (i + 1) siblings.now }
-    ensures { (result ≡ bytesWithEarlier (allRecords table.now) i) × (result ≤ 33 * i) }
+    requires linked { Linked (parent (all_records table.now)) (i + 1) siblings.now }
+    ensures { (result ≡ bytes_with_earlier (all_records table.now) i) × (result ≤ 33 * i) }
 {
     let mut sum: u64 = 0;
     let mut j = siblings[links::BEFORE + i] as usize;
@@ -41,7 +41,7 @@ fn bytes_with_earlier(table: &[u8], siblings: &[u16], i: usize) -> u64
 pub fn all_name_bytes(table: &[u8], count: usize, siblings: &mut [u16]) -> u64
     requires count_bound { ((count ≤ 4096) × (84 * count ≤ length table.now)) × LawfulBefore table.now count }
     requires in_bounds { 8192 ≤ length siblings.old }
-    ensures { result ≡ sumBefore (bytesWithEarlier (allRecords table.now)) count }
+    ensures { result ≡ sum_before (bytes_with_earlier (all_records table.now)) count }
 {
     links::clear(siblings);
     let mut sum: u64 = 0;

@@ -1,7 +1,7 @@
 // Rule 11 from node to node: by the keys of names, and by the order of all names where searches grow long.
 ghost use Rattle.std.specs.Prelude.{◌≡◌, ◌+◌, ◌*◌, ◌≤◌, ◌<◌, length};
-ghost use Rattle.model.specs.Records.{nameTaken};
-ghost use Rattle.records.specs.Table.{allRecords, HasRecord};
+ghost use Rattle.model.specs.Records.{name_taken};
+ghost use Rattle.records.specs.Table.{all_records, HasRecord};
 ghost use Rattle.texts.specs.Keys.{key_at};
 ghost use Rattle.table.specs.Siblings.{Names, NamesAt};
 
@@ -22,8 +22,8 @@ pub struct Walked {
 // Rule 11: whether an earlier sibling of node i has its name.
 pub fn is_taken(table: &[u8], i: usize, key: usize, seen: &[u16], taken: usize) -> bool
     requires has_record { HasRecord table.now i }
-    requires key_value { (key ≡ key_at (allRecords table.now) i) × NamesAt table.now i taken seen.now }
-    ensures { result ≡ nameTaken (allRecords table.now) i }
+    requires key_value { (key ≡ key_at (all_records table.now) i) × NamesAt table.now i taken seen.now }
+    ensures { result ≡ name_taken (all_records table.now) i }
 {
     if taken < UNORDERED {
         return i == taken;
@@ -42,7 +42,7 @@ pub fn next(
     seen: &mut [u16],
 ) -> Walked
     requires count_bound { ((count ≤ 4096) × (84 * count ≤ length table.now)) × (16384 ≤ length seen.old) }
-    requires i_lt_count { (i < count) × ((key ≡ key_at (allRecords table.now) i) × Names table.now count i names.taken seen.old) }
+    requires i_lt_count { (i < count) × ((key ≡ key_at (all_records table.now) i) × Names table.now count i names.taken seen.old) }
     ensures { Names table.now count (i + 1) result.taken seen.new }
 {
     let taken = names.taken;

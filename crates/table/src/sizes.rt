@@ -1,10 +1,10 @@
 // Rules 14 to 17: dimension counts, running sums and the product of dimensions.
 ghost use Rattle.std.specs.Prelude.{◌≡◌, cond, not, ◌&&◌, ◌+◌, ◌*◌, ◌≤◌, ◌<◌, eqb, leb, length};
 ghost use Rattle.model.specs.Image.{node, MT};
-ghost use Rattle.model.specs.Records.{dataSizeLawful};
-ghost use Rattle.records.specs.Fields.{numbersOf};
-ghost use Rattle.records.specs.Table.{recordsOf, HasRecord};
-ghost use Rattle.table.specs.Groups.{isWithin};
+ghost use Rattle.model.specs.Records.{data_size_lawful};
+ghost use Rattle.records.specs.Fields.{numbers_of};
+ghost use Rattle.records.specs.Table.{records_of, HasRecord};
+ghost use Rattle.table.specs.Groups.{is_within};
 
 use super::is_within;
 use records::{RecordNumbers, data_types, nodes};
@@ -13,7 +13,7 @@ const MAX_RANK: u64 = 12;
 
 // Rule 14: whether a data type may have so many dimensions.
 pub fn rank_lawful(data_type: u64, rank: u64) -> bool
-    ensures { result ≡ cond (eqb data_type MT) (eqb rank 0) (isWithin rank 1 12) }
+    ensures { result ≡ cond (eqb data_type MT) (eqb rank 0) (is_within rank 1 12) }
 {
     if data_type == data_types::MT {
         return rank == 0;
@@ -48,9 +48,9 @@ pub fn product_fits(m: u64, d: u64, limit: u64) -> bool
 // Rule 16: whether no dimension of node i is 0 and their product in elements is the data length in bytes. `r` has the node's numbers; the
 // dimension words follow `count` records.
 pub fn data_size_lawful(table: &[u8], count: usize, i: usize, r: RecordNumbers) -> bool
-    requires has_record { (HasRecord table.now i × ((i < count) × (count ≤ 4096))) × (r ≡ numbersOf (recordsOf table.now count) i) }
-    requires i_in_bounds { 84 * count + 8 * ((node (recordsOf table.now count) i).firstWord + (node (recordsOf table.now count) i).rank) ≤ length table.now }
-    ensures { result ≡ dataSizeLawful (recordsOf table.now count) i }
+    requires has_record { (HasRecord table.now i × ((i < count) × (count ≤ 4096))) × (r ≡ numbers_of (records_of table.now count) i) }
+    requires i_in_bounds { 84 * count + 8 * ((node (records_of table.now count) i).first_word + (node (records_of table.now count) i).rank) ≤ length table.now }
+    ensures { result ≡ data_size_lawful (records_of table.now count) i }
 {
     let rank = r.rank as usize;
     let size = r.data_size;

@@ -2,13 +2,13 @@
 ghost use Rattle.std.specs.Prelude.{◌≡◌, ◌&&◌, ◌≤◌, ◌<◌, eqb, length};
 ghost use Rattle.model.specs.Rules.{check, ◌then◌};
 ghost use Rattle.model.specs.Image.{node};
-ghost use Rattle.model.specs.Records.{recordCheckAt, recordCheck, trailingCheck};
-ghost use Rattle.model.specs.Answers.{stageTells};
-ghost use Rattle.records.specs.Fields.{numbersOf};
-ghost use Rattle.records.specs.Table.{tableTree, allRecords, HasRecord, LawfulBefore, TableLaid, TableTo};
+ghost use Rattle.model.specs.Records.{record_check_at, record_check, trailing_check};
+ghost use Rattle.model.specs.Answers.{stage_tells};
+ghost use Rattle.records.specs.Fields.{numbers_of};
+ghost use Rattle.records.specs.Table.{table_tree, all_records, HasRecord, LawfulBefore, TableLaid, TableTo};
 ghost use Rattle.texts.specs.Keys.{key_at};
 ghost use Rattle.texts.specs.Links.{NoneLinked};
-ghost use Rattle.table.specs.Groups.{placeRules, textRules, typeRules, sizeRules};
+ghost use Rattle.table.specs.Groups.{place_rules, text_rules, type_rules, size_rules};
 ghost use Rattle.table.specs.Siblings.{Names, NamesAt};
 ghost use Rattle.table.specs.Sums.{Sums};
 
@@ -21,7 +21,7 @@ use texts::links;
 // Rules 7 and 8 at node i.
 fn place_stage(table: &[u8], i: usize) -> Stage
     requires { HasRecord table.now i × LawfulBefore table.now i }
-    ensures { stageTells result ≡ check i (placeRules (allRecords table.now) i) }
+    ensures { stage_tells result ≡ check i (place_rules (all_records table.now) i) }
 {
     if !tree::parent_lawful(table, i) {
         return reject(7, i);
@@ -35,8 +35,8 @@ fn place_stage(table: &[u8], i: usize) -> Stage
 // Rules 9 to 11 at node i, with its key and what is known of the names before it.
 fn text_stage(table: &[u8], i: usize, key: usize, seen: &[u16], taken: usize) -> Stage
     requires has_record { HasRecord table.now i }
-    requires key_value { (key ≡ key_at (allRecords table.now) i) × NamesAt table.now i taken seen.now }
-    ensures { stageTells result ≡ check i (textRules (allRecords table.now) i) }
+    requires key_value { (key ≡ key_at (all_records table.now) i) × NamesAt table.now i taken seen.now }
+    ensures { stage_tells result ≡ check i (text_rules (all_records table.now) i) }
 {
     if !texts::name_lawful(table, i) {
         return reject(9, i);
@@ -52,8 +52,8 @@ fn text_stage(table: &[u8], i: usize, key: usize, seen: &[u16], taken: usize) ->
 
 // Rules 12 to 14 at node i, with its dimension count.
 fn type_stage(table: &[u8], i: usize, rank: u64) -> Stage
-    requires { HasRecord table.now i × (rank ≡ (node (allRecords table.now) i).rank) }
-    ensures { stageTells result ≡ check i (typeRules (allRecords table.now) i) }
+    requires { HasRecord table.now i × (rank ≡ (node (all_records table.now) i).rank) }
+    ensures { stage_tells result ≡ check i (type_rules (all_records table.now) i) }
 {
     if nodes::is_link(table, i) {
         return reject(12, i);
@@ -77,9 +77,9 @@ fn size_stage(
     words: u64,
     bytes: u64,
 ) -> Stage
-    requires table_laid { (TableLaid table.now size × (i < size.nodes)) × (r ≡ numbersOf (tableTree table.now size) i) }
+    requires table_laid { (TableLaid table.now size × (i < size.nodes)) × (r ≡ numbers_of (table_tree table.now size) i) }
     requires sums { Sums table.now size i words bytes }
-    ensures { stageTells result ≡ check i (sizeRules (tableTree table.now size) i) }
+    ensures { stage_tells result ≡ check i (size_rules (table_tree table.now size) i) }
 {
     if !sizes::run_lawful(r.first_word, words, r.rank, size.words) {
         return reject(15, i);
@@ -105,9 +105,9 @@ fn record_stage(
     seen: &[u16],
     taken: usize,
 ) -> Stage
-    requires table_to { (TableTo table.now size i × Sums table.now size i words bytes) × (r ≡ numbersOf (tableTree table.now size) i) }
-    requires key_value { (key ≡ key_at (allRecords table.now) i) × Names table.now size.nodes i taken seen.now }
-    ensures { stageTells result ≡ recordCheckAt (tableTree table.now size) i }
+    requires table_to { (TableTo table.now size i × Sums table.now size i words bytes) × (r ≡ numbers_of (table_tree table.now size) i) }
+    requires key_value { (key ≡ key_at (all_records table.now) i) × Names table.now size.nodes i taken seen.now }
+    ensures { stage_tells result ≡ record_check_at (table_tree table.now size) i }
 {
     let place = place_stage(table, i);
     let Stage::Pass = place else {
@@ -137,8 +137,8 @@ fn sums_match(words: u64, dimensions: u64, bytes: u64, area: u64) -> bool
 // Rules 7 to 18 over the bytes of a table: 7 to 17 at each node, then 18. In the lent table no node is linked yet.
 fn node_stages(table: &[u8], size: TableSize, seen: &mut [u16]) -> Stage
     requires { TableLaid table.now size × ((16384 ≤ length seen.old) × NoneLinked seen.old) }
-    ensures { stageTells result
-        ≡ (recordCheck (tableTree table.now size) then trailingCheck (tableTree table.now size)) }
+    ensures { stage_tells result
+        ≡ (record_check (table_tree table.now size) then trailing_check (table_tree table.now size)) }
 {
     let count = size.nodes;
     let mut i: usize = 0;
@@ -169,8 +169,8 @@ fn node_stages(table: &[u8], size: TableSize, seen: &mut [u16]) -> Stage
 // The same with a lent table for rule 11, whatever it holds.
 pub fn records_stage(table: &[u8], size: TableSize, seen: &mut [u16]) -> Stage
     requires { TableLaid table.now size × (16384 ≤ length seen.old) }
-    ensures { stageTells result
-        ≡ (recordCheck (tableTree table.now size) then trailingCheck (tableTree table.now size)) }
+    ensures { stage_tells result
+        ≡ (record_check (table_tree table.now size) then trailing_check (table_tree table.now size)) }
 {
     links::clear(seen);
     node_stages(table, size, seen)

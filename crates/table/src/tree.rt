@@ -1,7 +1,7 @@
 // Rules 7 and 8: parents and depth.
 ghost use Rattle.std.specs.Prelude.{◌≡◌, true};
-ghost use Rattle.model.specs.Records.{parentLawful, deeperThan};
-ghost use Rattle.records.specs.Table.{allRecords, HasRecord, LawfulBefore};
+ghost use Rattle.model.specs.Records.{parent_lawful, deeper_than};
+ghost use Rattle.records.specs.Table.{all_records, HasRecord, LawfulBefore};
 
 use records::nodes;
 
@@ -12,7 +12,7 @@ const MAX_DEPTH: usize = 32;
 // Rule 7: whether the root has no parent, or another node's is a lower number.
 pub fn parent_lawful(table: &[u8], i: usize) -> bool
     requires { HasRecord table.now i }
-    ensures { result ≡ parentLawful (allRecords table.now) i }
+    ensures { result ≡ parent_lawful (all_records table.now) i }
 {
     let up = nodes::parent_of(table, i);
     if i == 0 {
@@ -23,8 +23,8 @@ pub fn parent_lawful(table: &[u8], i: usize) -> bool
 
 // Rule 8: whether node i is deeper than 32. It walks up at most so many parents.
 pub fn is_too_deep(table: &[u8], i: usize) -> bool
-    requires { HasRecord table.now i × (LawfulBefore table.now i × (parentLawful (allRecords table.now) i ≡ true)) }
-    ensures { result ≡ deeperThan (allRecords table.now) 32 i }
+    requires { HasRecord table.now i × (LawfulBefore table.now i × (parent_lawful (all_records table.now) i ≡ true)) }
+    ensures { result ≡ deeper_than (all_records table.now) 32 i }
 {
     let mut at = i;
     let mut left: usize = MAX_DEPTH;

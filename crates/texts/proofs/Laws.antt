@@ -13,25 +13,25 @@ use lib.Seq.{drop-drop, drop-cons, length-take-le, get_or-take, get_or-drop}
 use borrow.Author.Tests.{eq-eqb, ne_eqb, leb-true, le-ltb}
 use Rattle.model.specs.Lists.{among}
 use Rattle.model.specs.Bytes.{le, same}
-use Rattle.model.specs.Records.{printable, labelLawful}
-use Rattle.model.specs.NameBytes.{firstDifference}
+use Rattle.model.specs.Records.{printable, label_lawful}
+use Rattle.model.specs.NameBytes.{first_difference}
 use Rattle.model.proofs.Reading.{le-take}
 use Rattle.model.proofs.Logic.{and_first, and_second, and-true, and-false}
 use Rattle.model.proofs.NameBytes.{place-small, same_place}
 use Rattle.model.specs.Image.{Node, node_of, name, label}
-use Rattle.records.specs.Table.{allRecords, HasRecord}
+use Rattle.records.specs.Table.{all_records, HasRecord}
 use Rattle.records.proofs.Tables.{field}
-use Rattle.texts.specs.Texts.{textAt, textByte, badByte, textBytes}
+use Rattle.texts.specs.Texts.{text_at, text_byte, bad_byte, text_bytes}
 
 module _ (b : List ℕ) (at : ℕ) (h : at + 32 ≤ length b) where
-  pub text-length : length (textAt b at) ≡ 32
+  pub text-length : length (text_at b at) ≡ 32
   text-length = length-take-le 32 (drop at b) (rw length-drop (omega arith))
 
-  pub text-byte : (k : ℕ) → k < 32 → get_or (textAt b at) k 0 ≡ get_or b (at + k) 0
-  text-byte k l = get_or-take 32 (drop at b) k 0 l ∙ get_or-drop at b k 0
+  pub text_byte_lem : (k : ℕ) → k < 32 → get_or (text_at b at) k 0 ≡ get_or b (at + k) 0
+  text_byte_lem k l = get_or-take 32 (drop at b) k 0 l ∙ get_or-drop at b k 0
 
   -- the first byte, whatever stands for none
-  pub text-first : (d : ℕ) → get_or (textAt b at) 0 d ≡ get_or b at 0
+  pub text-first : (d : ℕ) → get_or (text_at b at) 0 d ≡ get_or b at 0
   text-first d = rw (drop-cons b at 0 (omega arith))
 
 regroup : (a p e m : Bool) → (a && p && not (e || m)) ≡ (a && not e && (p && not m))
@@ -47,36 +47,36 @@ counted n false r = rw (ne_eqb (n + 1) 0 (λ (z : n + 1 ≡ 0). absurd (omega ar
 
 -- a text's bytes from index k on
 module _ (z : ℕ) (s : List ℕ) (k : ℕ) (h : k < length s) where
-  bytes-step : textBytes z (drop k s) ≡ (textByte z (get_or s k 0) && textBytes z (drop (k + 1) s))
+  bytes_step : text_bytes z (drop k s) ≡ (text_byte z (get_or s k 0) && text_bytes z (drop (k + 1) s))
   unfolding printable among
-  bytes-step =
+  bytes_step =
       rw (add-one k, drop-cons s k 0 h) (regroup (leb 32 (get_or s k 0) && leb (get_or s k 0) 126) (printable (drop (suc k) s)) (eqb z (get_or s k 0))
       (among z (drop (suc k) s)))
 
 -- byte k of a text was read as x
 module _ (b : List ℕ) (at : ℕ) (h : at + 32 ≤ length b) (k : ℕ) (l : k < 32) {x : ℕ} (e : x ≡ get_or b (at + k) 0) where
-  byte-is : get_or (textAt b at) k 0 ≡ x
-  byte-is = text-byte b at h k l ∙ sym e
+  byte_is : get_or (text_at b at) k 0 ≡ x
+  byte_is = text_byte_lem b at h k l ∙ sym e
 
-  below : k < length (textAt b at)
+  below : k < length (text_at b at)
   below = rw (text-length b at h) l
 
   -- n bytes before k may not stand
-  pub byte-on : (z n : ℕ) → (eqb (n + badByte z x) 0 && textBytes z (drop (k + 1) (textAt b at))) ≡ (eqb n 0 && textBytes z (drop k (textAt b at)))
-  byte-on z n = rw (bytes-step z (textAt b at) k below, byte-is) (counted n (textByte z x) (textBytes z (drop (k + 1) (textAt b at))))
+  pub byte_on : (z n : ℕ) → (eqb (n + bad_byte z x) 0 && text_bytes z (drop (k + 1) (text_at b at))) ≡ (eqb n 0 && text_bytes z (drop k (text_at b at)))
+  byte_on z n = rw (bytes_step z (text_at b at) k below, byte_is) (counted n (text_byte z x) (text_bytes z (drop (k + 1) (text_at b at))))
 
-pub bytes-end : (z : ℕ) (b : List ℕ) (at : ℕ) → at + 32 ≤ length b → (k : ℕ) → 32 ≤ k → (ok : Bool) → (ok && textBytes z (drop k (textAt b at))) ≡ ok
+pub bytes-end : (z : ℕ) (b : List ℕ) (at : ℕ) → at + 32 ≤ length b → (k : ℕ) → 32 ≤ k → (ok : Bool) → (ok && text_bytes z (drop k (text_at b at))) ≡ ok
 unfolding printable among
-bytes-end z b at h k l ok = rw (drop_of_length-le (textAt b at) {i = k} (rw (text-length b at h) l)) (and-true ok)
+bytes-end z b at h k l ok = rw (drop_of_length-le (text_at b at) {i = k} (rw (text-length b at h) l)) (and-true ok)
 
 -- the first byte decides, or the others do
 module _ (z : ℕ) (s : List ℕ) where
-  pub blank-first : get_or s 0 32 ≡ 32 → (labelLawful s && not (among z s)) ≡ false
-  unfolding labelLawful
+  pub blank-first : get_or s 0 32 ≡ 32 → (label_lawful s && not (among z s)) ≡ false
+  unfolding label_lawful
   blank-first e = rw (eq-eqb (get_or s 0 32) 32 e, and-false (printable s))
 
-  pub not-blank : (get_or s 0 32 ≡ 32 → ⊥) → (labelLawful s && not (among z s)) ≡ textBytes z s
-  unfolding labelLawful
+  pub not-blank : (get_or s 0 32 ≡ 32 → ⊥) → (label_lawful s && not (among z s)) ≡ text_bytes z s
+  unfolding label_lawful
   not-blank e = rw (ne_eqb (get_or s 0 32) 32 e, and-true (printable s))
 
 -- no text has a byte 0
@@ -87,51 +87,51 @@ no_zero (x ∷ s) e =
     let l = leb-true 32 x (and_first (leb 32 x) _ (and_first (leb 32 x && leb x 126) _ e)) in
     rw (ne_eqb 0 x (λ (q : 0 ≡ x). absurd (omega arith))) (no_zero s (and_second (leb 32 x && leb x 126) (printable s) e))
 
-pub no-zero-barred : (s : List ℕ) → (labelLawful s && not (among 0 s)) ≡ labelLawful s
-unfolding labelLawful
-no-zero-barred s = by-test (printable s) refl
+pub no_zero_barred : (s : List ℕ) → (label_lawful s && not (among 0 s)) ≡ label_lawful s
+unfolding label_lawful
+no_zero_barred s = by_test (printable s) refl
   where
-    by-test : (t : Bool) → printable s ≡ t → (t && not (eqb (get_or s 0 32) 32) && not (among 0 s)) ≡ (t && not (eqb (get_or s 0 32) 32))
-    by-test false e = refl
-    by-test true e = rw (no_zero s e) (and-true (not (eqb (get_or s 0 32) 32)))
+    by_test : (t : Bool) → printable s ≡ t → (t && not (eqb (get_or s 0 32) 32) && not (among 0 s)) ≡ (t && not (eqb (get_or s 0 32) 32))
+    by_test false e = refl
+    by_test true e = rw (no_zero s e) (and-true (not (eqb (get_or s 0 32) 32)))
 
 -- a number within the first n bytes
-le-within : (k w n : ℕ) (s : List ℕ) → k + w ≤ n → le w (drop k (take n s)) ≡ le w (drop k s)
-le-within zero w n s h = le-take w n s (omega arith)
-le-within (suc k) w zero s h = absurd (omega arith)
-le-within (suc k) w (suc n) [] h = refl
-le-within (suc k) w (suc n) (x ∷ s) h = le-within k w n s (omega arith)
+le_within : (k w n : ℕ) (s : List ℕ) → k + w ≤ n → le w (drop k (take n s)) ≡ le w (drop k s)
+le_within zero w n s h = le-take w n s (omega arith)
+le_within (suc k) w zero s h = absurd (omega arith)
+le_within (suc k) w (suc n) [] h = refl
+le_within (suc k) w (suc n) (x ∷ s) h = le_within k w n s (omega arith)
 
 -- the word at byte k of a text, read in place
-pub word_of : (b : List ℕ) (at k : ℕ) → k + 8 ≤ 32 → le 8 (drop k (textAt b at)) ≡ le 8 (drop (at + k) b)
-word_of b at k h = le-within k 8 32 (drop at b) h ∙ ap (le 8) (drop-drop k at b)
+pub word_of : (b : List ℕ) (at k : ℕ) → k + 8 ≤ 32 → le 8 (drop k (text_at b at)) ≡ le 8 (drop (at + k) b)
+word_of b at k h = le_within k 8 32 (drop at b) h ∙ ap (le 8) (drop-drop k at b)
 
 -- the texts of a record
 module _ (s : List ℕ) (i : ℕ) (h : i < 4096) where
-  pub name_in : textAt s (84 * i + 0) ≡ name (allRecords s) i
+  pub name_in : text_at s (84 * i + 0) ≡ name (all_records s) i
   unfolding name node_of
   name_in = sym (field s 4096 i h (λ (x : Node). x.name) (take 32) 0 (λ r. refl))
 
-  pub label-in : textAt s (84 * i + 32) ≡ label (allRecords s) i
+  pub label_in : text_at s (84 * i + 32) ≡ label (all_records s) i
   unfolding label node_of
-  label-in = sym (field s 4096 i h (λ (x : Node). x.label) (take 32) 32 (λ r. refl))
+  label_in = sym (field s 4096 i h (λ (x : Node). x.label) (take 32) 32 (λ r. refl))
 
 -- a name in the table has 32 bytes
-pub name-size : (s : List ℕ) (i : ℕ) → HasRecord s i → length (name (allRecords s) i) ≡ 32
+pub name-size : (s : List ℕ) (i : ℕ) → HasRecord s i → length (name (all_records s) i) ≡ 32
 name-size s i h = rw (← name_in s i h.0) (text-length s (84 * i + 0) (omega arith))
 
 -- no byte of two names differs where the place lies past the last
-past-last : (n : ℕ) → n ≤ 33 → ltb 32 n ≡ eqb n 33
-past-last n h =
+past_last : (n : ℕ) → n ≤ 33 → ltb 32 n ≡ eqb n 33
+past_last n h =
     elim (ℕ_discrete n 33) [
       | yes e ↦ rw e
       | no z ↦ le-ltb 32 n (omega (arith, z)) ∙ sym (ne_eqb n 33 z)
     ]
 
 -- two texts are the same where no byte differs
-pub same-texts : (s u : List ℕ) → length s ≡ 32 → length u ≡ 32 → same s u ≡ eqb (firstDifference s u) 33
-same-texts s u m n = same_place s u (m ∙ sym n) ∙ rw m (past-last (firstDifference s u) (omega (arith, m, place-small s u)))
+pub same_texts : (s u : List ℕ) → length s ≡ 32 → length u ≡ 32 → same s u ≡ eqb (first_difference s u) 33
+same_texts s u m n = same_place s u (m ∙ sym n) ∙ rw m (past_last (first_difference s u) (omega (arith, m, place-small s u)))
 
 pub same_names : (s : List ℕ) (i j : ℕ) → HasRecord s i → HasRecord s j
-    → same (name (allRecords s) j) (name (allRecords s) i) ≡ eqb (firstDifference (name (allRecords s) j) (name (allRecords s) i)) 33
-same_names s i j h l = same-texts (name (allRecords s) j) (name (allRecords s) i) (name-size s j l) (name-size s i h)
+    → same (name (all_records s) j) (name (all_records s) i) ≡ eqb (first_difference (name (all_records s) j) (name (all_records s) i)) 33
+same_names s i j h l = same_texts (name (all_records s) j) (name (all_records s) i) (name-size s j l) (name-size s i h)

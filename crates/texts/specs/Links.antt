@@ -18,5 +18,5 @@ abbrev pub NoneLinked : List ℕ → Type 0
 NoneLinked links = (u : ℕ) → u < 4096 → get_or links u 0 ≡ 0
 
 -- number i is the last of class u now
-abbrev pub withLink : List ℕ → ℕ → ℕ → List ℕ
-withLink links i u = set (set links (4096 + i) (get_or links u 0)) u (i + 1)
+abbrev pub with_link : List ℕ → ℕ → ℕ → List ℕ
+with_link links i u = set (set links (4096 + i) (get_or links u 0)) u (i + 1)

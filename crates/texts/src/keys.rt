@@ -1,8 +1,8 @@
 // Keys of names: the marks of those met so far, which tell at once of most names that no earlier sibling has them; and nodes linked by them.
 ghost use Rattle.std.specs.Prelude.{◌≡◌, ◌+◌, ◌%◌, ◌≤◌, ◌<◌, length};
-ghost use Rattle.records.specs.Table.{allRecords, HasRecord};
-ghost use Rattle.texts.specs.Texts.{textAt};
-ghost use Rattle.texts.specs.Keys.{textSum, key_at, marked, mayBeMarked, withKey, withNode};
+ghost use Rattle.records.specs.Table.{all_records, HasRecord};
+ghost use Rattle.texts.specs.Texts.{text_at};
+ghost use Rattle.texts.specs.Keys.{text_sum, key_at, marked, may_be_marked, with_key, with_node};
 
 use super::links;
 use records::{Record, nodes};
@@ -24,7 +24,7 @@ const MANY: u16 = 65535;
 // The four words of the text at `at`, each by its factor.
 fn text_sum(table: &[u8], at: usize) -> u64
     requires { at + 32 ≤ length table.now }
-    ensures { (result ≡ textSum (textAt table.now at)) × (result ≤ 30000000000000) }
+    ensures { (result ≡ text_sum (text_at table.now at)) × (result ≤ 30000000000000) }
 {
     let a = words::u64_at(table, at) % KEYS;
     let b = words::u64_at(table, at + 8) % KEYS;
@@ -36,7 +36,7 @@ fn text_sum(table: &[u8], at: usize) -> u64
 // The key of node i, a number from its name and its parent: siblings of one name have one key.
 pub fn name_key(table: &[u8], i: usize) -> usize
     requires { HasRecord table.now i }
-    ensures { result ≡ key_at (allRecords table.now) i }
+    ensures { result ≡ key_at (all_records table.now) i }
 {
     let sum = text_sum(table, Record::SIZE * i + Record::NAME);
     let up = nodes::parent_of(table, i) as u64;
@@ -59,7 +59,7 @@ fn joined(x: u16, mark: u16) -> u16
 // Marks a key.
 fn add_key(seen: &mut [u16], key: usize)
     requires { (16384 ≤ length seen.old) × (key < 4194304) }
-    ensures { seen.new ≡ withKey seen.old key }
+    ensures { seen.new ≡ with_key seen.old key }
 {
     let at = MARKS + key / SHARE;
     seen[at] = joined(seen[at], (key % SHARE + 1) as u16);
@@ -68,7 +68,7 @@ fn add_key(seen: &mut [u16], key: usize)
 // Whether the key may have been marked. It answers true for each key that was.
 pub fn may_be_marked(seen: &[u16], key: usize) -> bool
     requires { (16384 ≤ length seen.now) × (key < 4194304) }
-    ensures { result ≡ mayBeMarked seen.now key }
+    ensures { result ≡ may_be_marked seen.now key }
 {
     let x = seen[MARKS + key / SHARE];
     if x == MANY {
@@ -87,7 +87,7 @@ pub fn class_of(key: usize) -> usize
 // Marks the key of node i and links the node.
 pub fn add_node(seen: &mut [u16], i: usize, key: usize)
     requires { ((16384 ≤ length seen.old) × (i < 4096)) × (key < 4194304) }
-    ensures { seen.new ≡ withNode seen.old i key }
+    ensures { seen.new ≡ with_node seen.old i key }
 {
     add_key(seen, key);
     links::add(seen, i, class_of(key));

@@ -2,10 +2,10 @@
 ghost use Rattle.std.specs.Prelude.{◌≡◌, not, ◌&&◌, ◌+◌, ◌≤◌, ◌<◌, length};
 ghost use Rattle.model.specs.Lists.{among};
 ghost use Rattle.model.specs.Image.{name, label, parent};
-ghost use Rattle.model.specs.Records.{nameLawful, labelLawful, namesake, nameTaken};
-ghost use Rattle.model.specs.NameBytes.{firstDifference};
-ghost use Rattle.records.specs.Table.{allRecords, HasRecord};
-ghost use Rattle.texts.specs.Texts.{textAt, textByte, badByte, textBytes};
+ghost use Rattle.model.specs.Records.{name_lawful, label_lawful, namesake, name_taken};
+ghost use Rattle.model.specs.NameBytes.{first_difference};
+ghost use Rattle.records.specs.Table.{all_records, HasRecord};
+ghost use Rattle.texts.specs.Texts.{text_at, text_byte, bad_byte, text_bytes};
 ghost use Rattle.texts.specs.Keys.{key_at, Seen};
 
 mod keys; // keys.rt: keys of names, marks of those met, nodes linked by them
@@ -23,7 +23,7 @@ const NONE_DIFFERS: usize = 33;
 
 // Whether a byte may stand in a text that bars one byte.
 fn is_text_byte(x: u8, barred: u8) -> bool
-    ensures { result ≡ textByte barred x }
+    ensures { result ≡ text_byte barred x }
 {
     if x < 32 {
         return false;
@@ -36,7 +36,7 @@ fn is_text_byte(x: u8, barred: u8) -> bool
 
 // 0 for a byte that may, 1 for one that may not.
 fn bad(x: u8, barred: u8) -> u8
-    ensures { (result ≡ badByte barred x) × (result ≤ 1) }
+    ensures { (result ≡ bad_byte barred x) × (result ≤ 1) }
 {
     if is_text_byte(x, barred) { 0 } else { 1 }
 }
@@ -44,7 +44,7 @@ fn bad(x: u8, barred: u8) -> u8
 // Whether all 32 bytes from `at` may. It counts those that may not: a loop with no way out of it.
 fn all_text_bytes(table: &[u8], at: usize, barred: u8) -> bool
     requires { at + 32 ≤ length table.now }
-    ensures { result ≡ textBytes barred (textAt table.now at) }
+    ensures { result ≡ text_bytes barred (text_at table.now at) }
 {
     let mut n: u8 = 0;
     let mut k: usize = 0;
@@ -58,7 +58,7 @@ fn all_text_bytes(table: &[u8], at: usize, barred: u8) -> bool
 // Whether the 32 bytes from `at` are a lawful text without the barred byte.
 pub fn is_text(table: &[u8], at: usize, barred: u8) -> bool
     requires { at + 32 ≤ length table.now }
-    ensures { result ≡ (labelLawful (textAt table.now at) && not (among barred (textAt table.now at))) }
+    ensures { result ≡ (label_lawful (text_at table.now at) && not (among barred (text_at table.now at))) }
 {
     if table[at] == BLANK {
         return false;
@@ -69,7 +69,7 @@ pub fn is_text(table: &[u8], at: usize, barred: u8) -> bool
 // Rule 9: whether the name of node i is lawful. A name has no slash.
 pub fn name_lawful(table: &[u8], i: usize) -> bool
     requires { HasRecord table.now i }
-    ensures { result ≡ nameLawful (name (allRecords table.now) i) }
+    ensures { result ≡ name_lawful (name (all_records table.now) i) }
 {
     is_text(table, Record::SIZE * i + Record::NAME, SLASH)
 }
@@ -77,7 +77,7 @@ pub fn name_lawful(table: &[u8], i: usize) -> bool
 // Rule 10: whether the label of node i is lawful. Byte 0 is barred, as it is in every text.
 pub fn label_lawful(table: &[u8], i: usize) -> bool
     requires { HasRecord table.now i }
-    ensures { result ≡ labelLawful (label (allRecords table.now) i) }
+    ensures { result ≡ label_lawful (label (all_records table.now) i) }
 {
     is_text(table, Record::SIZE * i + Record::LABEL, 0)
 }
@@ -85,7 +85,7 @@ pub fn label_lawful(table: &[u8], i: usize) -> bool
 // The place, from 1, of the first byte in which the names of nodes j and i differ; 33 where none does.
 pub fn name_difference(table: &[u8], i: usize, j: usize) -> usize
     requires { HasRecord table.now i × HasRecord table.now j }
-    ensures { (result ≡ firstDifference (name (allRecords table.now) j) (name (allRecords table.now) i))
+    ensures { (result ≡ first_difference (name (all_records table.now) j) (name (all_records table.now) i))
         × ((1 ≤ result) × (result ≤ 33)) }
 {
     words::first_difference(
@@ -99,8 +99,8 @@ pub fn name_difference(table: &[u8], i: usize, j: usize) -> usize
 // Whether node j has the parent `up` of node i, and its name. Names of siblings alone are compared.
 pub fn is_namesake(table: &[u8], i: usize, up: usize, j: usize) -> bool
     requires has_record { HasRecord table.now i × HasRecord table.now j }
-    requires up_value { up ≡ parent (allRecords table.now) i }
-    ensures { result ≡ namesake (allRecords table.now) i j }
+    requires up_value { up ≡ parent (all_records table.now) i }
+    ensures { result ≡ namesake (all_records table.now) i j }
 {
     if nodes::parent_of(table, j) != up {
         return false;
@@ -111,8 +111,8 @@ pub fn is_namesake(table: &[u8], i: usize, up: usize, j: usize) -> bool
 // Rule 11, where the key of node i may have been marked: whether an earlier node of its class is a sibling with its name.
 fn is_linked_namesake(table: &[u8], i: usize, key: usize, seen: &[u16]) -> bool
     requires has_record { HasRecord table.now i }
-    requires key_value { (key ≡ key_at (allRecords table.now) i) × Seen (allRecords table.now) i seen.now }
-    ensures { result ≡ nameTaken (allRecords table.now) i }
+    requires key_value { (key ≡ key_at (all_records table.now) i) × Seen (all_records table.now) i seen.now }
+    ensures { result ≡ name_taken (all_records table.now) i }
 {
     let up = nodes::parent_of(table, i);
     let mut j = seen[keys::class_of(key)] as usize;
@@ -128,8 +128,8 @@ fn is_linked_namesake(table: &[u8], i: usize, key: usize, seen: &[u16]) -> bool
 // Rule 11: whether an earlier sibling of node i has its name. It would have the key too, so most nodes need no search.
 pub fn name_taken(table: &[u8], i: usize, key: usize, seen: &[u16]) -> bool
     requires has_record { HasRecord table.now i }
-    requires key_value { (key ≡ key_at (allRecords table.now) i) × Seen (allRecords table.now) i seen.now }
-    ensures { result ≡ nameTaken (allRecords table.now) i }
+    requires key_value { (key ≡ key_at (all_records table.now) i) × Seen (all_records table.now) i seen.now }
+    ensures { result ≡ name_taken (all_records table.now) i }
 {
     if !keys::may_be_marked(seen, key) {
         return false;

@@ -1,6 +1,6 @@
 // Numbers of one class linked in a lent table: each with the one before it.
 ghost use Rattle.std.specs.Prelude.{◌≡◌, ◌≤◌, ◌<◌, length};
-ghost use Rattle.texts.specs.Links.{NoneLinked, withLink};
+ghost use Rattle.texts.specs.Links.{NoneLinked, with_link};
 
 // Where the number before each number stands in the table; in front of it stands the last number of each class. Both are stored one
 // higher, 0 for none.
@@ -21,7 +21,7 @@ pub fn clear(links: &mut [u16])
 // Makes number i the last of its class.
 pub fn add(links: &mut [u16], i: usize, class: usize)
     requires { ((i < 4096) × (class < 4096)) × (8192 ≤ length links.old) }
-    ensures { links.new ≡ withLink links.old i class }
+    ensures { links.new ≡ with_link links.old i class }
 {
     links[BEFORE + i] = links[class];
     links[class] = (i + 1) as u16;

@@ -1,8 +1,8 @@
 // Rule 24: the data type and the dimensions are the label's.
 ghost use Rattle.std.specs.Prelude.{◌≡◌, ◌&&◌, [], ◌∷◌, ◌*◌, ◌≤◌, ◌<◌, take};
-ghost use Rattle.model.specs.Image.{tree_of, nodeCount, parent, I4, I8};
+ghost use Rattle.model.specs.Image.{tree_of, node_count, parent, I4, I8};
 ghost use Rattle.model.specs.Given.{Sound};
-ghost use Rattle.model.specs.Values.{typed, shaped, indexDimension, zoneAbove, rangeShape, listShape, typeLawful};
+ghost use Rattle.model.specs.Values.{typed, shaped, index_dimension, zone_above, range_shape, list_shape, type_lawful};
 ghost use Rattle.index.specs.Index.{Index};
 ghost use Rattle.types.specs.Given.{ZoneInBase, HeldContext, NodeContext};
 
@@ -14,7 +14,7 @@ use records::{RecordNumbers, data_types};
 
 // The data type is a, and the dimensions are the first n of these sizes.
 fn typed_shaped(image: &[u8], i: usize, a: u64, n: usize, sizes: [u64; 3]) -> bool
-    requires { (Sound image.now × (i < nodeCount image.now)) × (n ≤ 3) }
+    requires { (Sound image.now × (i < node_count image.now)) × (n ≤ 3) }
     ensures { result ≡ (typed (tree_of image.now) i (a ∷ []) && shaped (tree_of image.now) i (take n sizes)) }
 {
     typed(image, i, a) && shaped(image, i, n, sizes)
@@ -22,7 +22,7 @@ fn typed_shaped(image: &[u8], i: usize, a: u64, n: usize, sizes: [u64; 3]) -> bo
 
 // The data type is I4 or I8, and the dimensions are the first n of these sizes.
 fn whole_shaped(image: &[u8], i: usize, n: usize, sizes: [u64; 3]) -> bool
-    requires { (Sound image.now × (i < nodeCount image.now)) × (n ≤ 3) }
+    requires { (Sound image.now × (i < node_count image.now)) × (n ≤ 3) }
     ensures { result ≡ (typed (tree_of image.now) i (I4 ∷ I8 ∷ []) && shaped (tree_of image.now) i (take n sizes)) }
 {
     typed_either(image, i, data_types::I4, data_types::I8) && shaped(image, i, n, sizes)
@@ -32,17 +32,17 @@ fn whole_shaped(image: &[u8], i: usize, n: usize, sizes: [u64; 3]) -> bool
 fn zone_shape(image: &[u8], index: &[u16], z: usize) -> bool
     requires { Index image.now index.now × ZoneInBase image.now z }
     ensures { result ≡ (typed (tree_of image.now) z (I4 ∷ I8 ∷ [])
-        && shaped (tree_of image.now) z (indexDimension (tree_of image.now) z ∷ 3 ∷ [])) }
+        && shaped (tree_of image.now) z (index_dimension (tree_of image.now) z ∷ 3 ∷ [])) }
 {
     whole_shaped(image, z, 2, [index_dimension(image, index, z), 3, 0])
 }
 
 // Rind_t: I4 [2 × IndexDimension] of the zone two above.
 fn rind_shape(image: &[u8], index: &[u16], i: usize) -> bool
-    requires { (Index image.now index.now × (parent (tree_of image.now) i < nodeCount image.now))
-        × ((i < nodeCount image.now) × ZoneInBase image.now (zoneAbove (tree_of image.now) i)) }
+    requires { (Index image.now index.now × (parent (tree_of image.now) i < node_count image.now))
+        × ((i < node_count image.now) × ZoneInBase image.now (zone_above (tree_of image.now) i)) }
     ensures { result ≡ (typed (tree_of image.now) i (I4 ∷ [])
-        && shaped (tree_of image.now) i (2 * indexDimension (tree_of image.now) (zoneAbove (tree_of image.now) i) ∷ [])) }
+        && shaped (tree_of image.now) i (2 * index_dimension (tree_of image.now) (zone_above (tree_of image.now) i) ∷ [])) }
 {
     typed_shaped(
         image,
@@ -55,8 +55,8 @@ fn rind_shape(image: &[u8], index: &[u16], i: usize) -> bool
 
 // IndexRange_t: I4 or I8, [2] under a section, [IndexDimension, 2] under flow.
 fn range_shape(image: &[u8], index: &[u16], i: usize) -> bool
-    requires { (Index image.now index.now × (i < nodeCount image.now)) × HeldContext image.now i }
-    ensures { result ≡ (typed (tree_of image.now) i (I4 ∷ I8 ∷ []) && rangeShape (tree_of image.now) i) }
+    requires { (Index image.now index.now × (i < node_count image.now)) × HeldContext image.now i }
+    ensures { result ≡ (typed (tree_of image.now) i (I4 ∷ I8 ∷ []) && range_shape (tree_of image.now) i) }
 {
     let above = index::role_of(image, index, records::parent_of(image, i));
     match above {
@@ -70,8 +70,8 @@ fn range_shape(image: &[u8], index: &[u16], i: usize) -> bool
 
 // IndexArray_t: I4 or I8 [IndexDimension, count] under flow.
 fn list_shape(image: &[u8], index: &[u16], i: usize) -> bool
-    requires { (Index image.now index.now × (i < nodeCount image.now)) × HeldContext image.now i }
-    ensures { result ≡ (typed (tree_of image.now) i (I4 ∷ I8 ∷ []) && listShape (tree_of image.now) i) }
+    requires { (Index image.now index.now × (i < node_count image.now)) × HeldContext image.now i }
+    ensures { result ≡ (typed (tree_of image.now) i (I4 ∷ I8 ∷ []) && list_shape (tree_of image.now) i) }
 {
     let above = index::role_of(image, index, records::parent_of(image, i));
     if above != roles::FLOW_SOLUTION {
@@ -87,7 +87,7 @@ fn list_shape(image: &[u8], index: &[u16], i: usize) -> bool
 // Rule 24 at node i.
 pub fn type_lawful(image: &[u8], index: &[u16], i: usize) -> bool
     requires { Index image.now index.now × NodeContext image.now i }
-    ensures { result ≡ typeLawful (tree_of image.now) i }
+    ensures { result ≡ type_lawful (tree_of image.now) i }
 {
     let role = index::role_of(image, index, i);
     match role {

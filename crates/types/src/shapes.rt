@@ -1,15 +1,15 @@
 // Data types and dimensions.
 ghost use Rattle.std.specs.Prelude.{◌≡◌, [], ◌∷◌, ◌≤◌, ◌<◌, take};
-ghost use Rattle.model.specs.Image.{tree_of, nodeCount, dimensions};
+ghost use Rattle.model.specs.Image.{tree_of, node_count, dimensions};
 ghost use Rattle.model.specs.Bounds.{Laid};
 ghost use Rattle.model.specs.Given.{Sound};
-ghost use Rattle.model.specs.Values.{typed, shaped, flat, zoneTypeShape};
+ghost use Rattle.model.specs.Values.{typed, shaped, flat, zone_type_shape};
 
 use records::{RecordNumbers, data_types};
 
 // The data type of node i is a.
 pub fn typed(image: &[u8], i: usize, a: u64) -> bool
-    requires { Laid image.now × (i < nodeCount image.now) }
+    requires { Laid image.now × (i < node_count image.now) }
     ensures { result ≡ typed (tree_of image.now) i (a ∷ []) }
 {
     records::data_type_of(image, i) == a
@@ -17,7 +17,7 @@ pub fn typed(image: &[u8], i: usize, a: u64) -> bool
 
 // It is a or b.
 pub fn typed_either(image: &[u8], i: usize, a: u64, b: u64) -> bool
-    requires { Laid image.now × (i < nodeCount image.now) }
+    requires { Laid image.now × (i < node_count image.now) }
     ensures { result ≡ typed (tree_of image.now) i (a ∷ b ∷ []) }
 {
     let d = records::data_type_of(image, i);
@@ -26,7 +26,7 @@ pub fn typed_either(image: &[u8], i: usize, a: u64, b: u64) -> bool
 
 // Node i has one dimension.
 pub fn flat(image: &[u8], i: usize) -> bool
-    requires { Laid image.now × (i < nodeCount image.now) }
+    requires { Laid image.now × (i < node_count image.now) }
     ensures { result ≡ flat (tree_of image.now) i }
 {
     RecordNumbers::read(image, i).rank == 1
@@ -34,7 +34,7 @@ pub fn flat(image: &[u8], i: usize) -> bool
 
 // The dimensions of node i are the first n of these sizes.
 pub fn shaped(image: &[u8], i: usize, n: usize, sizes: [u64; 3]) -> bool
-    requires sound { Sound image.now × (i < nodeCount image.now) }
+    requires sound { Sound image.now × (i < node_count image.now) }
     requires n_bound { n ≤ 3 }
     ensures { result ≡ shaped (tree_of image.now) i (take n sizes) }
 {
@@ -53,7 +53,7 @@ pub fn shaped(image: &[u8], i: usize, n: usize, sizes: [u64; 3]) -> bool
 
 // Node i has the dimensions of node j.
 pub fn same_shape(image: &[u8], i: usize, j: usize) -> bool
-    requires { Sound image.now × ((i < nodeCount image.now) × (j < nodeCount image.now)) }
+    requires { Sound image.now × ((i < node_count image.now) × (j < node_count image.now)) }
     ensures { result ≡ shaped (tree_of image.now) i (dimensions (tree_of image.now) j) }
 {
     let n = RecordNumbers::read(image, i).rank as usize;
@@ -72,8 +72,8 @@ pub fn same_shape(image: &[u8], i: usize, j: usize) -> bool
 
 // A text: C1 with one dimension.
 pub fn text_shape(image: &[u8], i: usize) -> bool
-    requires { Laid image.now × (i < nodeCount image.now) }
-    ensures { result ≡ zoneTypeShape (tree_of image.now) i }
+    requires { Laid image.now × (i < node_count image.now) }
+    ensures { result ≡ zone_type_shape (tree_of image.now) i }
 {
     typed(image, i, data_types::C1) && flat(image, i)
 }

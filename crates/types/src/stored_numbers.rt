@@ -1,8 +1,8 @@
 // Stored numbers.
 ghost use Rattle.std.specs.Prelude.{◌≡◌, true, ◌&&◌, [], ◌∷◌, ◌<◌, leb};
-ghost use Rattle.model.specs.Image.{tree_of, nodeCount, number, I4};
+ghost use Rattle.model.specs.Image.{tree_of, node_count, number, I4};
 ghost use Rattle.model.specs.Given.{Sound};
-ghost use Rattle.model.specs.Values.{typed, flat, notNegative, rindValue};
+ghost use Rattle.model.specs.Values.{typed, flat, not_negative, rind_value};
 ghost use Rattle.types.specs.Given.{HasNumber};
 
 // The greatest size, rind number and element number.
@@ -37,16 +37,16 @@ pub fn pair_within(image: &[u8], i: usize, most: u64) -> bool
 // Stored number k of node i is not negative.
 pub fn not_negative(image: &[u8], i: usize, k: usize) -> bool
     requires { Sound image.now × HasNumber image.now i k }
-    ensures { result ≡ notNegative (tree_of image.now) i k }
+    ensures { result ≡ not_negative (tree_of image.now) i k }
 {
     whole(image, i, k) <= MAX_NUMBER
 }
 
 // Rind_t: none of the numbers of a node with one dimension is negative.
 pub fn rind_value(image: &[u8], i: usize) -> bool
-    requires sound { Sound image.now × (i < nodeCount image.now) }
+    requires sound { Sound image.now × (i < node_count image.now) }
     requires i_value { (typed (tree_of image.now) i (I4 ∷ []) ≡ true) × (flat (tree_of image.now) i ≡ true) }
-    ensures { result ≡ rindValue (tree_of image.now) i }
+    ensures { result ≡ rind_value (tree_of image.now) i }
 {
     let n = records::dimension(image, i, 0);
     let mut k: u64 = 0;

@@ -1,14 +1,14 @@
 // Stored texts.
 ghost use Rattle.std.specs.Prelude.{◌≡◌, ◌||◌, ◌≤◌, ◌<◌};
-ghost use Rattle.model.specs.Image.{tree_of, nodeCount};
+ghost use Rattle.model.specs.Image.{tree_of, node_count};
 ghost use Rattle.model.specs.Given.{Sound};
-ghost use Rattle.model.specs.Values.{reads, locationValue, zoneTypeValue};
+ghost use Rattle.model.specs.Values.{reads, location_value, zone_type_value};
 
 use records::RecordNumbers;
 
 // The data of node i are this text.
 pub fn reads(image: &[u8], i: usize, text: &[u8]) -> bool
-    requires { Sound image.now × (i < nodeCount image.now) }
+    requires { Sound image.now × (i < node_count image.now) }
     ensures { result ≡ reads (tree_of image.now) i text.now }
 {
     labels::same_at(
@@ -21,7 +21,7 @@ pub fn reads(image: &[u8], i: usize, text: &[u8]) -> bool
 
 // The same of a child that may be missing: node i, or the node count.
 pub fn reads_if_found(image: &[u8], i: usize, text: &[u8]) -> bool
-    requires { Sound image.now × (i ≤ nodeCount image.now) }
+    requires { Sound image.now × (i ≤ node_count image.now) }
     ensures { result ≡ reads (tree_of image.now) i text.now }
 {
     if i == labels::node_count(image) {
@@ -32,7 +32,7 @@ pub fn reads_if_found(image: &[u8], i: usize, text: &[u8]) -> bool
 
 // They are one of two texts.
 fn reads_either(image: &[u8], i: usize, one: &[u8], other: &[u8]) -> bool
-    requires { Sound image.now × (i < nodeCount image.now) }
+    requires { Sound image.now × (i < node_count image.now) }
     ensures { result ≡ (reads (tree_of image.now) i one.now || reads (tree_of image.now) i other.now) }
 {
     reads(image, i, one) || reads(image, i, other)
@@ -40,16 +40,16 @@ fn reads_either(image: &[u8], i: usize, one: &[u8], other: &[u8]) -> bool
 
 // GridLocation_t: exactly Vertex or CellCenter.
 pub fn location_value(image: &[u8], i: usize) -> bool
-    requires { Sound image.now × (i < nodeCount image.now) }
-    ensures { result ≡ locationValue (tree_of image.now) i }
+    requires { Sound image.now × (i < node_count image.now) }
+    ensures { result ≡ location_value (tree_of image.now) i }
 {
     reads_either(image, i, b"Vertex", b"CellCenter")
 }
 
 // ZoneType_t: exactly Structured or Unstructured.
 pub fn zone_type_value(image: &[u8], i: usize) -> bool
-    requires { Sound image.now × (i < nodeCount image.now) }
-    ensures { result ≡ zoneTypeValue (tree_of image.now) i }
+    requires { Sound image.now × (i < node_count image.now) }
+    ensures { result ≡ zone_type_value (tree_of image.now) i }
 {
     reads_either(image, i, b"Structured", b"Unstructured")
 }

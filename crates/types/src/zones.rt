@@ -1,12 +1,12 @@
 // A zone's type and IndexDimension.
 ghost use Rattle.std.specs.Prelude.{◌≡◌, ◌≤◌, ◌<◌};
-ghost use Rattle.model.specs.Image.{tree_of, nodeCount, parent};
+ghost use Rattle.model.specs.Image.{tree_of, node_count, parent};
 ghost use Rattle.model.specs.Containment.{Zone};
 ghost use Rattle.model.specs.Given.{Sound};
-ghost use Rattle.model.specs.Values.{zoneTypeOf, structured, unstructured, indexDimension, zoneAbove};
+ghost use Rattle.model.specs.Values.{zone_type_of, structured, unstructured, index_dimension, zone_above};
 ghost use Rattle.model.specs.Values.{structured as isStructured};
 ghost use Rattle.index.specs.Index.{kind, Index};
-ghost use Rattle.types.specs.Given.{ZoneInBase, zoneTypeReads};
+ghost use Rattle.types.specs.Given.{ZoneInBase, zone_type_reads};
 
 use super::shapes::text_shape;
 use super::stored_numbers::whole;
@@ -14,9 +14,9 @@ use super::stored_texts::{reads, zone_type_value};
 
 // The zone's conforming ZoneType; the node count where there is none.
 pub fn zone_type_of(image: &[u8], index: &[u16], z: usize) -> usize
-    requires index { Index image.now index.now × (z < nodeCount image.now) }
+    requires index { Index image.now index.now × (z < node_count image.now) }
     requires z_value { kind (tree_of image.now) z ≡ Zone }
-    ensures { (result ≡ zoneTypeOf (tree_of image.now) z) × (result ≤ nodeCount image.now) }
+    ensures { (result ≡ zone_type_of (tree_of image.now) z) × (result ≤ node_count image.now) }
 {
     let n = labels::node_count(image);
     let j = index::zone_type(image, index, z);
@@ -34,9 +34,9 @@ pub fn zone_type_of(image: &[u8], index: &[u16], z: usize) -> usize
 
 // The zone's ZoneType has the shape of one and reads this text.
 fn zone_type_reads(image: &[u8], index: &[u16], z: usize, text: &[u8]) -> bool
-    requires index { Index image.now index.now × (z < nodeCount image.now) }
+    requires index { Index image.now index.now × (z < node_count image.now) }
     requires z_value { kind (tree_of image.now) z ≡ Zone }
-    ensures { result ≡ zoneTypeReads (tree_of image.now) z text.now }
+    ensures { result ≡ zone_type_reads (tree_of image.now) z text.now }
 {
     let j = index::zone_type(image, index, z);
     if j == labels::node_count(image) {
@@ -47,7 +47,7 @@ fn zone_type_reads(image: &[u8], index: &[u16], z: usize, text: &[u8]) -> bool
 
 // The zone is structured.
 pub fn structured(image: &[u8], index: &[u16], z: usize) -> bool
-    requires index { Index image.now index.now × (z < nodeCount image.now) }
+    requires index { Index image.now index.now × (z < node_count image.now) }
     requires z_value { kind (tree_of image.now) z ≡ Zone }
     ensures { result ≡ structured (tree_of image.now) z }
 {
@@ -56,7 +56,7 @@ pub fn structured(image: &[u8], index: &[u16], z: usize) -> bool
 
 // The zone is unstructured.
 pub fn unstructured(image: &[u8], index: &[u16], z: usize) -> bool
-    requires index { Index image.now index.now × (z < nodeCount image.now) }
+    requires index { Index image.now index.now × (z < node_count image.now) }
     requires z_value { kind (tree_of image.now) z ≡ Zone }
     ensures { result ≡ unstructured (tree_of image.now) z }
 {
@@ -67,7 +67,7 @@ pub fn unstructured(image: &[u8], index: &[u16], z: usize) -> bool
 pub fn dimension_of(image: &[u8], z: usize, structured: bool) -> u64
     requires sound { Sound image.now × ZoneInBase image.now z }
     requires structured_value { structured ≡ isStructured (tree_of image.now) z }
-    ensures { (result ≡ indexDimension (tree_of image.now) z) × (1 ≤ result) × (result ≤ 3) }
+    ensures { (result ≡ index_dimension (tree_of image.now) z) × (1 ≤ result) × (result ≤ 3) }
 {
     if !structured {
         return 1;
@@ -78,16 +78,16 @@ pub fn dimension_of(image: &[u8], z: usize, structured: bool) -> u64
 // IndexDimension.
 pub fn index_dimension(image: &[u8], index: &[u16], z: usize) -> u64
     requires { Index image.now index.now × ZoneInBase image.now z }
-    ensures { (result ≡ indexDimension (tree_of image.now) z) × (1 ≤ result) × (result ≤ 3) }
+    ensures { (result ≡ index_dimension (tree_of image.now) z) × (1 ≤ result) × (result ≤ 3) }
 {
     dimension_of(image, z, structured(image, index, z))
 }
 
 // IndexDimension of the zone two above node i.
 pub fn dimension_above(image: &[u8], index: &[u16], i: usize) -> u64
-    requires { (Index image.now index.now × (parent (tree_of image.now) i < nodeCount image.now))
-        × ((i < nodeCount image.now) × ZoneInBase image.now (zoneAbove (tree_of image.now) i)) }
-    ensures { (result ≡ indexDimension (tree_of image.now) (zoneAbove (tree_of image.now) i)) × (1 ≤ result) × (result ≤ 3) }
+    requires { (Index image.now index.now × (parent (tree_of image.now) i < node_count image.now))
+        × ((i < node_count image.now) × ZoneInBase image.now (zone_above (tree_of image.now) i)) }
+    ensures { (result ≡ index_dimension (tree_of image.now) (zone_above (tree_of image.now) i)) × (1 ≤ result) × (result ≤ 3) }
 {
     let zone = records::parent_of(image, records::parent_of(image, i));
     index_dimension(image, index, zone)

@@ -6,10 +6,10 @@ use native.Mathlib.Omega.{arith}
 use borrow.Author.Tests.{eqb-true}
 use Rattle.model.specs.FaceUsage.{unused}
 
-pub forward-room : (x : ℕ) → x < 256 → unused 1 x ≡ true → x + 1 < 256
+pub forward_room : (x : ℕ) → x < 256 → unused 1 x ≡ true → x + 1 < 256
 unfolding unused
-forward-room x h e = let q = eqb-true (x / 1 % 2) 0 e in omega arith
+forward_room x h e = let q = eqb-true (x / 1 % 2) 0 e in omega arith
 
-pub reversed-room : (x : ℕ) → x < 256 → unused 2 x ≡ true → x + 2 < 256
+pub reversed_room : (x : ℕ) → x < 256 → unused 2 x ≡ true → x + 2 < 256
 unfolding unused
-reversed-room x h e = let q = eqb-true (x / 2 % 2) 0 e in omega arith
+reversed_room x h e = let q = eqb-true (x / 2 % 2) 0 e in omega arith

@@ -5,5 +5,5 @@ abbrev pub sign_of : Bool → ℕ
 sign_of reversed = cond reversed 2 1
 
 -- a use of the face at place p, where the bit of its sign was free or not
-abbrev pub afterUse : Bool → ℕ → ℕ → List ℕ → List ℕ
-afterUse free sign p bytes = cond free (set bytes p (get_or bytes p 0 + sign)) bytes
+abbrev pub after_use : Bool → ℕ → ℕ → List ℕ → List ℕ
+after_use free sign p bytes = cond free (set bytes p (get_or bytes p 0 + sign)) bytes

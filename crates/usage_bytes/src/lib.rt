@@ -1,7 +1,7 @@
 // The bytes of face usage: one for each face, 0 unused, 1 used forward, 2 reversed, 3 both.
 ghost use Rattle.std.specs.Prelude.{◌≡◌, ◌++◌, ◌≤◌, ◌<◌, length, get_or, drop, replicate};
 ghost use Rattle.model.specs.FaceUsage.{unused};
-ghost use Rattle.usage_bytes.specs.Marks.{sign_of, afterUse};
+ghost use Rattle.usage_bytes.specs.Marks.{sign_of, after_use};
 
 pub mod parent_marks; // parent_marks.rt: which parents of a face are matched with uses
 
@@ -31,7 +31,7 @@ fn is_unused(byte: u8, reversed: bool) -> bool
 // Uses the face at place p once: true where its sign was free, false and no change where it was not.
 pub fn use_face(out: &mut [u8], p: usize, reversed: bool) -> bool
     requires { p < length out.old }
-    ensures { (result ≡ unused (sign_of reversed) (get_or out.old p 0)) × (out.new ≡ afterUse result (sign_of reversed) p out.old) }
+    ensures { (result ≡ unused (sign_of reversed) (get_or out.old p 0)) × (out.new ≡ after_use result (sign_of reversed) p out.old) }
 {
     let byte = out[p];
     if !is_unused(byte, reversed) {

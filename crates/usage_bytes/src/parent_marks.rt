@@ -1,6 +1,6 @@
 // The marks of a face's parents, in the bits above those of the signs: 1 where the first parent is matched with a use, 2 where the second is.
 ghost use Rattle.std.specs.Prelude.{◌≡◌, ◌+◌, ◌*◌, ◌/◌, ◌≤◌, ◌<◌, ◌&&◌, eqb, ltb, length, get_or};
-ghost use Rattle.usage_bytes.specs.Marks.{afterUse};
+ghost use Rattle.usage_bytes.specs.Marks.{after_use};
 ghost use Rattle.usage_bytes.specs.ParentMarks.{matched, complete, Unmarked};
 
 // Is a parent the cell of a use, and its mark free?
@@ -28,7 +28,7 @@ fn more_marks(marks: u8, first: bool, second: bool) -> u8
 pub fn match_parent(out: &mut [u8], p: usize, first: bool, second: bool) -> bool
     requires { p < length out.old }
     ensures { (result ≡ ltb 0 (matched first second (get_or out.old p 0 / 4)))
-        × (out.new ≡ afterUse result (4 * matched first second (get_or out.old p 0 / 4)) p out.old) }
+        × (out.new ≡ after_use result (4 * matched first second (get_or out.old p 0 / 4)) p out.old) }
 {
     let byte = out[p];
     let more = more_marks(byte / 4, first, second);

@@ -1,16 +1,16 @@
 // Validation of an image: every rule in the stated order, and the four counts of an acceptance. The DataSize of an array.
 ghost use Rattle.std.specs.Prelude.{◌≡◌, true, cond, ◌≤◌, length};
-ghost use Rattle.model.specs.Lists.{seekFrom};
+ghost use Rattle.model.specs.Lists.{seek_from};
 ghost use Rattle.model.specs.Rules.{answer, check, passed};
-ghost use Rattle.model.specs.Image.{tree_of, nodeCount};
+ghost use Rattle.model.specs.Image.{tree_of, node_count};
 ghost use Rattle.model.specs.Containment.{validated};
-ghost use Rattle.model.specs.Values.{sidsRules};
-ghost use Rattle.model.specs.Validation.{sectionCheck, nodeCheckAt, nodeCheck, imageCheck, counts, validation};
+ghost use Rattle.model.specs.Values.{sids_rules};
+ghost use Rattle.model.specs.Validation.{section_check, node_check_at, node_check, image_check, counts, validation};
 ghost use Rattle.model.specs.Given.{NodesTo};
-ghost use Rattle.model.specs.Answers.{stageTells, validationTells};
+ghost use Rattle.model.specs.Answers.{stage_tells, validation_tells};
 ghost use Rattle.index.specs.Index.{Index};
-ghost use Rattle.section_data.specs.Ranges.{overlapAt, Faces};
-ghost use Rattle.parents.specs.Parents.{parentsBroken};
+ghost use Rattle.section_data.specs.Ranges.{overlap_at, Faces};
+ghost use Rattle.parents.specs.Parents.{parents_broken};
 
 mod sizes; // sizes.rt: the DataSize of an array
 
@@ -32,11 +32,11 @@ fn section_stage(
 ) -> Stage
     requires nodes_to { NodesTo image.now i × Index image.now index.now }
     requires i_value { validated (tree_of image.now) i ≡ true }
-    requires i_value_2 { check i (sidsRules (tree_of image.now) i) ≡ passed }
-    requires overlap_value { (overlap ≡ seekFrom (overlapAt (tree_of image.now)) (nodeCount image.now) 0)
-        × (parents ≡ seekFrom (parentsBroken (tree_of image.now)) (nodeCount image.now) 0) }
+    requires i_value_2 { check i (sids_rules (tree_of image.now) i) ≡ passed }
+    requires overlap_value { (overlap ≡ seek_from (overlap_at (tree_of image.now)) (node_count image.now) 0)
+        × (parents ≡ seek_from (parents_broken (tree_of image.now)) (node_count image.now) 0) }
     requires faces { Faces (tree_of image.now) firsts.now reach.now faces × (2048 ≤ length levels.old) }
-    ensures { stageTells result ≡ sectionCheck (tree_of image.now) i }
+    ensures { stage_tells result ≡ section_check (tree_of image.now) i }
 {
     if index::role_of(image, index, i) == ELEMENTS {
         return elements::element_stage(
@@ -59,10 +59,10 @@ fn node_stage(
     levels: &mut [u32],
 ) -> Stage
     requires nodes_to { NodesTo image.now i × Index image.now index.now }
-    requires overlap_value { (overlap ≡ seekFrom (overlapAt (tree_of image.now)) (nodeCount image.now) 0)
-        × (parents ≡ seekFrom (parentsBroken (tree_of image.now)) (nodeCount image.now) 0) }
+    requires overlap_value { (overlap ≡ seek_from (overlap_at (tree_of image.now)) (node_count image.now) 0)
+        × (parents ≡ seek_from (parents_broken (tree_of image.now)) (node_count image.now) 0) }
     requires faces { Faces (tree_of image.now) firsts.now reach.now faces × (2048 ≤ length levels.old) }
-    ensures { stageTells result ≡ nodeCheckAt (tree_of image.now) i }
+    ensures { stage_tells result ≡ node_check_at (tree_of image.now) i }
 {
     if !index::is_validated(image, index, i) {
         return Stage::Pass;
@@ -89,10 +89,10 @@ fn every_node(
     levels: &mut [u32],
 ) -> Stage
     requires index { Index image.now index.now }
-    requires overlap_value { (overlap ≡ seekFrom (overlapAt (tree_of image.now)) (nodeCount image.now) 0)
-        × (parents ≡ seekFrom (parentsBroken (tree_of image.now)) (nodeCount image.now) 0) }
+    requires overlap_value { (overlap ≡ seek_from (overlap_at (tree_of image.now)) (node_count image.now) 0)
+        × (parents ≡ seek_from (parents_broken (tree_of image.now)) (node_count image.now) 0) }
     requires faces { Faces (tree_of image.now) firsts.now reach.now faces × (2048 ≤ length levels.old) }
-    ensures { stageTells result ≡ nodeCheck (tree_of image.now) }
+    ensures { stage_tells result ≡ node_check (tree_of image.now) }
 {
     let n = labels::node_count(image);
     let mut i = 0;
@@ -118,7 +118,7 @@ fn nodes_stage(
 ) -> Stage
     requires index { Index image.now index.now × (2048 ≤ length levels.old) }
     requires in_bounds { (2048 ≤ length firsts.old) × (2048 ≤ length reach.old) }
-    ensures { stageTells result ≡ nodeCheck (tree_of image.now) }
+    ensures { stage_tells result ≡ node_check (tree_of image.now) }
 {
     let overlap = section_data::first_overlap(image, index, firsts, reach);
     let parents = parents::first_broken(image, index, firsts, reach);
@@ -136,7 +136,7 @@ pub fn image_stage_with(
 ) -> Stage
     requires in_bounds { (16384 ≤ length index.old) × (2048 ≤ length levels.old) }
     requires in_bounds_2 { (2048 ≤ length firsts.old) × (2048 ≤ length reach.old) }
-    ensures { (stageTells result ≡ imageCheck image.now) × (stageTells result ≡ passed → Index image.now index.new) }
+    ensures { (stage_tells result ≡ image_check image.now) × (stage_tells result ≡ passed → Index image.now index.new) }
 {
     let s = table::table_stage_with(image, index);
     let Stage::Pass = s else {
@@ -149,7 +149,7 @@ pub fn image_stage_with(
 // The same, where the index alone is lent.
 pub fn image_stage(image: &[u8], index: &mut [u16]) -> Stage
     requires { 16384 ≤ length index.old }
-    ensures { (stageTells result ≡ imageCheck image.now) × (stageTells result ≡ passed → Index image.now index.new) }
+    ensures { (stage_tells result ≡ image_check image.now) × (stage_tells result ≡ passed → Index image.now index.new) }
 {
     let mut firsts: [u64; 2048] = [0; 2048];
     let mut reach: [u64; 2048] = [0; 2048];
@@ -167,7 +167,7 @@ fn unit(test: bool) -> u64
 // The four counts of an image in which rules 1 to 18 hold.
 fn counted(image: &[u8], index: &[u16]) -> Validation
     requires { Index image.now index.now }
-    ensures { validationTells result ≡ answer (counts (tree_of image.now)) }
+    ensures { validation_tells result ≡ answer (counts (tree_of image.now)) }
 {
     let n = labels::node_count(image);
     let mut validated: u64 = 0;
@@ -192,7 +192,7 @@ fn counted(image: &[u8], index: &[u16]) -> Validation
 // Whether the image meets every rule: the counts of validated nodes, skipped nodes, zones and sections; otherwise the first broken rule and its node, and of rules 34 to 37 the
 // entry that breaks it.
 pub fn validate(image: &[u8]) -> Validation
-    ensures { validationTells result ≡ validation image.now }
+    ensures { validation_tells result ≡ validation image.now }
 {
     let mut index: [u16; 16384] = [0; 16384];
     let s = image_stage(image, &mut index);

@@ -1,13 +1,13 @@
 // The DataSize of a coordinate or flow array.
 ghost use Rattle.std.specs.Prelude.{◌≡◌, true, ◌<◌, get_or};
 ghost use Rattle.model.specs.Rules.{answer};
-ghost use Rattle.model.specs.Image.{tree_of, nodeCount, parent, dimensions};
+ghost use Rattle.model.specs.Image.{tree_of, node_count, parent, dimensions};
 ghost use Rattle.model.specs.Containment.{validated};
-ghost use Rattle.model.specs.Values.{sizedArray, dataSizes};
-ghost use Rattle.model.specs.DataSize.{isSizedArray, sizesOf, dataSizeAnswer};
+ghost use Rattle.model.specs.Values.{sized_array, data_sizes};
+ghost use Rattle.model.specs.DataSize.{is_sized_array, sizes_of, data_size_answer};
 ghost use Rattle.model.specs.Given.{Sound, Accepted};
 ghost use Rattle.index.specs.Index.{Index};
-ghost use Rattle.model.specs.Answers.{dataSizeTells};
+ghost use Rattle.model.specs.Answers.{data_size_tells};
 
 use model::{DataSize, Rejection, Stage};
 use records::RecordNumbers;
@@ -15,7 +15,7 @@ use records::RecordNumbers;
 // Whether a number is that of a validated coordinate or flow array.
 fn is_sized_array(image: &[u8], index: &[u16], node: u64) -> bool
     requires { Index image.now index.now }
-    ensures { result ≡ isSizedArray (tree_of image.now) node }
+    ensures { result ≡ is_sized_array (tree_of image.now) node }
 {
     let n = labels::node_count(image) as u64;
     if n <= node {
@@ -30,7 +30,7 @@ fn is_sized_array(image: &[u8], index: &[u16], node: u64) -> bool
 
 // The size of node i in direction k; 0 where it lacks it.
 fn size_in(image: &[u8], i: usize, k: usize) -> u64
-    requires { Sound image.now × (i < nodeCount image.now) }
+    requires { Sound image.now × (i < node_count image.now) }
     ensures { result ≡ get_or (dimensions (tree_of image.now) i) k 0 }
 {
     if k as u64 >= RecordNumbers::read(image, i).rank {
@@ -41,9 +41,9 @@ fn size_in(image: &[u8], i: usize, k: usize) -> u64
 
 // The sizes of a coordinate or flow array of an accepted image: its own dimensions, by rule 26.
 fn array_sizes(image: &[u8], i: usize) -> DataSize
-    requires accepted { Accepted image.now × (i < nodeCount image.now) }
-    requires i_value { (sizedArray (tree_of image.now) i ≡ true) × (validated (tree_of image.now) i ≡ true) }
-    ensures { dataSizeTells result ≡ answer (sizesOf (dataSizes (tree_of image.now) (parent (tree_of image.now) i))) }
+    requires accepted { Accepted image.now × (i < node_count image.now) }
+    requires i_value { (sized_array (tree_of image.now) i ≡ true) × (validated (tree_of image.now) i ≡ true) }
+    ensures { data_size_tells result ≡ answer (sizes_of (data_sizes (tree_of image.now) (parent (tree_of image.now) i))) }
 {
     DataSize::Sizes {
         directions: RecordNumbers::read(image, i).rank,
@@ -55,7 +55,7 @@ fn array_sizes(image: &[u8], i: usize) -> DataSize
 
 // The DataSize of a coordinate or flow array in each direction: validation's rejection, then 40. A direction that the array lacks is 0.
 pub fn data_size(image: &[u8], node: u64) -> DataSize
-    ensures { dataSizeTells result ≡ dataSizeAnswer image.now node }
+    ensures { data_size_tells result ≡ data_size_answer image.now node }
 {
     let mut index: [u16; 16384] = [0; 16384];
     let s = crate::image_stage(image, &mut index);

@@ -12,8 +12,8 @@ use lib.ListN.{length, take, drop, length-drop}
 use lib.Seq.{drop-drop}
 use borrow.Author.Tests.{eqb-true, eqb-false, eq-eqb, ne_eqb}
 use Rattle.model.specs.Bytes.{le}
-use Rattle.model.specs.NameBytes.{firstDifference}
-use Rattle.words.specs.Difference.{gap_of, sameBytes}
+use Rattle.model.specs.NameBytes.{first_difference}
+use Rattle.words.specs.Difference.{gap_of, same_bytes}
 use Rattle.words.proofs.Same.{Bytes, byte_pair, bytes_drop}
 
 -- an even number has a zero more than its half
@@ -22,65 +22,65 @@ unfolding count_trailing_zeros
 even k m = let e : 2 * m % 2 ≡ 0 = omega arith in let f : 2 * m / 2 ≡ m = omega arith in rw (e, f)
 
 -- a byte of zeros
-whole-byte : (k m : ℕ) → count_trailing_zeros (8 + k) (256 * m) ≡ 8 + count_trailing_zeros k m
-whole-byte k m =
+whole_byte : (k m : ℕ) → count_trailing_zeros (8 + k) (256 * m) ≡ 8 + count_trailing_zeros k m
+whole_byte k m =
     let a : 256 * m ≡ 2 * (2 * (2 * (2 * (2 * (2 * (2 * (2 * m))))))) = omega arith in
     let b : 8 + k ≡ suc (suc (suc (suc (suc (suc (suc (suc k))))))) = omega arith in
     rw (a, b, even, even, even, even, even, even, even, even) (omega arith)
 
 -- a byte that is not zero
-part-byte : (j k n : ℕ) → ((m : ℕ) → n ≡ 2 ^ j * m → ⊥) → count_trailing_zeros (j + k) n < j
+part_byte : (j k n : ℕ) → ((m : ℕ) → n ≡ 2 ^ j * m → ⊥) → count_trailing_zeros (j + k) n < j
 unfolding count_trailing_zeros
-part-byte zero k n f = absurd (f n (omega arith))
-part-byte (suc j) k n f =
+part_byte zero k n f = absurd (f n (omega arith))
+part_byte (suc j) k n f =
     elim (ℕ_discrete (n % 2) 0) [
-      | yes e ↦ let h = part-byte j k (n / 2) (λ m g. f m (twice m e g)) in rw (suc-add, e) (omega arith)
+      | yes e ↦ let h = part_byte j k (n / 2) (λ m g. f m (twice m e g)) in rw (suc-add, e) (omega arith)
       | no z ↦ let e : n % 2 ≡ 1 = omega (arith, z) in rw (suc-add, e) (omega arith)
     ]
   where
     twice : (m : ℕ) → n % 2 ≡ 0 → n / 2 ≡ 2 ^ j * m → n ≡ 2 ^ suc j * m
     twice m e g = let d : n ≡ 2 * (n / 2) = omega arith in d ∙ rw (g, pow-succ') (sym (mul_assoc 2 (2 ^ j) m))
 
-pub shared-bytes : (w x y : ℕ) → count_trailing_zeros (8 * w) (gap_of x y) / 8 ≡ sameBytes w x y
-unfolding sameBytes count_trailing_zeros
-shared-bytes zero x y = refl
-shared-bytes (suc w) x y = by-test (eqb (x % 256) (y % 256)) refl (shared-bytes w (x / 256) (y / 256))
+pub shared_bytes : (w x y : ℕ) → count_trailing_zeros (8 * w) (gap_of x y) / 8 ≡ same_bytes w x y
+unfolding same_bytes count_trailing_zeros
+shared_bytes zero x y = refl
+shared_bytes (suc w) x y = by_test (eqb (x % 256) (y % 256)) refl (shared_bytes w (x / 256) (y / 256))
   where
-    by-test : (t : Bool) → eqb (x % 256) (y % 256) ≡ t → count_trailing_zeros (8 * w) (gap_of (x / 256) (y / 256)) / 8 ≡ sameBytes w (x / 256) (y / 256)
-        → count_trailing_zeros (8 * suc w) (gap_of x y) / 8 ≡ cond t (suc (sameBytes w (x / 256) (y / 256))) 0
-    by-test true e h =
+    by_test : (t : Bool) → eqb (x % 256) (y % 256) ≡ t → count_trailing_zeros (8 * w) (gap_of (x / 256) (y / 256)) / 8 ≡ same_bytes w (x / 256) (y / 256)
+        → count_trailing_zeros (8 * suc w) (gap_of x y) / 8 ≡ cond t (suc (same_bytes w (x / 256) (y / 256))) 0
+    by_test true e h =
         let q = eqb-true (x % 256) (y % 256) e in
         let g : gap_of x y ≡ 256 * gap_of (x / 256) (y / 256) = omega arith in
         let k : 8 * suc w ≡ 8 + 8 * w = omega arith in
-        rw (g, k, whole-byte (8 * w) (gap_of (x / 256) (y / 256)), ← h) (omega arith)
-    by-test false e h =
+        rw (g, k, whole_byte (8 * w) (gap_of (x / 256) (y / 256)), ← h) (omega arith)
+    by_test false e h =
         let q = eqb-false (x % 256) (y % 256) e in
         let k : 8 * suc w ≡ 8 + 8 * w = omega arith in
-        let p : count_trailing_zeros (8 + 8 * w) (gap_of x y) < 8 = part-byte 8 (8 * w) (gap_of x y) (λ m g. q (omega arith)) in
+        let p : count_trailing_zeros (8 + 8 * w) (gap_of x y) < 8 = part_byte 8 (8 * w) (gap_of x y) (λ m g. q (omega arith)) in
         rw k (omega arith)
 
 -- two numbers that differ do not share all bytes
-pub some-differ : (w x y : ℕ) → x < 256 ^ w → y < 256 ^ w → (x ≡ y → ⊥) → sameBytes w x y < w
-unfolding sameBytes
-some-differ zero x y h l n = absurd (n (omega arith))
-some-differ (suc w) x y h l n = by-test (eqb (x % 256) (y % 256)) refl (λ z. some-differ w (x / 256) (y / 256) (below x h) (below y l) z)
+pub some_differ : (w x y : ℕ) → x < 256 ^ w → y < 256 ^ w → (x ≡ y → ⊥) → same_bytes w x y < w
+unfolding same_bytes
+some_differ zero x y h l n = absurd (n (omega arith))
+some_differ (suc w) x y h l n = by_test (eqb (x % 256) (y % 256)) refl (λ z. some_differ w (x / 256) (y / 256) (below x h) (below y l) z)
   where
     below : (v : ℕ) → v < 256 ^ suc w → v / 256 < 256 ^ w
     below v k = let p = rw pow-succ' at k in omega arith
 
-    by-test : (t : Bool) → eqb (x % 256) (y % 256) ≡ t → ((x / 256 ≡ y / 256 → ⊥) → sameBytes w (x / 256) (y / 256) < w)
-        → cond t (suc (sameBytes w (x / 256) (y / 256))) 0 < suc w
-    by-test true e later =
+    by_test : (t : Bool) → eqb (x % 256) (y % 256) ≡ t → ((x / 256 ≡ y / 256 → ⊥) → same_bytes w (x / 256) (y / 256) < w)
+        → cond t (suc (same_bytes w (x / 256) (y / 256))) 0 < suc w
+    by_test true e later =
         let q = eqb-true (x % 256) (y % 256) e in
         let r = later (λ (z : x / 256 ≡ y / 256). n (omega arith)) in
         omega arith
-    by-test false e later = omega arith
+    by_test false e later = omega arith
 
 -- the first word decides, or what comes after it
 word : (w r : ℕ) (s u : List ℕ) → w ≤ length s → w ≤ length u → Bytes s → Bytes u
-    → firstDifference (take (w + r) s) (take (w + r) u)
-    ≡ cond (eqb (le w s) (le w u)) (w + firstDifference (take r (drop w s)) (take r (drop w u))) (suc (sameBytes w (le w s) (le w u)))
-unfolding firstDifference le sameBytes
+    → first_difference (take (w + r) s) (take (w + r) u)
+    ≡ cond (eqb (le w s) (le w u)) (w + first_difference (take r (drop w s)) (take r (drop w u))) (suc (same_bytes w (le w s) (le w u)))
+unfolding first_difference le same_bytes
 word zero r s u h l a b = let e : 0 + r ≡ r = omega arith in rw e (omega arith)
 word (suc w) r [] u h l a b = absurd (omega arith)
 word (suc w) r (x ∷ s) [] h l a b = absurd (omega arith)
@@ -92,7 +92,7 @@ word (suc w) r (x ∷ s) (y ∷ u) h l a b =
     let g : (x + 256 * le w s) / 256 ≡ le w s = omega arith in
     let i : (y + 256 * le w u) / 256 ≡ le w u = omega arith in
     rw (suc-add, byte_pair x y (le w s) (le w u) p q, e, f, g, i, word w r s u (omega arith) (omega arith) (λ j. a (suc j)) (λ j. b (suc j)))
-    (by_tests (eqb x y) (eqb (le w s) (le w u)) (firstDifference (take r (drop w s)) (take r (drop w u))) (sameBytes w (le w s) (le w u)))
+    (by_tests (eqb x y) (eqb (le w s) (le w u)) (first_difference (take r (drop w s)) (take r (drop w u))) (same_bytes w (le w s) (le w u)))
   where
     by_tests : (t v : Bool) (m n : ℕ) → cond t (suc (cond v (w + m) (suc n))) 1 ≡ cond (t && v) (suc w + m) (suc (cond t (suc n) 0))
     by_tests true true m n = omega arith
@@ -102,22 +102,22 @@ word (suc w) r (x ∷ s) (y ∷ u) h l a b =
 -- two fields of n bytes are the same up to byte d: what is left gives the whole
 pub record Agree (n : ℕ) (a : List ℕ) (p : ℕ) (b : List ℕ) (q d : ℕ) : Type 0 where
   pub inside : d ≤ n
-  pub rest : d + firstDifference (take (n - d) (drop (p + d) a)) (take (n - d) (drop (q + d) b)) ≡ firstDifference (take n (drop p a)) (take n (drop q b))
+  pub rest : d + first_difference (take (n - d) (drop (p + d) a)) (take (n - d) (drop (q + d) b)) ≡ first_difference (take n (drop p a)) (take n (drop q b))
 
-pub agree-start : (n : ℕ) (a : List ℕ) (p : ℕ) (b : List ℕ) (q : ℕ) → Agree n a p b q 0
-agree-start n a p b q = let e : n - 0 ≡ n = omega arith in record { inside = omega arith; rest = rw (add-zero p, add-zero q, e) (omega arith) }
+pub agree_start : (n : ℕ) (a : List ℕ) (p : ℕ) (b : List ℕ) (q : ℕ) → Agree n a p b q 0
+agree_start n a p b q = let e : n - 0 ≡ n = omega arith in record { inside = omega arith; rest = rw (add-zero p, add-zero q, e) (omega arith) }
 
 module _ {n : ℕ} {a b : List ℕ} {p q d : ℕ} (l : Agree n a p b q d) where
-  pub agree-done : n ≤ d → suc n ≡ firstDifference (take n (drop p a)) (take n (drop q b))
-  unfolding firstDifference
+  pub agree-done : n ≤ d → suc n ≡ first_difference (take n (drop p a)) (take n (drop q b))
+  unfolding first_difference
   agree-done k = let i = l.inside in let e : n - d ≡ 0 = omega arith in let r = rw e at l.rest in omega arith
 
   -- the next word of w bytes
   module _ (h : p + n ≤ length a) (m : q + n ≤ length b) (w : ℕ) (k : d + w ≤ n) (f : Bytes a) (g : Bytes b) where
     next : d + cond (eqb (le w (drop (p + d) a)) (le w (drop (q + d) b)))
-        (w + firstDifference (take (n - (d + w)) (drop (p + (d + w)) a)) (take (n - (d + w)) (drop (q + (d + w)) b)))
-        (suc (sameBytes w (le w (drop (p + d) a)) (le w (drop (q + d) b))))
-        ≡ firstDifference (take n (drop p a)) (take n (drop q b))
+        (w + first_difference (take (n - (d + w)) (drop (p + (d + w)) a)) (take (n - (d + w)) (drop (q + (d + w)) b)))
+        (suc (same_bytes w (le w (drop (p + d) a)) (le w (drop (q + d) b))))
+        ≡ first_difference (take n (drop p a)) (take n (drop q b))
     next =
         let r = n - (d + w) in
         let e : n - d ≡ w + r = omega arith in
@@ -126,12 +126,12 @@ module _ {n : ℕ} {a b : List ℕ} {p q d : ℕ} (l : Agree n a p b q d) where
         let s = word w r (drop (p + d) a) (drop (q + d) b) (rw length-drop (omega arith)) (rw length-drop (omega arith)) (bytes_drop (p + d) a f) (bytes_drop (q + d) b g) in
         ap (λ (z : ℕ). d + z) (sym (rw (drop-drop w (p + d) a, drop-drop w (q + d) b, x, y) at s)) ∙ rw e at l.rest
 
-    pub agree-more : le w (drop (p + d) a) ≡ le w (drop (q + d) b) → Agree n a p b q (d + w)
-    agree-more e =
+    pub agree_more : le w (drop (p + d) a) ≡ le w (drop (q + d) b) → Agree n a p b q (d + w)
+    agree_more e =
         let t = eq-eqb (le w (drop (p + d) a)) (le w (drop (q + d) b)) e in
         let r = rw t at next in
         record { inside = k; rest = omega arith }
 
-    pub agree-stop : (le w (drop (p + d) a) ≡ le w (drop (q + d) b) → ⊥)
-        → d + suc (sameBytes w (le w (drop (p + d) a)) (le w (drop (q + d) b))) ≡ firstDifference (take n (drop p a)) (take n (drop q b))
-    agree-stop e = rw (ne_eqb (le w (drop (p + d) a)) (le w (drop (q + d) b)) e) at next
+    pub agree_stop : (le w (drop (p + d) a) ≡ le w (drop (q + d) b) → ⊥)
+        → d + suc (same_bytes w (le w (drop (p + d) a)) (le w (drop (q + d) b))) ≡ first_difference (take n (drop p a)) (take n (drop q b))
+    agree_stop e = rw (ne_eqb (le w (drop (p + d) a)) (le w (drop (q + d) b)) e) at next

@@ -18,13 +18,13 @@ abbrev pub Bytes : List ℕ → Type 0
 Bytes s = (i : ℕ) → get_or s i 0 < 256
 
 pub byte_pair : (x y m n : ℕ) → x < 256 → y < 256 → eqb (x + 256 * m) (y + 256 * n) ≡ (eqb x y && eqb m n)
-byte_pair x y m n h l = by-test (eqb x y) (eqb m n) refl refl
+byte_pair x y m n h l = by_test (eqb x y) (eqb m n) refl refl
   where
-    by-test : (a b : Bool) → eqb x y ≡ a → eqb m n ≡ b → eqb (x + 256 * m) (y + 256 * n) ≡ (a && b)
-    by-test true true e f = let p = eqb-true x y e in let q = eqb-true m n f in eq-eqb (x + 256 * m) (y + 256 * n) (omega arith)
-    by-test true false e f = let p = eqb-true x y e in let q = eqb-false m n f in
+    by_test : (a b : Bool) → eqb x y ≡ a → eqb m n ≡ b → eqb (x + 256 * m) (y + 256 * n) ≡ (a && b)
+    by_test true true e f = let p = eqb-true x y e in let q = eqb-true m n f in eq-eqb (x + 256 * m) (y + 256 * n) (omega arith)
+    by_test true false e f = let p = eqb-true x y e in let q = eqb-false m n f in
         ne_eqb (x + 256 * m) (y + 256 * n) (λ (z : x + 256 * m ≡ y + 256 * n). q (omega arith))
-    by-test false b e f = let q = eqb-false x y e in ne_eqb (x + 256 * m) (y + 256 * n) (λ (z : x + 256 * m ≡ y + 256 * n). q (omega arith))
+    by_test false b e f = let q = eqb-false x y e in ne_eqb (x + 256 * m) (y + 256 * n) (λ (z : x + 256 * m ≡ y + 256 * n). q (omega arith))
 
 -- two lists of bytes are the same where their first words are, and what comes after them
 pub same_word : (w : ℕ) (s t : List ℕ) → w ≤ length s → w ≤ length t → Bytes s → Bytes t
@@ -119,8 +119,8 @@ module _ {n : ℕ} {a b : List ℕ} {p q d : ℕ} (l : Same n a p b q d) (h : p 
           drop-drop w (q + d) b,
         )
 
-    pub same-more-word : le w (drop (p + d) a) ≡ le w (drop (q + d) b) → Same n a p b q (d + w)
-    same-more-word e = on w k _ word (eq-eqb _ _ e)
+    pub same_more_word : le w (drop (p + d) a) ≡ le w (drop (q + d) b) → Same n a p b q (d + w)
+    same_more_word e = on w k _ word (eq-eqb _ _ e)
 
-    pub same-stop-word : (le w (drop (p + d) a) ≡ le w (drop (q + d) b) → ⊥) → false ≡ same (take n (drop p a)) (take n (drop q b))
-    same-stop-word e = off w k _ word (ne_eqb _ _ e)
+    pub same_stop_word : (le w (drop (p + d) a) ≡ le w (drop (q + d) b) → ⊥) → false ≡ same (take n (drop p a)) (take n (drop q b))
+    same_stop_word e = off w k _ word (ne_eqb _ _ e)

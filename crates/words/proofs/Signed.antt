@@ -12,7 +12,7 @@ use mir.Syntax.{Width, w32, w64}
 use mir.Val.{SFits, to_z, of_z, hbits}
 use mir.Facts.{to_z_pos, to_z-of_z}
 use Rattle.model.specs.Bytes.{half, negative, signed, magnitude}
-use Rattle.words.specs.Width.{twos, isWidth}
+use Rattle.words.specs.Width.{twos, is_width}
 
 minus : (m : ℕ) → negsuc 0 -ℤ pos m ≡ negsuc m
 minus zero = refl
@@ -34,9 +34,9 @@ module _ (h x : ℕ) (small : h ≤ 2 ^ 63) where
       ap (λ z. negsuc 0 -ℤ z) (to_z_pos w64 {n = h - 1 - (x - h)} (omega arith)) ∙ minus (h - 1 - (x - h))
       ∙ simp (le-leb h x l) (ap negsuc (omega arith))
 
-  pub twos-fits : h ≤ x → x < h + h → SFits w64 (twos h x)
+  pub twos_fits : h ≤ x → x < h + h → SFits w64 (twos h x)
   unfolding twos
-  twos-fits l m = simp (le-leb h x l) (record { sfits = omega arith })
+  twos_fits l m = simp (le-leb h x l) (record { sfits = omega arith })
 
 -- what the test `x < 0` tells of a signed x of the width w
 module _ (w : Width) where
@@ -62,14 +62,14 @@ module _ (w : Width) where
     pub less : lt_z (to_z w (of_z w z)) (pos 0) ≡ true → SFits w (negsuc 0 -ℤ to_z w (of_z w z))
     less t = let d = down t in rw (to_z-of_z f, d.0) (record { sfits = omega arith })
 
-    pub less-back : lt_z (to_z w (of_z w z)) (pos 0) ≡ true → to_z w (of_z w (negsuc 0 -ℤ to_z w (of_z w z))) ≡ pos (nat_abs z - 1)
-    less-back t = rw (to_z-of_z (less t), to_z-of_z f) (down t).0
+    pub less_back : lt_z (to_z w (of_z w z)) (pos 0) ≡ true → to_z w (of_z w (negsuc 0 -ℤ to_z w (of_z w z))) ≡ pos (nat_abs z - 1)
+    less_back t = rw (to_z-of_z (less t), to_z-of_z f) (down t).0
 
-pub eight : (k : ℕ) → T (isWidth k) → (k ≡ 4 → ⊥) → k ≡ 8
+pub eight : (k : ℕ) → T (is_width k) → (k ≡ 4 → ⊥) → k ≡ 8
 eight k t n = eqb→eq k 8 (simp (ne_eqb k 4 n) at t)
 
 -- half of the patterns of 4 or 8 bytes
-pub half_is : (w : ℕ) → T (isWidth w) → (256 ^ w ≡ half w + half w) × ((2147483648 ≤ half w) × (half w ≤ 9223372036854775808))
+pub half_is : (w : ℕ) → T (is_width w) → (256 ^ w ≡ half w + half w) × ((2147483648 ≤ half w) × (half w ≤ 9223372036854775808))
 unfolding half
 half_is w t =
     elim (ℕ_discrete w 4) [
@@ -85,42 +85,42 @@ signed_is w x = let e : half w + half w - suc x ≡ 2 * half w - suc x = omega a
 -- the magnitude of the number is the magnitude of its bits
 pub magnitude-is : (w x : ℕ) → x < 2 * half w → nat_abs (signed w x) ≡ magnitude w x
 unfolding signed magnitude
-magnitude-is w x h = by-test (negative w x)
+magnitude-is w x h = by_test (negative w x)
   where
-    by-test : (t : Bool) → nat_abs (cond t (negsuc (2 * half w - suc x)) (pos x)) ≡ cond t (2 * half w - x) x
-    by-test true = omega arith
-    by-test false = refl
+    by_test : (t : Bool) → nat_abs (cond t (negsuc (2 * half w - suc x)) (pos x)) ≡ cond t (2 * half w - x) x
+    by_test true = omega arith
+    by_test false = refl
 
 -- a number of 4 bytes fits in 32 bits
 pub fits32 : (x : ℕ) → x < 4294967296 → SFits w32 (signed 4 x)
 unfolding signed negative half
-fits32 x h = by-test (leb (half 4) x) refl
+fits32 x h = by_test (leb (half 4) x) refl
   where
-    by-test : (t : Bool) → leb (half 4) x ≡ t → SFits w32 (cond t (negsuc (2 * half 4 - suc x)) (pos x))
-    by-test true e = record { sfits = omega (arith, leb-true (half 4) x e) }
-    by-test false e = record { sfits = leb-false _ _ e }
+    by_test : (t : Bool) → leb (half 4) x ≡ t → SFits w32 (cond t (negsuc (2 * half 4 - suc x)) (pos x))
+    by_test true e = record { sfits = omega (arith, leb-true (half 4) x e) }
+    by_test false e = record { sfits = leb-false _ _ e }
 
 -- the upper half of 2 ^ 32 patterns moved below 0
 module _ (x : ℕ) (l : x < 4294967296) where
   pub extended : to_z w64 ((x + 2147483648) % 4294967296) -ℤ pos 2147483648 ≡ twos 2147483648 x
   unfolding twos
-  extended = ap (λ z. z -ℤ pos 2147483648) (to_z_pos w64 {n = (x + 2147483648) % 4294967296} (omega arith)) ∙ by-test (leb 2147483648 x) refl
+  extended = ap (λ z. z -ℤ pos 2147483648) (to_z_pos w64 {n = (x + 2147483648) % 4294967296} (omega arith)) ∙ by_test (leb 2147483648 x) refl
     where
-      by-test : (t : Bool) → leb 2147483648 x ≡ t
+      by_test : (t : Bool) → leb 2147483648 x ≡ t
           → pos ((x + 2147483648) % 4294967296) -ℤ pos 2147483648 ≡ cond t (negsuc (2147483648 + 2147483648 - suc x)) (pos x)
-      by-test true e =
+      by_test true e =
           let h = leb-true 2147483648 x e in
           let m : (x + 2147483648) % 4294967296 ≡ x - 2147483648 = omega arith in
           rw (m, lt-ltb (x - 2147483648) 2147483648 (omega arith)) (ap negsuc (omega arith))
-      by-test false e =
+      by_test false e =
           let h = leb-false 2147483648 x e in
           let m : (x + 2147483648) % 4294967296 ≡ x + 2147483648 = omega arith in
           rw (m, le-ltb (x + 2147483648) 2147483648 (omega arith)) (ap pos (omega arith))
 
   pub extended_fits : SFits w64 (twos 2147483648 x)
   unfolding twos
-  extended_fits = by-test (leb 2147483648 x) refl
+  extended_fits = by_test (leb 2147483648 x) refl
     where
-      by-test : (t : Bool) → leb 2147483648 x ≡ t → SFits w64 (cond t (negsuc (2147483648 + 2147483648 - suc x)) (pos x))
-      by-test true e = record { sfits = omega (arith, leb-true 2147483648 x e) }
-      by-test false e = record { sfits = omega (arith, leb-false 2147483648 x e) }
+      by_test : (t : Bool) → leb 2147483648 x ≡ t → SFits w64 (cond t (negsuc (2147483648 + 2147483648 - suc x)) (pos x))
+      by_test true e = record { sfits = omega (arith, leb-true 2147483648 x e) }
+      by_test false e = record { sfits = omega (arith, leb-false 2147483648 x e) }

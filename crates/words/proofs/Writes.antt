@@ -6,13 +6,13 @@ use native.Mathlib.Omega.{arith}
 use native.Mathlib.Numerals.{add-one}
 use lib.ListN.{length, get_or, take, drop, set, length-set, drop_of_length-le}
 use lib.Seq.{take-suc-set, drop-set-lt, drop-drop, drop-cons}
-use Rattle.model.specs.Lists.{over, overAt}
+use Rattle.model.specs.Lists.{over, over_at}
 use Rattle.model.specs.Bytes.{le_bytes}
-use Rattle.model.proofs.Overlays.{overAt-nil}
+use Rattle.model.proofs.Overlays.{over_at_nil}
 
-pub overAt-cons : (k : ℕ) (out : List ℕ) (y : ℕ) (ys : List ℕ) → k < length out → overAt k out (y ∷ ys) ≡ overAt (k + 1) (set out k y) ys
-unfolding overAt over
-overAt-cons k out y ys h =
+pub over_at-cons : (k : ℕ) (out : List ℕ) (y : ℕ) (ys : List ℕ) → k < length out → over_at k out (y ∷ ys) ≡ over_at (k + 1) (set out k y) ys
+unfolding over_at over
+over_at-cons k out y ys h =
     let e : k + suc (length ys) ≡ suc k + length ys = omega arith in
     rw (add-one k, take-suc-set out k y, drop-set-lt (suc k) out k y (omega arith), drop-drop (length ys) (suc k) out, drop-drop (suc (length ys)) k out, e)
     (sym (append_assoc (take k out) (y ∷ []) (ys ++ drop (suc k + length ys) out)))
@@ -21,7 +21,7 @@ overAt-cons k out y ys h =
 pub record Left (out₀ all : List ℕ) (at : ℕ) (out : List ℕ) (k : ℕ) (rest : List ℕ) : Type 0 where
   pub long : length out ≡ length out₀
   pub count : k + length rest ≡ length all
-  pub whole : overAt (at + k) out rest ≡ overAt at out₀ all
+  pub whole : over_at (at + k) out rest ≡ over_at at out₀ all
 
 pub start : (out all : List ℕ) (at : ℕ) → Left out all at out 0 all
 start out all at = let e : at + 0 ≡ at = omega arith in record { long = refl; count = omega arith; whole = rw e }
@@ -34,15 +34,15 @@ more {at = at} {out = out} {k = k} {y = y} {ys = ys} l g =
     record {
       long = length-set out (at + k) y ∙ l.long;
       count = omega arith;
-      whole = ap (λ (j : ℕ). overAt j (set out (at + k) y) ys) (sym f) ∙ sym (overAt-cons (at + k) out y ys (omega (arith, l.long, c))) ∙ l.whole;
+      whole = ap (λ (j : ℕ). over_at j (set out (at + k) y) ys) (sym f) ∙ sym (over_at-cons (at + k) out y ys (omega (arith, l.long, c))) ∙ l.whole;
     }
 
-pub done : {out₀ all : List ℕ} {at : ℕ} {out : List ℕ} {k : ℕ} {rest : List ℕ} → Left out₀ all at out k rest → length all ≤ k → out ≡ overAt at out₀ all
-done {out₀} {all} {at} {out} {k} {rest} l h = by-rest rest l.count l.whole
+pub done : {out₀ all : List ℕ} {at : ℕ} {out : List ℕ} {k : ℕ} {rest : List ℕ} → Left out₀ all at out k rest → length all ≤ k → out ≡ over_at at out₀ all
+done {out₀} {all} {at} {out} {k} {rest} l h = by_rest rest l.count l.whole
   where
-    by-rest : (rest : List ℕ) → k + length rest ≡ length all → overAt (at + k) out rest ≡ overAt at out₀ all → out ≡ overAt at out₀ all
-    by-rest [] c w = sym (overAt-nil (at + k) out) ∙ w
-    by-rest (y ∷ ys) c w = absurd (omega arith)
+    by_rest : (rest : List ℕ) → k + length rest ≡ length all → over_at (at + k) out rest ≡ over_at at out₀ all → out ≡ over_at at out₀ all
+    by_rest [] c w = sym (over_at_nil (at + k) out) ∙ w
+    by_rest (y ∷ ys) c w = absurd (omega arith)
 
 -- the bytes of a number
 pub word_more : {out₀ all : List ℕ} {at : ℕ} {out : List ℕ} {k : ℕ} (width r : ℕ) → Left out₀ all at out k (le_bytes (width - k) r) → k < width
@@ -53,18 +53,18 @@ word_more {out₀} {all} {at} {out} {k} width r l h g =
     let m : Left out₀ all at out k (r % 256 ∷ le_bytes (width - (k + 1)) (r / 256)) = rw e at l in
     more m g
 
-pub word-start : (out : List ℕ) (at width x : ℕ) → Left out (le_bytes width x) at out 0 (le_bytes (width - 0) x)
-word-start out at width x = let e : width - 0 ≡ width = omega arith in rw e (start out (le_bytes width x) at)
+pub word_start : (out : List ℕ) (at width x : ℕ) → Left out (le_bytes width x) at out 0 (le_bytes (width - 0) x)
+word_start out at width x = let e : width - 0 ≡ width = omega arith in rw e (start out (le_bytes width x) at)
 
 -- the bytes of a list
-pub bytes-more : {out₀ s : List ℕ} {at : ℕ} {out : List ℕ} {k : ℕ} → Left out₀ s at out k (drop k s) → k < length s → at + length s ≤ length out₀
+pub bytes_more : {out₀ s : List ℕ} {at : ℕ} {out : List ℕ} {k : ℕ} → Left out₀ s at out k (drop k s) → k < length s → at + length s ≤ length out₀
     → Left out₀ s at (set out (at + k) (get_or s k 0)) (k + 1) (drop (k + 1) s)
-bytes-more {out₀} {s} {at} {out} {k} l h g =
+bytes_more {out₀} {s} {at} {out} {k} l h g =
     let e : suc k ≡ k + 1 = omega arith in
     let m : Left out₀ s at out k (get_or s k 0 ∷ drop (suc k) s) = rw (drop-cons s k 0 h) at l in
     more (subst (λ (j : ℕ). Left out₀ s at out k (get_or s k 0 ∷ drop j s)) e m) g
 
 -- a list that fills the room
-pub filled : (out new : List ℕ) → length out ≤ length new → overAt 0 out new ≡ new
-unfolding overAt over
+pub filled : (out new : List ℕ) → length out ≤ length new → over_at 0 out new ≡ new
+unfolding over_at over
 filled out new h = rw (drop_of_length-le out {i = length new} h) (append-nil new)

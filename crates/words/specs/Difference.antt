@@ -6,6 +6,6 @@ abbrev pub gap_of : ℕ → ℕ → ℕ
 gap_of x y = (x - y) + (y - x)
 
 -- how many of the w lowest bytes are the same, before the first that differs
-unfoldable pub sameBytes : ℕ → ℕ → ℕ → ℕ
-sameBytes zero x y = 0
-sameBytes (suc w) x y = let rest = sameBytes w (x / 256) (y / 256) in cond (eqb (x % 256) (y % 256)) (suc rest) 0
+unfoldable pub same_bytes : ℕ → ℕ → ℕ → ℕ
+same_bytes zero x y = 0
+same_bytes (suc w) x y = let rest = same_bytes w (x / 256) (y / 256) in cond (eqb (x % 256) (y % 256)) (suc rest) 0

@@ -1,10 +1,10 @@
 // Little-endian words and two's-complement numbers at a place of a byte slice.
 ghost use Rattle.std.specs.Prelude.{◌≡◌, ◌+◌, ◌*◌, ◌^◌, ◌≤◌, ◌<◌, T, nat_abs, length, get_or, take, drop};
-ghost use Rattle.model.specs.Lists.{overAt};
+ghost use Rattle.model.specs.Lists.{over_at};
 ghost use Rattle.model.specs.Bytes.{le, le_bytes, all_bytes, signed};
-ghost use Rattle.model.specs.NameBytes.{firstDifference};
-ghost use Rattle.words.specs.Difference.{gap_of, sameBytes};
-ghost use Rattle.words.specs.Width.{isWidth, twos};
+ghost use Rattle.model.specs.NameBytes.{first_difference};
+ghost use Rattle.words.specs.Difference.{gap_of, same_bytes};
+ghost use Rattle.words.specs.Width.{is_width, twos};
 
 // One byte, widened: its bound comes with it.
 pub fn byte_at(s: &[u8], at: usize) -> u64
@@ -60,7 +60,7 @@ fn gap(x: u64, y: u64) -> u64
 // How many low bytes two words that differ share before the first that does. There are at most 7: the remainder tells the compiler.
 fn same_bytes(x: u64, y: u64) -> usize
     requires { x ≡ y → ⊥ }
-    ensures { (result ≡ sameBytes 8 x y) × (result ≤ 7) }
+    ensures { (result ≡ same_bytes 8 x y) × (result ≤ 7) }
 {
     (u64::trailing_zeros(gap(x, y)) / 8 % 8) as usize
 }
@@ -69,7 +69,7 @@ fn same_bytes(x: u64, y: u64) -> usize
 // that has it.
 pub fn first_difference(a: &[u8], p: usize, b: &[u8], q: usize) -> usize
     requires { (p + 32 ≤ length a.now) × (q + 32 ≤ length b.now) }
-    ensures { (result ≡ firstDifference (take 32 (drop p a.now)) (take 32 (drop q b.now))) × ((1 ≤ result) × (result ≤ 33)) }
+    ensures { (result ≡ first_difference (take 32 (drop p a.now)) (take 32 (drop q b.now))) × ((1 ≤ result) × (result ≤ 33)) }
 {
     let mut j = 0;
     while j < 4 {
@@ -105,7 +105,7 @@ fn sign_extended(x: u64) -> i64
 
 // The signed number in `width` bytes from `at`, 4 or 8.
 pub fn signed_at(s: &[u8], at: usize, width: usize) -> i64
-    requires { (T (isWidth width)) × (at + width ≤ length s.now) }
+    requires { (T (is_width width)) × (at + width ≤ length s.now) }
     ensures { result ≡ signed width (le width (drop at s.now)) }
 {
     if width == 4 {
@@ -148,7 +148,7 @@ pub fn magnitude64(x: i64) -> u64
 // Writes x in `width` little-endian bytes from `at` on; the rest stays.
 pub fn put_word(out: &mut [u8], at: usize, width: usize, x: u64)
     requires { (width ≤ 8) × (at + width ≤ length out.old) }
-    ensures { out.new ≡ overAt at out.old (le_bytes width x) }
+    ensures { out.new ≡ over_at at out.old (le_bytes width x) }
 {
     let mut k: usize = 0;
     let mut rest = x;
@@ -162,7 +162,7 @@ pub fn put_word(out: &mut [u8], at: usize, width: usize, x: u64)
 // Writes the bytes of s from `at` on; the rest stays.
 pub fn put_bytes(out: &mut [u8], at: usize, s: &[u8])
     requires { at + length s.now ≤ length out.old }
-    ensures { out.new ≡ overAt at out.old s.now }
+    ensures { out.new ≡ over_at at out.old s.now }
 {
     let mut k: usize = 0;
     while k < s.len() {
@@ -174,7 +174,7 @@ pub fn put_bytes(out: &mut [u8], at: usize, s: &[u8])
 // Writes words of 8 bytes each from `at` on; the rest stays.
 pub fn put_words(out: &mut [u8], at: usize, words: &[u64])
     requires { at + 8 * length words.now ≤ length out.old }
-    ensures { out.new ≡ overAt at out.old (all_bytes 8 words.now) }
+    ensures { out.new ≡ over_at at out.old (all_bytes 8 words.now) }
 {
     let mut k: usize = 0;
     while k < words.len() {

@@ -8,13 +8,13 @@ use lib.Dec.{leb, ltb}
 use borrow.Author.Tests.{leb-true, ltb-true}
 use Rattle.model.specs.declared.Rejection.{Rejection}
 use Rattle.model.specs.Rules.{◌unless◌, Answer, rejected, answer, Check, passed, check, ◌then◌, ◌gives◌, leaves}
-use Rattle.model.specs.Image.{recordAt}
-use Rattle.model.proofs.Passed.{check-pass}
+use Rattle.model.specs.Image.{record_at}
+use Rattle.model.proofs.Passed.{check_pass}
 use Rattle.model.proofs.Staging.{check-append}
-use Rattle.table.specs.Groups.{textRules, typeRules}
+use Rattle.table.specs.Groups.{text_rules, type_rules}
 use Rattle.writer_model.specs.declared.Writer.{Writer}
-use Rattle.writer_model.specs.Writer.{Addition, room_for, neededRoom, treeWith, additionRules, addCheck}
-use Rattle.writer_rules.specs.Groups.{lineRules, sizesAfter}
+use Rattle.writer_model.specs.Writer.{Addition, room_for, needed_room, tree_with, addition_rules, add_check}
+use Rattle.writer_rules.specs.Groups.{line_rules, sizes_after}
 
 module _ {A : Type 0} (v : A) (room new : List ℕ) where
   pub refused : {c : Check} {r : Rejection} → c ≡ rejected r → (rejected r ≡ (c gives v)) × (room ≡ leaves c room new)
@@ -27,28 +27,28 @@ module _ {A : Type 0} (v : A) (room new : List ℕ) where
 
 -- before the node is looked at
 abbrev pub turn : Writer → ℕ → Check
-turn s room = check 0 (46 unless leb (neededRoom s) room ∷ 50 unless ltb s.node s.nodes ∷ [])
+turn s room = check 0 (46 unless leb (needed_room s) room ∷ 50 unless ltb s.node s.nodes ∷ [])
 
-pub turn-room : (s : Writer) (room : ℕ) → turn s room ≡ passed → recordAt s.node ≤ room
-unfolding neededRoom room_for
-turn-room s room e =
-    let h = check-pass 0 _ e in
-    omega (arith, leb-true (neededRoom s) room h.0, ltb-true s.node s.nodes h.1.0)
+pub turn_room : (s : Writer) (room : ℕ) → turn s room ≡ passed → record_at s.node ≤ room
+unfolding needed_room room_for
+turn_room s room e =
+    let h = check_pass 0 _ e in
+    omega (arith, leb-true (needed_room s) room h.0, ltb-true s.node s.nodes h.1.0)
 
 -- its rules, group by group
-abbrev pub rulesOf : Writer → Addition → List ℕ → Check
-rulesOf s a room =
-    let t = treeWith s a room in
+abbrev pub rules_of : Writer → Addition → List ℕ → Check
+rules_of s a room =
+    let t = tree_with s a room in
     let i = s.node in
-    check i (lineRules t i) then check i (textRules t i) then check i (typeRules t i) then check i (sizesAfter t s.word s.byte i)
+    check i (line_rules t i) then check i (text_rules t i) then check i (type_rules t i) then check i (sizes_after t s.word s.byte i)
 
 module _ (s : Writer) (a : Addition) (room : List ℕ) where
-  pub addition-groups : addCheck s a room ≡ (turn s (length room) then rulesOf s a room)
-  unfolding addCheck additionRules
-  addition-groups =
-      let t = treeWith s a room in
+  pub addition_groups : add_check s a room ≡ (turn s (length room) then rules_of s a room)
+  unfolding add_check addition_rules
+  addition_groups =
+      let t = tree_with s a room in
       let i = s.node in
-      let sizes = sizesAfter t s.word s.byte i in
+      let sizes = sizes_after t s.word s.byte i in
       ap (λ (c : Check). turn s (length room) then c)
-      (check-append i (lineRules t i) (textRules t i ++ typeRules t i ++ sizes) ∙ ap (λ (c : Check). check i (lineRules t i) then c)
-      (check-append i (textRules t i) (typeRules t i ++ sizes) ∙ ap (λ (c : Check). check i (textRules t i) then c) (check-append i (typeRules t i) sizes)))
+      (check-append i (line_rules t i) (text_rules t i ++ type_rules t i ++ sizes) ∙ ap (λ (c : Check). check i (line_rules t i) then c)
+      (check-append i (text_rules t i) (type_rules t i ++ sizes) ∙ ap (λ (c : Check). check i (text_rules t i) then c) (check-append i (type_rules t i) sizes)))

@@ -1,9 +1,9 @@
 // The writer: an image made node by node in a lent room. Each call answers on any state and any room; a refused one changes nothing.
 ghost use Rattle.std.specs.Prelude.{◌≡◌, [], ◌∷◌, ◌+◌, ◌≤◌, ◌<◌, leb, ltb, length};
 ghost use Rattle.model.specs.Rules.{◌unless◌, check};
-ghost use Rattle.model.specs.Answers.{stageTells, countTells};
-ghost use Rattle.writer_model.specs.Writer.{room_for, neededRoom, startCheck, startAnswer, startMemory, addCheck, addAnswer, addMemory, finishCheck, finishAnswer};
-ghost use Rattle.writer_model.specs.Answers.{writingTells};
+ghost use Rattle.model.specs.Answers.{stage_tells, count_tells};
+ghost use Rattle.writer_model.specs.Writer.{room_for, needed_room, start_check, start_answer, start_memory, add_check, add_answer, add_memory, finish_check, finish_answer};
+ghost use Rattle.writer_model.specs.Answers.{writing_tells};
 ghost use Rattle.writer_model.specs.Writer.{addition};
 
 use model::{Count, Stage};
@@ -27,14 +27,14 @@ fn room_for(nodes: u64, words: u64, bytes: u64) -> u64
 
 // The room that the image of a state needs.
 fn needed_room(state: Writer) -> u64
-    ensures { result ≡ neededRoom state }
+    ensures { result ≡ needed_room state }
 {
     room_for(state.nodes as u64, state.words as u64, state.bytes as u64)
 }
 
 // Why a start is refused: 4, 5, 1, 46.
 fn start_stage(nodes: u64, words: u64, bytes: u64, room: u64) -> Stage
-    ensures { stageTells result ≡ startCheck nodes words bytes room }
+    ensures { stage_tells result ≡ start_check nodes words bytes room }
 {
     if !table::is_within(nodes, 1, MAX_NODES) {
         return reject(4, 0);
@@ -54,8 +54,8 @@ fn start_stage(nodes: u64, words: u64, bytes: u64, room: u64) -> Stage
 
 // Starts an image of so many nodes, dimension words and data bytes: the needed room holds its header and zeros.
 pub fn start(nodes: u64, words: u64, bytes: u64, room: &mut [u8]) -> Writing
-    ensures result_value { writingTells result ≡ startAnswer nodes words bytes (length room.old) }
-    ensures room_after { room.new ≡ startMemory nodes words bytes room.old }
+    ensures result_value { writing_tells result ≡ start_answer nodes words bytes (length room.old) }
+    ensures room_after { room.new ≡ start_memory nodes words bytes room.old }
 {
     let s = start_stage(nodes, words, bytes, room.len() as u64);
     let Stage::Pass = s else {
@@ -74,7 +74,7 @@ pub fn start(nodes: u64, words: u64, bytes: u64, room: &mut [u8]) -> Writing
 
 // Why an addition is refused before the node is looked at: 46, 50.
 fn turn_stage(state: Writer, room: u64) -> Stage
-    ensures { stageTells result ≡ check 0 (46 unless leb (neededRoom state) room ∷ 50 unless ltb state.node state.nodes ∷ []) }
+    ensures { stage_tells result ≡ check 0 (46 unless leb (needed_room state) room ∷ 50 unless ltb state.node state.nodes ∷ []) }
 {
     if room < needed_room(state) {
         return reject(46, 0);
@@ -96,7 +96,7 @@ fn addition_stage(
     bytes: &[u8],
     room: &[u8],
 ) -> Stage
-    ensures { stageTells result ≡ addCheck state
+    ensures { stage_tells result ≡ add_check state
         (addition name.now label.now data_type.now dimensions.now parent bytes.now)
         room.now }
 {
@@ -145,10 +145,10 @@ pub fn add(
     bytes: &[u8],
     room: &mut [u8],
 ) -> Writing
-    ensures result_value { writingTells result ≡ addAnswer state
+    ensures result_value { writing_tells result ≡ add_answer state
         (addition name.now label.now data_type.now dimensions.now parent bytes.now)
         room.old }
-    ensures room_after { room.new ≡ addMemory state
+    ensures room_after { room.new ≡ add_memory state
         (addition name.now label.now data_type.now dimensions.now parent bytes.now)
         room.old }
 {
@@ -166,7 +166,7 @@ pub fn add(
 
 // Why an image is not finished before it is judged: 46, 51.
 fn end_stage(state: Writer, room: u64) -> Stage
-    ensures { stageTells result ≡ check 0 (46 unless leb (neededRoom state) room ∷ 51 unless leb state.nodes state.node ∷ []) }
+    ensures { stage_tells result ≡ check 0 (46 unless leb (needed_room state) room ∷ 51 unless leb state.nodes state.node ∷ []) }
 {
     if room < needed_room(state) {
         return reject(46, 0);
@@ -179,7 +179,7 @@ fn end_stage(state: Writer, room: u64) -> Stage
 
 // Why an image is not finished: 46, 51, then rules 1 to 18 of the needed room.
 fn finish_stage(state: Writer, room: &[u8]) -> Stage
-    ensures { stageTells result ≡ finishCheck state room.now }
+    ensures { stage_tells result ≡ finish_check state room.now }
 {
     let s = end_stage(state, room.len() as u64);
     let Stage::Pass = s else {
@@ -191,7 +191,7 @@ fn finish_stage(state: Writer, room: &[u8]) -> Stage
 
 // Judges the needed room by rules 1 to 18, and answers its length.
 pub fn finish(state: Writer, room: &[u8]) -> Count
-    ensures { countTells result ≡ finishAnswer state room.now }
+    ensures { count_tells result ≡ finish_answer state room.now }
 {
     let s = finish_stage(state, room);
     let Stage::Pass = s else {

@@ -3,9 +3,9 @@
 ghost use Rattle.std.specs.Prelude.{◌≡◌, ◌≤◌, length, take};
 ghost use Rattle.model.specs.Lists.{over};
 ghost use Rattle.model.specs.Bytes.{all_bytes};
-ghost use Rattle.model.specs.ReadList.{ruleOf};
-ghost use Rattle.writer_model.specs.Answers.{writingTells};
-ghost use Rattle.writer_model.specs.Exports.{stateIn, stateAfter, writingWords, StartExport, AddExport, FinishExport};
+ghost use Rattle.model.specs.ReadList.{rule_of};
+ghost use Rattle.writer_model.specs.Answers.{writing_tells};
+ghost use Rattle.writer_model.specs.Exports.{state_in, state_after, writing_words, StartExport, AddExport, FinishExport};
 ghost use Rattle.writer_model.specs.Writer.{addition};
 
 use answers::{ExportAnswer, count_answer, put_answer};
@@ -21,7 +21,7 @@ const FINISH_WORDS: usize = 3;
 // The state that six numbers are.
 fn state_in(state: &[u32]) -> Writer
     requires { 6 ≤ length state.now }
-    ensures { result ≡ stateIn state.now }
+    ensures { result ≡ state_in state.now }
 {
     Writer {
         nodes: state[0],
@@ -36,7 +36,7 @@ fn state_in(state: &[u32]) -> Writer
 // Writes the state that was answered; a refusal leaves the numbers.
 fn put_state(w: Writing, state: &mut [u32])
     requires { 6 ≤ length state.old }
-    ensures { state.new ≡ stateAfter (writingTells w) state.old }
+    ensures { state.new ≡ state_after (writing_tells w) state.old }
 {
     let Writing::State(s) = w else {
         return;
@@ -51,7 +51,7 @@ fn put_state(w: Writing, state: &mut [u32])
 
 // A start or an addition: node and entry.
 fn writing_answer(w: Writing) -> ExportAnswer
-    ensures { (result.rule ≡ ruleOf (writingTells w)) × (take 2 result.words ≡ writingWords (writingTells w)) }
+    ensures { (result.rule ≡ rule_of (writing_tells w)) × (take 2 result.words ≡ writing_words (writing_tells w)) }
 {
     match w {
         Writing::State(_) => ExportAnswer {
@@ -68,8 +68,8 @@ fn writing_answer(w: Writing) -> ExportAnswer
 // What a start or an addition told: the state and the answer's words are written, the rule is answered.
 fn put_writing(w: Writing, state: &mut [u32], answer: &mut [u8]) -> u64
     requires { (6 ≤ length state.old) × (16 ≤ length answer.old) }
-    ensures { (result ≡ ruleOf (writingTells w)) × ((state.new ≡ stateAfter (writingTells w) state.old)
-        × (answer.new ≡ over answer.old (all_bytes 8 (writingWords (writingTells w))))) }
+    ensures { (result ≡ rule_of (writing_tells w)) × ((state.new ≡ state_after (writing_tells w) state.old)
+        × (answer.new ≡ over answer.old (all_bytes 8 (writing_words (writing_tells w))))) }
 {
     put_state(w, state);
     put_answer(answer, writing_answer(w), WRITING_WORDS)

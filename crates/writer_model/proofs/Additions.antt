@@ -12,19 +12,19 @@ use lib.Dec.{eqb, leb, ltb}
 use borrow.Author.Tests.{leb-true, leb-false, ltb-true, eqb-true, ne_eqb, eqb-false}
 use Rattle.writer_model.specs.declared.Writer.{Writer}
 use Rattle.model.specs.Lists.{among}
-use Rattle.model.specs.Bytes.{numbers, placeFrom, spells, text, blank}
+use Rattle.model.specs.Bytes.{numbers, place_from, spells, text, blank}
 use Rattle.model.specs.Rules.{Rule, ◌unless◌, Check, passed, check}
-use Rattle.model.specs.Image.{Node, Tree, node_of, nodesOf, node, name, label, parent, dimensions, dataType, dataTypes, width, MT}
-use Rattle.model.specs.Records.{noParent, parentLawful, deeperThan, printable, labelLawful, nameLawful, nameTaken, namesake, sibling, link, rankLawful, dataSizeLawful}
-use Rattle.writer_model.specs.After.{rulesAfter}
+use Rattle.model.specs.Image.{Node, Tree, node_of, nodes_of, node, name, label, parent, dimensions, data_type_of, data_types, width, MT}
+use Rattle.model.specs.Records.{no_parent, parent_lawful, deeper_than, printable, label_lawful, name_lawful, name_taken, namesake, sibling, link, rank_lawful, data_size_lawful}
+use Rattle.writer_model.specs.After.{rules_after}
 use Rattle.model.specs.Bytes.{all_bytes}
-use Rattle.writer_model.specs.Writer.{Addition, padded, typeField, addedNode, treeWith, lineLawful, additionRules}
+use Rattle.writer_model.specs.Writer.{Addition, padded, type_field, added_node, tree_with, line_lawful, addition_rules}
 use Rattle.model.proofs.Logic.{untrue, and_first, and_second}
-use Rattle.model.proofs.Passed.{Hold, check-pass}
-use Rattle.model.proofs.LittleEndian.{length-allBytes}
-use Rattle.writer_model.proofs.Parts.{parts, parent-fits, fits}
-use Rattle.writer_model.proofs.SameTable.{other, same-tree, deeper-same}
-use Rattle.writer_model.proofs.Drafts.{allDims, allData, nodeFor, placed, recs, AllFit, dims-join, placed-join, allBytes-join, nodes-written, head, head-length, form, stateAfter, Room}
+use Rattle.model.proofs.Passed.{Hold, check_pass}
+use Rattle.model.proofs.LittleEndian.{length-all_bytes}
+use Rattle.writer_model.proofs.Parts.{parts, parent_fits, fits}
+use Rattle.writer_model.proofs.SameTable.{other, same-tree, deeper_same}
+use Rattle.writer_model.proofs.Drafts.{all_dims, all_data, node_for, placed, recs, AllFit, dims_join, placed_join, all_bytes_join, nodes-written, head, head_length, form, state_after, Room}
 
 -- the tree of the nodes added
 abbrev pub tree_for : ℕ → ℕ → List Addition → Tree
@@ -32,34 +32,34 @@ tree_for d x us =
     record {
       count = length us;
       nodes = placed 0 0 us;
-      wordTotal = d;
-      words = all_bytes 8 (allDims us);
-      areaAt = 0;
-      byteTotal = x;
-      bytes = allData us;
+      word_total = d;
+      words = all_bytes 8 (all_dims us);
+      area_at = 0;
+      byte_total = x;
+      bytes = all_data us;
     }
 
 pub placed-length : (w x : ℕ) (us : List Addition) → length (placed w x us) ≡ length us
 placed-length w x [] = refl
 placed-length w x (a ∷ us) = rw (placed-length (w + length a.dimensions) (x + length a.bytes) us)
 
-pub placed_snoc : (us : List Addition) (a : Addition) → placed 0 0 (us ++ a ∷ []) ≡ placed 0 0 us ++ nodeFor (length (allDims us)) (length (allData us)) a ∷ []
-placed_snoc us a = placed-join 0 0 us (a ∷ []) ∙ rw (zero-add (length (allDims us)), zero-add (length (allData us)))
+pub placed_snoc : (us : List Addition) (a : Addition) → placed 0 0 (us ++ a ∷ []) ≡ placed 0 0 us ++ node_for (length (all_dims us)) (length (all_data us)) a ∷ []
+placed_snoc us a = placed_join 0 0 us (a ∷ []) ∙ rw (zero-add (length (all_dims us)), zero-add (length (all_data us)))
 
 -- the same nodes, other words
 module _ (t : Tree) (ws bs : List ℕ) (area : ℕ) where
-  pub line_same : (d i : ℕ) → lineLawful (other t ws bs area) d i ≡ lineLawful t d i
-  unfolding lineLawful parentLawful parent node
+  pub line_same : (d i : ℕ) → line_lawful (other t ws bs area) d i ≡ line_lawful t d i
+  unfolding line_lawful parent_lawful parent node
   line_same zero i = refl
   line_same (suc d) i = rw (line_same d (parent t i))
 
-  pub rules-same : (w x i : ℕ) → dimensions (other t ws bs area) i ≡ dimensions t i → rulesAfter (other t ws bs area) w x i ≡ rulesAfter t w x i
-  unfolding parentLawful parent node name label nameTaken namesake sibling link dataType rankLawful dataSizeLawful width
-  rules-same w x i e = rw (deeper-same t ws bs area 32 i, e)
+  pub rules_same : (w x i : ℕ) → dimensions (other t ws bs area) i ≡ dimensions t i → rules_after (other t ws bs area) w x i ≡ rules_after t w x i
+  unfolding parent_lawful parent node name label name_taken namesake sibling link data_type_of rank_lawful data_size_lawful width
+  rules_same w x i e = rw (deeper_same t ws bs area 32 i, e)
 
 module _ (n d x : ℕ) (us : List Addition) (a : Addition) (rest : List ℕ) where
   abbrev last : Node
-  last = nodeFor (length (allDims us)) (length (allData us)) a
+  last = node_for (length (all_dims us)) (length (all_data us)) a
 
   abbrev more : Tree
   more = tree_for d x (us ++ a ∷ [])
@@ -69,33 +69,33 @@ module _ (n d x : ℕ) (us : List Addition) (a : Addition) (rest : List ℕ) whe
   last-node = rw (placed_snoc us a) (get_or_at (placed 0 0 us) last [] (node_of []) (length us) (placed-length 0 0 us))
 
   module _ (f : AllFit 0 0 us) where
-    room-nodes : nodesOf (length us) (drop 32 (form n d x us rest)) ≡ placed 0 0 us
+    room-nodes : nodes_of (length us) (drop 32 (form n d x us rest)) ≡ placed 0 0 us
     room-nodes =
-        ap (nodesOf (length us)) (drop_at (head n d x) _ 32 (head-length n d x) ∙ append_assoc (recs 0 0 us) _ _) ∙ nodes-written 0 0 us _ f
+        ap (nodes_of (length us)) (drop_at (head n d x) _ 32 (head_length n d x) ∙ append_assoc (recs 0 0 us) _ _) ∙ nodes-written 0 0 us _ f
 
     abbrev own_words : List ℕ
-    own_words = replicate (8 * length (allDims us)) 0 ++ all_bytes 8 a.dimensions
+    own_words = replicate (8 * length (all_dims us)) 0 ++ all_bytes 8 a.dimensions
 
-    with-is : treeWith (stateAfter n d x us) a (form n d x us rest) ≡ other more own_words [] 0
-    unfolding treeWith addedNode
-    with-is =
+    with_is : tree_with (state_after n d x us) a (form n d x us rest) ≡ other more own_words [] 0
+    unfolding tree_with added_node
+    with_is =
         same-tree (sym (length-append us (a ∷ []) ∙ add-one (length us))) (rw room-nodes (sym (placed_snoc us a))) refl refl refl
 
     own-dimensions : dimensions (other more own_words [] 0) (length us) ≡ dimensions more (length us)
     unfolding dimensions node
     own-dimensions =
-        rw (last-node, drop_at (replicate (8 * length (allDims us)) 0) (all_bytes 8 a.dimensions) (8 * length (allDims us)) (length-replicate {A = ℕ} (8 * length (allDims us)) 0), dims-join us (a ∷ []), append-nil a.dimensions, allBytes-join 8 (allDims us) a.dimensions, drop_at (all_bytes 8 (allDims us)) (all_bytes 8 a.dimensions) (8 * length (allDims us)) (length-allBytes 8 (allDims us)))
+        rw (last-node, drop_at (replicate (8 * length (all_dims us)) 0) (all_bytes 8 a.dimensions) (8 * length (all_dims us)) (length-replicate {A = ℕ} (8 * length (all_dims us)) 0), dims_join us (a ∷ []), append-nil a.dimensions, all_bytes_join 8 (all_dims us) a.dimensions, drop_at (all_bytes 8 (all_dims us)) (all_bytes 8 a.dimensions) (8 * length (all_dims us)) (length-all_bytes 8 (all_dims us)))
 
     -- judged in the room as in the tree of the nodes added
-    pub addition-judged : check (length us) (additionRules (treeWith (stateAfter n d x us) a (form n d x us rest)) (stateAfter n d x us))
-        ≡ check (length us) (additionRules more (stateAfter n d x us))
-    unfolding additionRules
-    addition-judged =
-        ap (λ (t : Tree). check (length us) (additionRules t (stateAfter n d x us))) with-is
-        ∙ ap (λ (rs : List Rule). check (length us) rs) (same-rules (line_same more own_words [] 0 (length us) (length us)) (rules-same more own_words [] 0 (length (allDims us)) (length (allData us)) (length us) own-dimensions))
+    pub addition_judged : check (length us) (addition_rules (tree_with (state_after n d x us) a (form n d x us rest)) (state_after n d x us))
+        ≡ check (length us) (addition_rules more (state_after n d x us))
+    unfolding addition_rules
+    addition_judged =
+        ap (λ (t : Tree). check (length us) (addition_rules t (state_after n d x us))) with_is
+        ∙ ap (λ (rs : List Rule). check (length us) rs) (same_rules (line_same more own_words [] 0 (length us) (length us)) (rules_same more own_words [] 0 (length (all_dims us)) (length (all_data us)) (length us) own-dimensions))
       where
-        same-rules : {p q : Bool} {rs qs : List Rule} → p ≡ q → rs ≡ qs → ◌≡◌ {A = List Rule} (7 unless p ∷ rs) (7 unless q ∷ qs)
-        same-rules e g = rw (e, g)
+        same_rules : {p q : Bool} {rs qs : List Rule} → p ≡ q → rs ≡ qs → ◌≡◌ {A = List Rule} (7 unless p ∷ rs) (7 unless q ∷ qs)
+        same_rules e g = rw (e, g)
 
 -- what the limits of a start and the rules say of the node added
 pub record Limits (n d x : ℕ) : Type 0 where
@@ -105,17 +105,17 @@ pub record Limits (n d x : ℕ) : Type 0 where
   pub short : 32 + 84 * n + 8 * d + x ≤ 16777216
 
 module _ (n d x : ℕ) (us : List Addition) (a : Addition) (rest : List ℕ) (l : Limits n d x) (f : AllFit 0 0 us) (i : length us < n)
-    (h : Hold (additionRules (tree_for d x (us ++ a ∷ [])) (stateAfter n d x us))) where
-  pub room-for : Room n d x us a rest
-  unfolding addedNode
-  room-for =
+    (h : Hold (addition_rules (tree_for d x (us ++ a ∷ [])) (state_after n d x us))) where
+  pub room_for_lem : Room n d x us a rest
+  unfolding added_node
+  room_for_lem =
       let c = l.few in
       let s = l.short in
       let m = l.few_words in
       let t = tree_for d x (us ++ a ∷ []) in
       let e = last-node n d x us a rest in
-      let q = parts t (stateAfter n d x us) a e refl refl h in
-      let p = parent-fits t (stateAfter n d x us) a e refl refl h (omega (arith, i, c)) in
+      let q = parts t (state_after n d x us) a e refl refl h in
+      let p = parent_fits t (state_after n d x us) a e refl refl h (omega (arith, i, c)) in
       let n14 = q.rank-small in
       let n15 = q.words-room in
       let n17 = q.bytes-room in

@@ -14,26 +14,26 @@ use Rattle.model.specs.declared.Rejection.{Rejection}
 use Rattle.writer_model.specs.declared.Writer.{Writer}
 use Rattle.model.specs.Rules.{◌unless◌, Answer, rejected, answer, Check, passed, check, ◌then◌, ◌gives◌, leaves}
 use Rattle.model.specs.Image.{tree_of}
-use Rattle.model.specs.Records.{tableCheck}
+use Rattle.model.specs.Records.{table_check}
 use Rattle.model.specs.Bytes.{all_bytes}
 use Rattle.writer_model.specs.After.{after}
-use Rattle.writer_model.specs.Writer.{Addition, room_for, neededRoom, nextState, addAnswer, addMemory, withNode, startCheck, started, startAnswer, startMemory, treeWith, additionRules, addCheck, finishCheck, finishAnswer}
-use Rattle.writer_model.specs.Claims.{Draft, startDraft, withAdded, draftOf, addedOf, nodesRead, allStored, IsWords, AllWords, draft, Written, Used, lastState, ReadsBack}
+use Rattle.writer_model.specs.Writer.{Addition, room_for, needed_room, next_state, add_answer, add_memory, with_node, start_check, started, start_answer, start_memory, tree_with, addition_rules, add_check, finish_check, finish_answer}
+use Rattle.writer_model.specs.Claims.{Draft, start_draft, with_added, draft_of, added_of, nodes_read, all_stored, IsWords, AllWords, draft, Written, Used, last_state, ReadsBack}
 use Rattle.model.proofs.Logic.{and_first, and_second}
-use Rattle.model.proofs.Passed.{Hold, check-pass, then-first, then-second, then-on}
-use Rattle.model.proofs.LittleEndian.{length-allBytes}
+use Rattle.model.proofs.Passed.{Hold, check_pass, then-first, then-second, then-on}
+use Rattle.model.proofs.LittleEndian.{length-all_bytes}
 use Rattle.writer_model.proofs.RecordBytes.{Fits}
-use Rattle.writer_model.proofs.Filled.{fill, fill-full}
-use Rattle.writer_model.proofs.Drafts.{allDims, allData, nodeFor, recs, AllFit, fit-snoc, recs-length, head, form, stateAfter, draftFor, start-form, same-draft, draft-step}
-use Rattle.writer_model.proofs.Additions.{tree_for, addition-judged, Limits, room-for}
-use Rattle.writer_model.proofs.Finished.{pass-check, Good, imageFor, Full, image-length, table-passes}
+use Rattle.writer_model.proofs.Filled.{fill, fill_full}
+use Rattle.writer_model.proofs.Drafts.{all_dims, all_data, node_for, recs, AllFit, fit_snoc, recs_length, head, form, state_after, draft_for, start_form, same-draft, draft_step}
+use Rattle.writer_model.proofs.Additions.{tree_for, addition_judged, Limits, room_for_lem}
+use Rattle.writer_model.proofs.Finished.{pass_check, Good, image_for, Full, image-length, table-passes}
 use Rattle.writer_model.proofs.ReadBack.{read_back}
 
 -- what the checks of a start say
-limits : (n d x room : ℕ) → startCheck n d x room ≡ passed → Limits n d x
-unfolding startCheck room_for
+limits : (n d x room : ℕ) → start_check n d x room ≡ passed → Limits n d x
+unfolding start_check room_for
 limits n d x room e =
-    let h = check-pass 0 _ e in
+    let h = check_pass 0 _ e in
     record {
       some = leb-true _ _ (and_first (leb 1 n) _ h.0);
       few = leb-true _ _ (and_second (leb 1 n) _ h.0);
@@ -41,83 +41,83 @@ limits n d x room e =
       short = leb-true _ _ h.1.1.0;
     }
 
-room-long : (n d x room : ℕ) → startCheck n d x room ≡ passed → room_for n d x ≤ room
-unfolding startCheck
-room-long n d x room e = leb-true _ _ (check-pass 0 _ e).1.1.1.0
+room-long : (n d x room : ℕ) → start_check n d x room ≡ passed → room_for n d x ≤ room
+unfolding start_check
+room-long n d x room e = leb-true _ _ (check_pass 0 _ e).1.1.1.0
 
 -- a run that began after us: those added are vs
 pub record Ran (n d x : ℕ) (us vs : List Addition) (rest : List ℕ) (end : Draft) : Type 0 where
-  pub ends : end ≡ draftFor n d x (us ++ vs) rest
+  pub ends : end ≡ draft_for n d x (us ++ vs) rest
   pub fit : AllFit 0 0 (us ++ vs)
   pub good : Good n d x us vs
 
 -- an addition that passed
-module _ (n d x : ℕ) (rest : List ℕ) (us : List Addition) (a : Addition) (f : AllFit 0 0 us) (e : addCheck (stateAfter n d x us) a (form n d x us rest) ≡ passed) where
+module _ (n d x : ℕ) (rest : List ℕ) (us : List Addition) (a : Addition) (f : AllFit 0 0 us) (e : add_check (state_after n d x us) a (form n d x us rest) ≡ passed) where
   pub count-below : length us < n
-  unfolding addCheck
-  count-below = ltb-true _ _ (check-pass 0 _ (then-first (check 0 (46 unless leb (neededRoom (stateAfter n d x us)) (length (form n d x us rest)) ∷ 50 unless ltb (length us) n ∷ [])) _ e)).1.0
+  unfolding add_check
+  count-below = ltb-true _ _ (check_pass 0 _ (then-first (check 0 (46 unless leb (needed_room (state_after n d x us)) (length (form n d x us rest)) ∷ 50 unless ltb (length us) n ∷ [])) _ e)).1.0
 
-  pub rules-hold : Hold (additionRules (tree_for d x (us ++ a ∷ [])) (stateAfter n d x us))
-  unfolding addCheck
-  rules-hold =
-      check-pass (length us) (additionRules (tree_for d x (us ++ a ∷ [])) (stateAfter n d x us))
-      (sym (addition-judged n d x us a rest f) ∙ then-second (check 0 (46 unless leb (neededRoom (stateAfter n d x us)) (length (form n d x us rest)) ∷ 50 unless ltb (length us) n ∷ [])) _ e)
+  pub rules_hold : Hold (addition_rules (tree_for d x (us ++ a ∷ [])) (state_after n d x us))
+  unfolding add_check
+  rules_hold =
+      check_pass (length us) (addition_rules (tree_for d x (us ++ a ∷ [])) (state_after n d x us))
+      (sym (addition_judged n d x us a rest f) ∙ then-second (check 0 (46 unless leb (needed_room (state_after n d x us)) (length (form n d x us rest)) ∷ 50 unless ltb (length us) n ∷ [])) _ e)
 
 one_more : {n d x : ℕ} {us : List Addition} {a : Addition} {vs : List Addition} {rest : List ℕ} {end : Draft}
-    → IsWords a.dimensions → Hold (additionRules (tree_for d x (us ++ a ∷ [])) (stateAfter n d x us)) → Fits (nodeFor (length (allDims us)) (length (allData us)) a)
+    → IsWords a.dimensions → Hold (addition_rules (tree_for d x (us ++ a ∷ [])) (state_after n d x us)) → Fits (node_for (length (all_dims us)) (length (all_data us)) a)
     → Ran n d x (us ++ a ∷ []) vs rest end → Ran n d x us (a ∷ vs) rest end
 one_more {n} {d} {x} {us} {a} {vs} {rest} w h q r =
     let e : us ++ a ∷ [] ++ vs ≡ us ++ a ∷ vs = append_assoc us (a ∷ []) vs in
-    record { ends = r.ends ∙ ap (λ (ws : List Addition). draftFor n d x ws rest) e; fit = subst (AllFit 0 0) e r.fit; good = (w, h, q, r.good) }
+    record { ends = r.ends ∙ ap (λ (ws : List Addition). draft_for n d x ws rest) e; fit = subst (AllFit 0 0) e r.fit; good = (w, h, q, r.good) }
 
 module _ (n d x : ℕ) (rest : List ℕ) (l : Limits n d x) where
-  by-check : (us : List Addition) (a : Addition) (asked : List Addition) → IsWords a.dimensions → AllFit 0 0 us
-      → Ran n d x us (addedOf (draftFor n d x us rest) asked) rest (draftOf (draftFor n d x us rest) asked)
-      → (AllFit 0 0 (us ++ a ∷ []) → Ran n d x (us ++ a ∷ []) (addedOf (draftFor n d x (us ++ a ∷ []) rest) asked) rest (draftOf (draftFor n d x (us ++ a ∷ []) rest) asked))
-      → (c : Check) → addCheck (stateAfter n d x us) a (form n d x us rest) ≡ c
-      → Ran n d x us (leaves c (addedOf (draftFor n d x us rest) asked) (a ∷ addedOf (withAdded (draftFor n d x us rest) a) asked)) rest
-      (after c (draftOf (draftFor n d x us rest) asked) (draftOf (withAdded (draftFor n d x us rest) a) asked))
+  by_check : (us : List Addition) (a : Addition) (asked : List Addition) → IsWords a.dimensions → AllFit 0 0 us
+      → Ran n d x us (added_of (draft_for n d x us rest) asked) rest (draft_of (draft_for n d x us rest) asked)
+      → (AllFit 0 0 (us ++ a ∷ []) → Ran n d x (us ++ a ∷ []) (added_of (draft_for n d x (us ++ a ∷ []) rest) asked) rest (draft_of (draft_for n d x (us ++ a ∷ []) rest) asked))
+      → (c : Check) → add_check (state_after n d x us) a (form n d x us rest) ≡ c
+      → Ran n d x us (leaves c (added_of (draft_for n d x us rest) asked) (a ∷ added_of (with_added (draft_for n d x us rest) a) asked)) rest
+      (after c (draft_of (draft_for n d x us rest) asked) (draft_of (with_added (draft_for n d x us rest) a) asked))
   unfolding leaves after
-  by-check us a asked w f same more (rejected r) e = same
-  by-check us a asked w f same more (answer y) e =
-      let h = rules-hold n d x rest us a f e in
-      let r = room-for n d x us a rest l f (count-below n d x rest us a f e) h in
-      rw (draft-step n d x us a rest r) (one_more w h r.fits (more (fit-snoc 0 0 us a f (rw (zero-add (length (allDims us)), zero-add (length (allData us))) r.fits))))
+  by_check us a asked w f same more (rejected r) e = same
+  by_check us a asked w f same more (answer y) e =
+      let h = rules_hold n d x rest us a f e in
+      let r = room_for_lem n d x us a rest l f (count-below n d x rest us a f e) h in
+      rw (draft_step n d x us a rest r) (one_more w h r.fits (more (fit_snoc 0 0 us a f (rw (zero-add (length (all_dims us)), zero-add (length (all_data us))) r.fits))))
 
-  run : (asked us : List Addition) → AllWords asked → AllFit 0 0 us → Ran n d x us (addedOf (draftFor n d x us rest) asked) rest (draftOf (draftFor n d x us rest) asked)
-  unfolding draftOf addedOf AllWords
+  run : (asked us : List Addition) → AllWords asked → AllFit 0 0 us → Ran n d x us (added_of (draft_for n d x us rest) asked) rest (draft_of (draft_for n d x us rest) asked)
+  unfolding draft_of added_of AllWords
   run [] us w f = record { ends = rw (append-nil us); fit = rw (append-nil us) f; good = tt }
   run (a ∷ asked) us w f =
-      by-check us a asked w.0 f (run asked us w.1 f) (λ q. run asked (us ++ a ∷ []) w.1 q) (addCheck (stateAfter n d x us) a (form n d x us rest)) refl
+      by_check us a asked w.0 f (run asked us w.1 f) (λ q. run asked (us ++ a ∷ []) w.1 q) (add_check (state_after n d x us) a (form n d x us rest)) refl
 
 -- nothing is left of the zeros
-fill-exact : (m : ℕ) (s : List ℕ) → length s ≡ m → fill m s ≡ s
-fill-exact m s e = rw (← e) (fill-full s)
+fill_exact : (m : ℕ) (s : List ℕ) → length s ≡ m → fill m s ≡ s
+fill_exact m s e = rw (← e) (fill_full s)
 
-pub full-form : (n d x : ℕ) (vs : List Addition) (rest : List ℕ) → Full n d x vs → form n d x vs rest ≡ imageFor n d x vs ++ rest
-full-form n d x vs rest f =
-    rw (fill-exact (84 * n) (recs 0 0 vs) (recs-length 0 0 vs f.all_fit ∙ ap (λ (k : ℕ). 84 * k) f.nodes-used), fill-exact (8 * d) (all_bytes 8 (allDims vs)) (length-allBytes 8 (allDims vs) ∙ ap (λ (k : ℕ). 8 * k) f.words-used), fill-exact x (allData vs) f.bytes-used)
+pub full_form : (n d x : ℕ) (vs : List Addition) (rest : List ℕ) → Full n d x vs → form n d x vs rest ≡ image_for n d x vs ++ rest
+full_form n d x vs rest f =
+    rw (fill_exact (84 * n) (recs 0 0 vs) (recs_length 0 0 vs f.all_fit ∙ ap (λ (k : ℕ). 84 * k) f.nodes-used), fill_exact (8 * d) (all_bytes 8 (all_dims vs)) (length-all_bytes 8 (all_dims vs) ∙ ap (λ (k : ℕ). 8 * k) f.words-used), fill_exact x (all_data vs) f.bytes-used)
     (simp append_assoc)
 
 -- finishing where all was added
-pub finish-passes : (n d x : ℕ) (vs : List Addition) (room : List ℕ) → length vs ≡ n → room_for n d x ≤ length room → tableCheck (take (room_for n d x) room) ≡ passed
-    → finishAnswer (stateAfter n d x vs) room ≡ answer (room_for n d x)
-unfolding finishAnswer finishCheck neededRoom ◌gives◌
-finish-passes n d x vs room k l e =
+pub finish_passes : (n d x : ℕ) (vs : List Addition) (room : List ℕ) → length vs ≡ n → room_for n d x ≤ length room → table_check (take (room_for n d x) room) ≡ passed
+    → finish_answer (state_after n d x vs) room ≡ answer (room_for n d x)
+unfolding finish_answer finish_check needed_room ◌gives◌
+finish_passes n d x vs room k l e =
     ap (λ (c : Check). c then answer (room_for n d x))
-    (then-on _ (pass-check 0 (46 unless leb (room_for n d x) (length room) ∷ 51 unless leb n (length vs) ∷ []) (le-leb _ _ l, (le-leb n (length vs) (omega (arith, k)), tt))) ∙ e)
+    (then-on _ (pass_check 0 (46 unless leb (room_for n d x) (length room) ∷ 51 unless leb n (length vs) ∷ []) (le-leb _ _ l, (le-leb n (length vs) (omega (arith, k)), tt))) ∙ e)
     ∙ then-on _ refl
 
-module _ (n d x : ℕ) (room : List ℕ) (asked : List Addition) (w : AllWords asked) (e : startCheck n d x (length room) ≡ passed) (u : Used n d x room asked) where
+module _ (n d x : ℕ) (room : List ℕ) (asked : List Addition) (w : AllWords asked) (e : start_check n d x (length room) ≡ passed) (u : Used n d x room asked) where
   abbrev rest : List ℕ
   rest = drop (room_for n d x) room
 
-  starts : startDraft n d x room ≡ draftFor n d x [] rest
-  unfolding startDraft started
-  starts = same-draft refl (start-form n d x room e)
+  starts : start_draft n d x room ≡ draft_for n d x [] rest
+  unfolding start_draft started
+  starts = same-draft refl (start_form n d x room e)
 
   abbrev vs : List Addition
-  vs = addedOf (startDraft n d x room) asked
+  vs = added_of (start_draft n d x room) asked
 
   ran : Ran n d x [] vs rest (draft n d x room asked)
   ran = rw starts (run n d x rest (limits n d x (length room) e) asked [] w tt)
@@ -133,49 +133,49 @@ module _ (n d x : ℕ) (room : List ℕ) (asked : List Addition) (w : AllWords a
         bytes-used = sym (ap (λ (z : Draft). z.state.byte) s) ∙ u.2;
       }
 
-  room-is : (draft n d x room asked).room ≡ imageFor n d x vs ++ rest
-  room-is = ap (λ (z : Draft). z.room) ran.ends ∙ full-form n d x vs rest full
+  room-is : (draft n d x room asked).room ≡ image_for n d x vs ++ rest
+  room-is = ap (λ (z : Draft). z.room) ran.ends ∙ full_form n d x vs rest full
 
-  needed : length (imageFor n d x vs) ≡ room_for n d x
+  needed : length (image_for n d x vs) ≡ room_for n d x
   unfolding room_for
   needed = image-length n d x vs full
 
-  image-is : take (room_for n d x) (draft n d x room asked).room ≡ imageFor n d x vs
-  image-is = rw room-is (take_at (imageFor n d x vs) rest (room_for n d x) needed)
+  image-is : take (room_for n d x) (draft n d x room asked).room ≡ image_for n d x vs
+  image-is = rw room-is (take_at (image_for n d x vs) rest (room_for n d x) needed)
 
-  passes : tableCheck (take (room_for n d x) (draft n d x room asked).room) ≡ passed
+  passes : table_check (take (room_for n d x) (draft n d x room asked).room) ≡ passed
   passes = rw image-is (table-passes n d x vs full ran.good)
 
   length-kept : length (draft n d x room asked).room ≡ length room
-  length-kept = let h = room-long n d x (length room) e in rw (room-is, length-append (imageFor n d x vs) rest, needed, length-drop (room_for n d x) room) (omega arith)
+  length-kept = let h = room-long n d x (length room) e in rw (room-is, length-append (image_for n d x vs) rest, needed, length-drop (room_for n d x) room) (omega arith)
 
-  finishes : finishAnswer (draft n d x room asked).state (draft n d x room asked).room ≡ answer (room_for n d x)
+  finishes : finish_answer (draft n d x room asked).state (draft n d x room asked).room ≡ answer (room_for n d x)
   finishes =
       let h = room-long n d x (length room) e in
-      ap (λ (s : Writer). finishAnswer s (draft n d x room asked).room) (ap (λ (z : Draft). z.state) ran.ends)
-      ∙ finish-passes n d x vs (draft n d x room asked).room full.nodes-used (rw length-kept h) passes
+      ap (λ (s : Writer). finish_answer s (draft n d x room asked).room) (ap (λ (z : Draft). z.state) ran.ends)
+      ∙ finish_passes n d x vs (draft n d x room asked).room full.nodes-used (rw length-kept h) passes
 
   pub written : Written n d x room asked
   written =
       record {
         finishes = finishes;
         passes = passes;
-        reads-back = rw image-is (read_back n d x vs full ran.good);
+        reads_back = rw image-is (read_back n d x vs full ran.good);
         length-kept = length-kept;
-        rest-kept = rw room-is (drop_at (imageFor n d x vs) rest (room_for n d x) needed);
+        rest-kept = rw room-is (drop_at (image_for n d x vs) rest (room_for n d x) needed);
       }
 
 -- A run is made of the calls: the next one is given the state answered last, and the room as it was left.
 draft-calls : (w : Draft) (a : Addition) (rest : List Addition)
-    → draftOf w (a ∷ rest) ≡ draftOf (record { state = lastState (addAnswer w.state a w.room) w.state; room = addMemory w.state a w.room }) rest
-unfolding draftOf withAdded addAnswer addMemory lastState leaves after ◌gives◌ ◌then◌
-draft-calls w a rest = by-check (addCheck w.state a w.room)
+    → draft_of w (a ∷ rest) ≡ draft_of (record { state = last_state (add_answer w.state a w.room) w.state; room = add_memory w.state a w.room }) rest
+unfolding draft_of with_added add_answer add_memory last_state leaves after ◌gives◌ ◌then◌
+draft-calls w a rest = by_check (add_check w.state a w.room)
   where
-    by-check : (c : Check) → after c (draftOf w rest) (draftOf (withAdded w a) rest)
-        ≡ draftOf (record { state = lastState (c gives nextState w.state a) w.state; room = leaves c w.room (withNode w.state a w.room) }) rest
-    by-check (rejected r) = refl
-    by-check (answer x) = refl
+    by_check : (c : Check) → after c (draft_of w rest) (draft_of (with_added w a) rest)
+        ≡ draft_of (record { state = last_state (c gives next_state w.state a) w.state; room = leaves c w.room (with_node w.state a w.room) }) rest
+    by_check (rejected r) = refl
+    by_check (answer x) = refl
 
-pub reads-back : ReadsBack
-unfolding draftOf addedOf leaves after startAnswer startDraft ◌gives◌
-reads-back = record { starts = λ n d x room e. then-on _ e; calls = draft-calls; written = written; as-if-not-asked = λ w a r rest e. (rw e, rw e) }
+pub reads_back : ReadsBack
+unfolding draft_of added_of leaves after start_answer start_draft ◌gives◌
+reads_back = record { starts = λ n d x room e. then-on _ e; calls = draft-calls; written = written; as_if_not-asked = λ w a r rest e. (rw e, rw e) }

@@ -7,7 +7,7 @@ use native.Mathlib.Nat.{pow-succ'}
 use lib.ListN.{length, take, drop, length-append, length-drop}
 use lib.Seq.{drop-drop, take-add, drop_at, take_all}
 use Rattle.model.specs.Bytes.{le, le_bytes, all_bytes, numbers}
-use Rattle.model.proofs.LittleEndian.{length-leBytes, le-written}
+use Rattle.model.proofs.LittleEndian.{length-le_bytes, le-written}
 use Rattle.writer_model.specs.Claims.{Below, IsBytes}
 
 -- bytes read and written
@@ -33,7 +33,7 @@ pub numbers-written : (w : ℕ) (xs s : List ℕ) → Below (256 ^ w) xs → num
 unfolding numbers Below
 numbers-written w [] s h = refl
 numbers-written w (x ∷ xs) s h =
-    rw (append_assoc (le_bytes w x) (all_bytes w xs) s, le-written w x (all_bytes w xs ++ s) h.0, drop_at (le_bytes w x) (all_bytes w xs ++ s) w (length-leBytes w x), numbers-written w xs s h.1)
+    rw (append_assoc (le_bytes w x) (all_bytes w xs) s, le-written w x (all_bytes w xs ++ s) h.0, drop_at (le_bytes w x) (all_bytes w xs ++ s) w (length-le_bytes w x), numbers-written w xs s h.1)
 
 pub bytes_drop : (k : ℕ) (s : List ℕ) → IsBytes s → IsBytes (drop k s)
 unfolding Below

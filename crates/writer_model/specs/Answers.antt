@@ -4,6 +4,6 @@ use Rattle.writer_model.specs.declared.Writer.{Writer}
 use Rattle.writer_model.specs.declared.Writing.{Writing}
 use Rattle.writer_model.specs.declared.Writing.TheVariants as Writing
 
-abbrev pub writingTells : Writing → Answer Writer
-writingTells (Writing.State s) = answer s
-writingTells (Writing.Rejected r) = rejected r
+abbrev pub writing_tells : Writing → Answer Writer
+writing_tells (Writing.State s) = answer s
+writing_tells (Writing.Rejected r) = rejected r

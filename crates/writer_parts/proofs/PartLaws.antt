@@ -9,90 +9,90 @@ use lib.ListN.{length, get_or, drop, set, replicate, length-append, drop_of_leng
 use lib.Seq.{drop-cons}
 use lib.Dec.{leb, eqb}
 use borrow.Author.Tests.{le-leb, leb-true}
-use Rattle.model.specs.Lists.{over, overAt}
+use Rattle.model.specs.Lists.{over, over_at}
 use Rattle.model.specs.Bytes.{le_bytes, all_bytes}
 use Rattle.model.specs.Rules.{passed}
-use Rattle.model.specs.Image.{recordAt}
-use Rattle.model.specs.Build.{headerWords}
-use Rattle.model.proofs.Passed.{check-pass}
-use Rattle.model.proofs.Overlays.{overAt-nil, over-more, overAt-more}
+use Rattle.model.specs.Image.{record_at}
+use Rattle.model.specs.Build.{header_words}
+use Rattle.model.proofs.Passed.{check_pass}
+use Rattle.model.proofs.Overlays.{over_at_nil, over_more, over_at_more}
 use Rattle.words.proofs.Writes.{Left, start, more}
 use Rattle.writer_model.specs.declared.Writer.{Writer}
-use Rattle.writer_model.specs.Writer.{Addition, room_for, startCheck, blankImage, padded, typeField, addedNode, recordBytes, wordsPlace, bytesPlace, withNode}
+use Rattle.writer_model.specs.Writer.{Addition, room_for, start_check, blank_image, padded, type_field, added_node, record_bytes, words_place, bytes_place, with_node}
 
 -- n zeros, of which k are written
-pub zeros-start : (out : List ℕ) (at n : ℕ) → Left out (replicate n 0) at out 0 (replicate (n - 0) 0)
-zeros-start out at n = let e : n - 0 ≡ n = omega arith in rw e (start out (replicate n 0) at)
+pub zeros_start : (out : List ℕ) (at n : ℕ) → Left out (replicate n 0) at out 0 (replicate (n - 0) 0)
+zeros_start out at n = let e : n - 0 ≡ n = omega arith in rw e (start out (replicate n 0) at)
 
-pub zeros-more : {out₀ all : List ℕ} {at : ℕ} {out : List ℕ} {k : ℕ} (n : ℕ) → Left out₀ all at out k (replicate (n - k) 0) → k < n
+pub zeros_more : {out₀ all : List ℕ} {at : ℕ} {out : List ℕ} {k : ℕ} (n : ℕ) → Left out₀ all at out k (replicate (n - k) 0) → k < n
     → at + length all ≤ length out₀
     → Left out₀ all at (set out (at + k) 0) (k + 1) (replicate (n - (k + 1)) 0)
-zeros-more {out₀} {all} {at} {out} {k} n l h g =
+zeros_more {out₀} {all} {at} {out} {k} n l h g =
     let e : n - k ≡ suc (n - (k + 1)) = omega arith in
     let m : Left out₀ all at out k (0 ∷ replicate (n - (k + 1)) 0) = rw e at l in
     more m g
 
 -- the n bytes of p were written from `at` on
 pub record Put (out₀ : List ℕ) (at n : ℕ) (p out : List ℕ) : Type 0 where
-  pub is : out ≡ overAt at out₀ p
+  pub is : out ≡ over_at at out₀ p
   pub size : length p ≡ n
 
 pub none : (out : List ℕ) (at : ℕ) → Put out at 0 [] out
-none out at = record { is = sym (overAt-nil at out); size = refl }
+none out at = record { is = sym (over_at_nil at out); size = refl }
 
-pub next : {out₀ : List ℕ} {at n : ℕ} {p out out' : List ℕ} (q : List ℕ) (m : ℕ) → Put out₀ at n p out → out' ≡ overAt (at + n) out q → length q ≡ m
+pub next : {out₀ : List ℕ} {at n : ℕ} {p out out' : List ℕ} (q : List ℕ) (m : ℕ) → Put out₀ at n p out → out' ≡ over_at (at + n) out q → length q ≡ m
     → at ≤ length out₀
     → Put out₀ at (n + m) (p ++ q) out'
 next {out₀} {at} {n} {p} {out} q m l e f h =
     record {
       is =
-          e ∙ ap (λ (o : List ℕ). overAt (at + n) o q) l.is ∙ ap (λ (j : ℕ). overAt (at + j) (overAt at out₀ p) q) (sym l.size)
-          ∙ overAt-more at out₀ p q h;
+          e ∙ ap (λ (o : List ℕ). over_at (at + n) o q) l.is ∙ ap (λ (j : ℕ). over_at (at + j) (over_at at out₀ p) q) (sym l.size)
+          ∙ over_at_more at out₀ p q h;
       size = length-append p q ∙ omega (arith, l.size, f);
     }
 
 -- the needed room as a sum
-pub room-sum : (n d x m : ℕ) → room_for n d x ≤ m → 32 + 84 * n + 8 * d + x ≤ m
+pub room_sum : (n d x m : ℕ) → room_for n d x ≤ m → 32 + 84 * n + 8 * d + x ≤ m
 unfolding room_for
-room-sum n d x m h = omega (arith, h)
+room_sum n d x m h = omega (arith, h)
 
 -- a start that passes
-pub start-limits : (n d x room : ℕ) → startCheck n d x room ≡ passed → (room_for n d x ≤ 16777216) × (room_for n d x ≤ room)
-unfolding startCheck
-start-limits n d x room e = let h = check-pass 0 _ e in (leb-true _ _ h.1.1.0, leb-true _ _ h.1.1.1.0)
+pub start_limits : (n d x room : ℕ) → start_check n d x room ≡ passed → (room_for n d x ≤ 16777216) × (room_for n d x ≤ room)
+unfolding start_check
+start_limits n d x room e = let h = check_pass 0 _ e in (leb-true _ _ h.1.1.0, leb-true _ _ h.1.1.1.0)
 
-pub blank-put : (n d x : ℕ) (room r₁ r₂ : List ℕ) → r₁ ≡ over room (all_bytes 4 (headerWords n d x)) → r₂ ≡ overAt 32 r₁ (replicate (84 * n + 8 * d + x) 0)
-    → r₂ ≡ over room (blankImage n d x)
-unfolding blankImage
-blank-put n d x room r₁ r₂ e₁ e₂ =
+pub blank_put : (n d x : ℕ) (room r₁ r₂ : List ℕ) → r₁ ≡ over room (all_bytes 4 (header_words n d x)) → r₂ ≡ over_at 32 r₁ (replicate (84 * n + 8 * d + x) 0)
+    → r₂ ≡ over room (blank_image n d x)
+unfolding blank_image
+blank_put n d x room r₁ r₂ e₁ e₂ =
     let zeros = replicate {A = ℕ} (84 * n + 8 * d + x) 0 in
-    e₂ ∙ ap (λ (r : List ℕ). overAt 32 r zeros) e₁ ∙ over-more room (all_bytes 4 (headerWords n d x)) zeros
+    e₂ ∙ ap (λ (r : List ℕ). over_at 32 r zeros) e₁ ∙ over_more room (all_bytes 4 (header_words n d x)) zeros
 
 -- a text that has its field fits it, and a type is its own
 pub padded-short : (s : List ℕ) → length (padded s) ≡ 32 → length s ≤ 32
 unfolding padded
-padded-short s = by-test (leb (length s) 32) refl
+padded-short s = by_test (leb (length s) 32) refl
   where
-    by-test : (t : Bool) → leb (length s) 32 ≡ t → length (cond t (s ++ replicate (32 - length s) 32) []) ≡ 32 → length s ≤ 32
-    by-test true e h = leb-true (length s) 32 e
-    by-test false e h = absurd (omega arith)
+    by_test : (t : Bool) → leb (length s) 32 ≡ t → length (cond t (s ++ replicate (32 - length s) 32) []) ≡ 32 → length s ≤ 32
+    by_test true e h = leb-true (length s) 32 e
+    by_test false e h = absurd (omega arith)
 
-pub type-kept : (s : List ℕ) → length (typeField s) ≡ 2 → typeField s ≡ s
-unfolding typeField
-type-kept s = by-test (eqb (length s) 2)
+pub type-kept : (s : List ℕ) → length (type_field s) ≡ 2 → type_field s ≡ s
+unfolding type_field
+type-kept s = by_test (eqb (length s) 2)
   where
-    by-test : (t : Bool) → length (cond t s []) ≡ 2 → cond t s [] ≡ s
-    by-test true h = refl
-    by-test false h = absurd (omega arith)
+    by_test : (t : Bool) → length (cond t s []) ≡ 2 → cond t s [] ≡ s
+    by_test true h = refl
+    by_test false h = absurd (omega arith)
 
-pub type-two : (s : List ℕ) → length (typeField s) ≡ 2 → length s ≡ 2
+pub type-two : (s : List ℕ) → length (type_field s) ≡ 2 → length s ≡ 2
 type-two s h = rw (type-kept s h) at h
 
 -- a node's three parts
-pub node-put : (s : Writer) (a : Addition) (room name label r₁ r₂ r₃ : List ℕ)
-    → name ≡ padded a.name → label ≡ padded a.label → length (typeField a.dataType) ≡ 2
-    → r₁ ≡ overAt (recordAt s.node) room (name ++ label ++ a.dataType ++ le_bytes 2 (length a.dimensions)
+pub node_put : (s : Writer) (a : Addition) (room name label r₁ r₂ r₃ : List ℕ)
+    → name ≡ padded a.name → label ≡ padded a.label → length (type_field a.data_type) ≡ 2
+    → r₁ ≡ over_at (record_at s.node) room (name ++ label ++ a.data_type ++ le_bytes 2 (length a.dimensions)
     ++ le_bytes 4 s.word ++ le_bytes 4 a.parent ++ le_bytes 4 s.byte ++ le_bytes 4 (length a.bytes))
-    → r₂ ≡ overAt (wordsPlace s) r₁ (all_bytes 8 a.dimensions) → r₃ ≡ overAt (bytesPlace s) r₂ a.bytes → r₃ ≡ withNode s a room
-unfolding withNode recordBytes addedNode
-node-put s a room name label r₁ r₂ r₃ en el et e₁ e₂ e₃ = rw (type-kept a.dataType et, ← en, ← el, ← e₁, ← e₂, ← e₃)
+    → r₂ ≡ over_at (words_place s) r₁ (all_bytes 8 a.dimensions) → r₃ ≡ over_at (bytes_place s) r₂ a.bytes → r₃ ≡ with_node s a room
+unfolding with_node record_bytes added_node
+node_put s a room name label r₁ r₂ r₃ en el et e₁ e₂ e₃ = rw (type-kept a.data_type et, ← en, ← el, ← e₁, ← e₂, ← e₃)

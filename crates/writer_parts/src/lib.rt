@@ -1,10 +1,10 @@
 // What is written: the header and zeros of a start; a node's record, its dimension words and its data.
 ghost use Rattle.std.specs.Prelude.{◌≡◌, ◌++◌, ◌+◌, ◌*◌, ◌≤◌, ◌<◌, length, replicate};
-ghost use Rattle.model.specs.Lists.{over, overAt};
+ghost use Rattle.model.specs.Lists.{over, over_at};
 ghost use Rattle.model.specs.Bytes.{le_bytes, all_bytes};
 ghost use Rattle.model.specs.Rules.{passed};
-ghost use Rattle.model.specs.Build.{headerWords};
-ghost use Rattle.writer_model.specs.Writer.{room_for, startCheck, blankImage, addCheck, withNode};
+ghost use Rattle.model.specs.Build.{header_words};
+ghost use Rattle.writer_model.specs.Writer.{room_for, start_check, blank_image, add_check, with_node};
 ghost use Rattle.writer_model.specs.Writer.{addition};
 
 use records::{Header, Record, RecordNumbers};
@@ -14,7 +14,7 @@ use writer_rules::padded;
 // Writes n zeros from `at` on; the rest stays.
 fn put_zeros(out: &mut [u8], at: usize, n: usize)
     requires { at + n ≤ length out.old }
-    ensures { out.new ≡ overAt at out.old (replicate n 0) }
+    ensures { out.new ≡ over_at at out.old (replicate n 0) }
 {
     let mut k: usize = 0;
     while k < n {
@@ -26,7 +26,7 @@ fn put_zeros(out: &mut [u8], at: usize, n: usize)
 // Writes the header of an image with so many nodes, dimension words and data bytes.
 fn put_header(room: &mut [u8], nodes: u64, words: u64, bytes: u64)
     requires { (room_for nodes words bytes ≤ 16777216) × (32 ≤ length room.old) }
-    ensures { room.new ≡ over room.old (all_bytes 4 (headerWords nodes words bytes)) }
+    ensures { room.new ≡ over room.old (all_bytes 4 (header_words nodes words bytes)) }
 {
     let words_at = Header::SIZE as u64 + Record::SIZE as u64 * nodes;
     let data_at = words_at + 8 * words;
@@ -42,8 +42,8 @@ fn put_header(room: &mut [u8], nodes: u64, words: u64, bytes: u64)
 
 // Writes what a start leaves: the header, and zeros in the rest of the needed room.
 pub fn put_blank(room: &mut [u8], nodes: u64, words: u64, bytes: u64)
-    requires { startCheck nodes words bytes (length room.old) ≡ passed }
-    ensures { room.new ≡ over room.old (blankImage nodes words bytes) }
+    requires { start_check nodes words bytes (length room.old) ≡ passed }
+    ensures { room.new ≡ over room.old (blank_image nodes words bytes) }
 {
     put_header(room, nodes, words, bytes);
     put_zeros(
@@ -63,7 +63,7 @@ fn put_record(
     r: RecordNumbers,
 )
     requires { ((length name.now ≡ 32) × ((length label.now ≡ 32) × (length data_type.now ≡ 2))) × (at + 84 ≤ length room.old) }
-    ensures { room.new ≡ overAt at room.old
+    ensures { room.new ≡ over_at at room.old
         (name.now ++ label.now ++ data_type.now ++ le_bytes 2 r.rank ++ le_bytes 4 r.first_word ++ le_bytes 4 r.parent
         ++ le_bytes 4 r.data_at ++ le_bytes 4 r.data_size) }
 {
@@ -88,8 +88,8 @@ pub fn put_node(
     bytes: &[u8],
     room: &mut [u8],
 )
-    requires { addCheck state (addition name.now label.now data_type.now dimensions.now parent bytes.now) room.old ≡ passed }
-    ensures { room.new ≡ withNode state
+    requires { add_check state (addition name.now label.now data_type.now dimensions.now parent bytes.now) room.old ≡ passed }
+    ensures { room.new ≡ with_node state
         (addition name.now label.now data_type.now dimensions.now parent bytes.now)
         room.old }
 {

@@ -2,11 +2,11 @@
 ghost use Rattle.std.specs.Prelude.{◌≡◌, true, ◌+◌, ◌*◌, ◌≤◌, ◌<◌, length, drop};
 ghost use Rattle.model.specs.Bytes.{le};
 ghost use Rattle.model.specs.Rules.{check};
-ghost use Rattle.model.specs.Image.{recordAt};
-ghost use Rattle.model.specs.Records.{deeperThan};
-ghost use Rattle.model.specs.Answers.{stageTells};
-ghost use Rattle.writer_model.specs.Writer.{Addition, treeWith, lineLawful};
-ghost use Rattle.writer_rules.specs.Groups.{lineRules};
+ghost use Rattle.model.specs.Image.{record_at};
+ghost use Rattle.model.specs.Records.{deeper_than};
+ghost use Rattle.model.specs.Answers.{stage_tells};
+ghost use Rattle.writer_model.specs.Writer.{Addition, tree_with, line_lawful};
+ghost use Rattle.writer_rules.specs.Groups.{line_rules};
 
 use model::Stage;
 use records::{Header, Record};
@@ -19,16 +19,16 @@ const MAX_DEPTH: usize = 32;
 
 // The parent field of record i in the room.
 pub fn parent_in(room: &[u8], i: usize) -> u64
-    requires { (i < 4294967296) × (recordAt i + 84 ≤ length room.now) }
-    ensures { (result ≡ le 4 (drop (recordAt i + 72) room.now)) × (result < 4294967296) }
+    requires { (i < 4294967296) × (record_at i + 84 ≤ length room.now) }
+    ensures { (result ≡ le 4 (drop (record_at i + 72) room.now)) × (result < 4294967296) }
 {
     words::u32_at(room, Header::SIZE + Record::SIZE * i + Record::PARENT)
 }
 
 // Whether rule 7 holds at record i in the room and at all above it.
 fn records_lawful(state: Writer, room: &[u8], i: usize) -> bool
-    requires { (i < state.node) × (recordAt state.node ≤ length room.now) }
-    ensures { (a : Addition) → result ≡ lineLawful (treeWith state a room.now) i i }
+    requires { (i < state.node) × (record_at state.node ≤ length room.now) }
+    ensures { (a : Addition) → result ≡ line_lawful (tree_with state a room.now) i i }
 {
     let mut at = i;
     while 0 < at {
@@ -43,8 +43,8 @@ fn records_lawful(state: Writer, room: &[u8], i: usize) -> bool
 
 // Rule 7: whether the parent of the next node is lawful, and those of all above it.
 fn line_lawful(state: Writer, parent: u64, room: &[u8]) -> bool
-    requires { recordAt state.node ≤ length room.now }
-    ensures { (a : Addition) → a.parent ≡ parent → result ≡ lineLawful (treeWith state a room.now) state.node state.node }
+    requires { record_at state.node ≤ length room.now }
+    ensures { (a : Addition) → a.parent ≡ parent → result ≡ line_lawful (tree_with state a room.now) state.node state.node }
 {
     let node = state.node as u64;
     if node == 0 {
@@ -58,9 +58,9 @@ fn line_lawful(state: Writer, parent: u64, room: &[u8]) -> bool
 
 // Rule 8: whether the next node is deeper than 32. It walks up at most so many parents.
 fn is_too_deep(state: Writer, parent: u64, room: &[u8]) -> bool
-    requires node_in_bounds { recordAt state.node ≤ length room.now }
-    requires node_value { (a : Addition) → a.parent ≡ parent → lineLawful (treeWith state a room.now) state.node state.node ≡ true }
-    ensures { (a : Addition) → a.parent ≡ parent → result ≡ deeperThan (treeWith state a room.now) 32 state.node }
+    requires node_in_bounds { record_at state.node ≤ length room.now }
+    requires node_value { (a : Addition) → a.parent ≡ parent → line_lawful (tree_with state a room.now) state.node state.node ≡ true }
+    ensures { (a : Addition) → a.parent ≡ parent → result ≡ deeper_than (tree_with state a room.now) 32 state.node }
 {
     if state.node == 0 {
         return false;
@@ -79,9 +79,9 @@ fn is_too_deep(state: Writer, parent: u64, room: &[u8]) -> bool
 
 // Rules 7 and 8 at the next node.
 pub fn line_stage(state: Writer, parent: u64, room: &[u8]) -> Stage
-    requires { recordAt state.node ≤ length room.now }
+    requires { record_at state.node ≤ length room.now }
     ensures { (a : Addition) → a.parent ≡ parent
-        → stageTells result ≡ check state.node (lineRules (treeWith state a room.now) state.node) }
+        → stage_tells result ≡ check state.node (line_rules (tree_with state a room.now) state.node) }
 {
     let node = state.node as usize;
     if !line_lawful(state, parent, room) {

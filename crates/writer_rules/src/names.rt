@@ -3,11 +3,11 @@ ghost use Rattle.std.specs.Prelude.{◌≡◌, not, ◌&&◌, ◌+◌, ◌*◌, 
 ghost use Rattle.model.specs.Lists.{among};
 ghost use Rattle.model.specs.Bytes.{le, same};
 ghost use Rattle.model.specs.Rules.{check};
-ghost use Rattle.model.specs.Image.{recordAt};
-ghost use Rattle.model.specs.Records.{labelLawful, nameTaken};
-ghost use Rattle.model.specs.Answers.{stageTells};
-ghost use Rattle.table.specs.Groups.{textRules};
-ghost use Rattle.writer_model.specs.Writer.{Addition, treeWith};
+ghost use Rattle.model.specs.Image.{record_at};
+ghost use Rattle.model.specs.Records.{label_lawful, name_taken};
+ghost use Rattle.model.specs.Answers.{stage_tells};
+ghost use Rattle.table.specs.Groups.{text_rules};
+ghost use Rattle.writer_model.specs.Writer.{Addition, tree_with};
 ghost use Rattle.writer_model.specs.Writer.{padded as paddedText};
 
 use super::line::parent_in;
@@ -30,7 +30,7 @@ pub fn padded(text: &[u8]) -> [u8; 32]
 
 // Whether a text of at most 32 bytes is lawful in its field, without the barred byte. A longer one is not.
 fn is_lawful(text: &[u8], barred: u8) -> bool
-    ensures { result ≡ (labelLawful (paddedText text.now) && not (among barred (paddedText text.now))) }
+    ensures { result ≡ (label_lawful (paddedText text.now) && not (among barred (paddedText text.now))) }
 {
     if Record::TEXT_SIZE < text.len() {
         return false;
@@ -58,9 +58,9 @@ fn has_name(room: &[u8], at: usize, name: &[u8]) -> bool
 
 // Whether record j in the room has this parent and this name of 32 bytes.
 fn is_namesake(name: &[u8], parent: u64, room: &[u8], j: usize) -> bool
-    requires { (length name.now ≡ 32) × ((j < 4294967296) × (recordAt j + 84 ≤ length room.now)) }
-    ensures { result ≡ (eqb (le 4 (drop (recordAt j + 72) room.now)) parent
-        && same (take 32 (drop (recordAt j) room.now)) name.now) }
+    requires { (length name.now ≡ 32) × ((j < 4294967296) × (record_at j + 84 ≤ length room.now)) }
+    ensures { result ≡ (eqb (le 4 (drop (record_at j + 72) room.now)) parent
+        && same (take 32 (drop (record_at j) room.now)) name.now) }
 {
     if parent_in(room, j) != parent {
         return false;
@@ -70,9 +70,9 @@ fn is_namesake(name: &[u8], parent: u64, room: &[u8], j: usize) -> bool
 
 // Rule 11: whether a record before the next node has its parent and its name, padded to 32 bytes.
 fn is_taken(state: Writer, name: &[u8], parent: u64, room: &[u8]) -> bool
-    requires { (length name.now ≡ 32) × (recordAt state.node ≤ length room.now) }
+    requires { (length name.now ≡ 32) × (record_at state.node ≤ length room.now) }
     ensures { (a : Addition) → paddedText a.name ≡ name.now → a.parent ≡ parent
-        → result ≡ nameTaken (treeWith state a room.now) state.node }
+        → result ≡ name_taken (tree_with state a room.now) state.node }
 {
     let count = state.node as usize;
     let mut j: usize = 0;
@@ -87,9 +87,9 @@ fn is_taken(state: Writer, name: &[u8], parent: u64, room: &[u8]) -> bool
 
 // Rules 9 to 11 at the next node.
 pub fn text_stage(state: Writer, name: &[u8], label: &[u8], parent: u64, room: &[u8]) -> Stage
-    requires { recordAt state.node ≤ length room.now }
+    requires { record_at state.node ≤ length room.now }
     ensures { (a : Addition) → a.name ≡ name.now → a.label ≡ label.now → a.parent ≡ parent
-        → stageTells result ≡ check state.node (textRules (treeWith state a room.now) state.node) }
+        → stage_tells result ≡ check state.node (text_rules (tree_with state a room.now) state.node) }
 {
     let node = state.node as usize;
     if !is_lawful(name, texts::SLASH) {

@@ -1,14 +1,14 @@
 // Rules 12 to 17 of a node that is added: its data type, its dimensions and its data, after the words and bytes of the nodes before it.
 ghost use Rattle.std.specs.Prelude.{◌≡◌, not, ◌&&◌, [], ◌∷◌, ◌+◌, ◌*◌, ◌/◌, ◌%◌, ◌≤◌, ◌<◌, eqb, leb, length};
 ghost use Rattle.model.specs.Lists.{among};
-ghost use Rattle.model.specs.Bytes.{same, text, placeFrom};
+ghost use Rattle.model.specs.Bytes.{same, text, place_from};
 ghost use Rattle.model.specs.Rules.{check};
-ghost use Rattle.model.specs.Image.{dataTypes};
+ghost use Rattle.model.specs.Image.{data_types};
 ghost use Rattle.model.specs.Records.{product};
-ghost use Rattle.model.specs.Answers.{stageTells};
-ghost use Rattle.table.specs.Groups.{typeRules};
-ghost use Rattle.writer_model.specs.Writer.{Addition, typeField, treeWith};
-ghost use Rattle.writer_rules.specs.Groups.{sizesAfter};
+ghost use Rattle.model.specs.Answers.{stage_tells};
+ghost use Rattle.table.specs.Groups.{type_rules};
+ghost use Rattle.writer_model.specs.Writer.{Addition, type_field, tree_with};
+ghost use Rattle.writer_rules.specs.Groups.{sizes_after};
 
 use model::Stage;
 use records::data_types;
@@ -19,8 +19,8 @@ const TYPE_SIZE: usize = 2;
 
 // The two bytes of a data type as one number; 0, which no type is, for a text of another length.
 fn type_code(data_type: &[u8]) -> u64
-    ensures { ((placeFrom 1 (typeField data_type.now) dataTypes ≡ placeFrom 1 (result % 256 ∷ result / 256 ∷ []) dataTypes)
-        × (same (typeField data_type.now) (text "LK") ≡ same (result % 256 ∷ result / 256 ∷ []) (text "LK"))) × (result < 65536) }
+    ensures { ((place_from 1 (type_field data_type.now) data_types ≡ place_from 1 (result % 256 ∷ result / 256 ∷ []) data_types)
+        × (same (type_field data_type.now) (text "LK") ≡ same (result % 256 ∷ result / 256 ∷ []) (text "LK"))) × (result < 65536) }
 {
     if data_type.len() != TYPE_SIZE {
         return 0;
@@ -30,15 +30,15 @@ fn type_code(data_type: &[u8]) -> u64
 
 // The data type: its place among the eleven, from 1, and 0 for any other.
 fn data_type_of(data_type: &[u8]) -> u64
-    ensures { (result ≡ placeFrom 1 (typeField data_type.now) dataTypes) × (result ≤ 11) }
+    ensures { (result ≡ place_from 1 (type_field data_type.now) data_types) × (result ≤ 11) }
 {
     data_types::by_code(type_code(data_type))
 }
 
 // Rules 12 to 14 at the next node, which has so many dimensions.
 pub fn type_stage(state: Writer, data_type: &[u8], rank: u64, room: &[u8]) -> Stage
-    ensures { (a : Addition) → a.dataType ≡ data_type.now → length a.dimensions ≡ rank
-        → stageTells result ≡ check state.node (typeRules (treeWith state a room.now) state.node) }
+    ensures { (a : Addition) → a.data_type ≡ data_type.now → length a.dimensions ≡ rank
+        → stage_tells result ≡ check state.node (type_rules (tree_with state a room.now) state.node) }
 {
     let node = state.node as usize;
     if type_code(data_type) == data_types::LINK {
@@ -89,8 +89,8 @@ pub fn size_stage(
     size: u64,
     room: &[u8],
 ) -> Stage
-    ensures { (a : Addition) → a.dataType ≡ data_type.now → a.dimensions ≡ dimensions.now → length a.bytes ≡ size
-        → stageTells result ≡ check state.node (sizesAfter (treeWith state a room.now) state.word state.byte state.node) }
+    ensures { (a : Addition) → a.data_type ≡ data_type.now → a.dimensions ≡ dimensions.now → length a.bytes ≡ size
+        → stage_tells result ≡ check state.node (sizes_after (tree_with state a room.now) state.word state.byte state.node) }
 {
     let node = state.node as usize;
     if !fits(

@@ -8,73 +8,73 @@ use native.Mathlib.Numerals.{add-one}
 use lib.ListN.{length, get_or, drop}
 use lib.Dec.{eqb, ltb}
 use borrow.Author.Tests.{ltb-true, ltb-false}
-use Rattle.model.specs.Lists.{countFrom, seekFrom}
-use Rattle.model.specs.Image.{tree_of, nodeCount, parent}
-use Rattle.model.specs.Containment.{Elements, validatedAs, sectionOf}
+use Rattle.model.specs.Lists.{count_from, seek_from}
+use Rattle.model.specs.Image.{tree_of, node_count, parent}
+use Rattle.model.specs.Containment.{Elements, validated_as, section_of}
 use Rattle.model.specs.Given.{Sound, Accepted}
-use Rattle.model.specs.Sections.{sectionNodes}
+use Rattle.model.specs.Sections.{section_nodes}
 use Rattle.model.proofs.Logic.{and_second}
-use Rattle.model.proofs.Walks.{seek-holds}
-use Rattle.model.proofs.Loops.{list-skip}
-use Rattle.model.proofs.Children.{no-child}
+use Rattle.model.proofs.Walks.{seek_holds}
+use Rattle.model.proofs.Loops.{list_skip}
+use Rattle.model.proofs.Children.{no_child}
 use Rattle.model.proofs.Members.{list_length}
-use Rattle.zone_sections.specs.After.{sectionsAfter, AcceptedSection}
-use Rattle.zone_sections.proofs.Walk.{list-found, list-none, Counted}
+use Rattle.zone_sections.specs.After.{sections_after, AcceptedSection}
+use Rattle.zone_sections.proofs.Walk.{list_found, list_none, Counted}
 
 -- a zone's sections have higher numbers than the zone
-module _ (b : List ℕ) (s : Sound b) (z : ℕ) (h : z < nodeCount b) where
-  none_before : (j : ℕ) → 0 ≤ j → j < 0 + (z + 1) → sectionOf (tree_of b) z j ≡ false
-  unfolding sectionOf
-  none_before j l m = rw (no-child b s z h j (omega arith))
+module _ (b : List ℕ) (s : Sound b) (z : ℕ) (h : z < node_count b) where
+  none_before : (j : ℕ) → 0 ≤ j → j < 0 + (z + 1) → section_of (tree_of b) z j ≡ false
+  unfolding section_of
+  none_before j l m = rw (no_child b s z h j (omega arith))
 
-  pub all_after : sectionsAfter (tree_of b) z z ≡ sectionNodes (tree_of b) z
-  unfolding sectionsAfter sectionNodes tree_of
+  pub all_after : sections_after (tree_of b) z z ≡ section_nodes (tree_of b) z
+  unfolding sections_after section_nodes tree_of
   all_after =
-      let e : z + 1 + (nodeCount b - (z + 1)) ≡ nodeCount b = omega arith in
+      let e : z + 1 + (node_count b - (z + 1)) ≡ node_count b = omega arith in
       let o : 0 + (z + 1) ≡ z + 1 = omega arith in
-      sym (rw (e, o) at (list-skip (sectionOf (tree_of b) z) (z + 1) (nodeCount b - (z + 1)) 0 none_before))
+      sym (rw (e, o) at (list_skip (section_of (tree_of b) z) (z + 1) (node_count b - (z + 1)) 0 none_before))
 
   -- so the count may start after it
-  pub none-counted : Counted (sectionOf (tree_of b) z) (nodeCount b) (z + 1) 0 (length (sectionNodes (tree_of b) z))
-  unfolding sectionsAfter tree_of
-  none-counted =
-      let k = nodeCount b - (z + 1) in
-      let l : countFrom (sectionOf (tree_of b) z) k (z + 1) ≡ length (sectionNodes (tree_of b) z)
-      = sym (list_length (sectionOf (tree_of b) z) k (z + 1)) ∙ ap length all_after in
+  pub none_counted : Counted (section_of (tree_of b) z) (node_count b) (z + 1) 0 (length (section_nodes (tree_of b) z))
+  unfolding sections_after tree_of
+  none_counted =
+      let k = node_count b - (z + 1) in
+      let l : count_from (section_of (tree_of b) z) k (z + 1) ≡ length (section_nodes (tree_of b) z)
+      = sym (list_length (section_of (tree_of b) z) k (z + 1)) ∙ ap length all_after in
       record { inside = omega arith; few = omega arith; rest = omega (arith, l) }
 
 -- the next section after node i, where there is one
-module _ (b : List ℕ) (z i : ℕ) (h : i < nodeCount b) (some : 0 < length (sectionsAfter (tree_of b) z i)) where
+module _ (b : List ℕ) (z i : ℕ) (h : i < node_count b) (some : 0 < length (sections_after (tree_of b) z i)) where
   abbrev pub next : ℕ
-  next = seekFrom (sectionOf (tree_of b) z) (nodeCount b - (i + 1)) (i + 1)
+  next = seek_from (section_of (tree_of b) z) (node_count b - (i + 1)) (i + 1)
 
-  inside : next < i + 1 + (nodeCount b - (i + 1))
-  unfolding sectionsAfter tree_of
-  inside = by-test (ltb next (i + 1 + k)) refl
+  inside : next < i + 1 + (node_count b - (i + 1))
+  unfolding sections_after tree_of
+  inside = by_test (ltb next (i + 1 + k)) refl
     where
       k : ℕ
-      k = nodeCount b - (i + 1)
+      k = node_count b - (i + 1)
 
-      by-test : (t : Bool) → ltb next (i + 1 + k) ≡ t → next < i + 1 + k
-      by-test true e = ltb-true next (i + 1 + k) e
-      by-test false e = absurd (omega (arith, some, list-none (sectionOf (tree_of b) z) k (i + 1) (ltb-false next (i + 1 + k) e)))
+      by_test : (t : Bool) → ltb next (i + 1 + k) ≡ t → next < i + 1 + k
+      by_test true e = ltb-true next (i + 1 + k) e
+      by_test false e = absurd (omega (arith, some, list_none (section_of (tree_of b) z) k (i + 1) (ltb-false next (i + 1 + k) e)))
 
-  after_is : sectionsAfter (tree_of b) z i ≡ next ∷ sectionsAfter (tree_of b) z next
-  unfolding sectionsAfter tree_of
+  after_is : sections_after (tree_of b) z i ≡ next ∷ sections_after (tree_of b) z next
+  unfolding sections_after tree_of
   after_is =
-      let e : i + 1 + (nodeCount b - (i + 1)) - suc next ≡ nodeCount b - (next + 1) = omega arith in
-      rw (e, ← add-one next) at (list-found (sectionOf (tree_of b) z) (nodeCount b - (i + 1)) (i + 1) inside)
+      let e : i + 1 + (node_count b - (i + 1)) - suc next ≡ node_count b - (next + 1) = omega arith in
+      rw (e, ← add-one next) at (list_found (section_of (tree_of b) z) (node_count b - (i + 1)) (i + 1) inside)
 
-  pub next-is : next ≡ get_or (sectionsAfter (tree_of b) z i) 0 0
+  pub next-is : next ≡ get_or (sections_after (tree_of b) z i) 0 0
   next-is = rw after_is
 
-  next-holds : validatedAs (tree_of b) Elements next ≡ true
-  unfolding sectionOf
-  next-holds = and_second (eqb (parent (tree_of b) next) z) _ (seek-holds (sectionOf (tree_of b) z) (nodeCount b - (i + 1)) (i + 1) inside)
+  next-holds : validated_as (tree_of b) Elements next ≡ true
+  unfolding section_of
+  next-holds = and_second (eqb (parent (tree_of b) next) z) _ (seek_holds (section_of (tree_of b) z) (node_count b - (i + 1)) (i + 1) inside)
 
   pub next-section : Accepted b → AcceptedSection b next
   next-section a = record { accepted = a; inside = omega (arith, inside); is-section = next-holds }
 
   -- and those after it
-  pub after_next : sectionsAfter (tree_of b) z next ≡ drop 1 (sectionsAfter (tree_of b) z i)
+  pub after_next : sections_after (tree_of b) z next ≡ drop 1 (sections_after (tree_of b) z i)
   after_next = rw after_is

@@ -1,18 +1,18 @@
 // The entry of one section of an accepted image. What is looked up under it conforms (rules 24 and 25 hold at every validated node).
 ghost use Rattle.std.specs.Prelude.{◌≡◌, ◌≤◌, ◌<◌, true};
-ghost use Rattle.model.specs.Image.{tree_of, nodeCount, width};
+ghost use Rattle.model.specs.Image.{tree_of, node_count, width};
 ghost use Rattle.model.specs.Values.{flat, size};
 ghost use Rattle.model.specs.Given.{Sound};
 ghost use Rattle.index.specs.Index.{Index};
-ghost use Rattle.model.specs.Sections.{dataStart, entry};
+ghost use Rattle.model.specs.Sections.{data_start, entry};
 ghost use Rattle.zone_sections.specs.After.{AcceptedSection};
 
 use model::Section;
 
 // Where the data of node j start, counted from the image's start; 0 for the node count, which stands for a missing node.
 fn start_of(image: &[u8], j: usize) -> u64
-    requires { Sound image.now × (j ≤ nodeCount image.now) }
-    ensures { result ≡ dataStart (tree_of image.now) j }
+    requires { Sound image.now × (j ≤ node_count image.now) }
+    ensures { result ≡ data_start (tree_of image.now) j }
 {
     if j < labels::node_count(image) {
         records::data_start(image, j) as u64
@@ -23,7 +23,7 @@ fn start_of(image: &[u8], j: usize) -> u64
 
 // The width of what node j stores; 0 for a missing node.
 fn width_at(image: &[u8], j: usize) -> u64
-    requires { Sound image.now × (j ≤ nodeCount image.now) }
+    requires { Sound image.now × (j ≤ node_count image.now) }
     ensures { result ≡ width (tree_of image.now) j }
 {
     if j < labels::node_count(image) {
@@ -35,7 +35,7 @@ fn width_at(image: &[u8], j: usize) -> u64
 
 // How many numbers node j stores, which has one dimension.
 fn size_of(image: &[u8], j: usize) -> u64
-    requires { (Sound image.now × (j < nodeCount image.now)) × (flat (tree_of image.now) j ≡ true) }
+    requires { (Sound image.now × (j < node_count image.now)) × (flat (tree_of image.now) j ≡ true) }
     ensures { result ≡ size (tree_of image.now) j }
 {
     records::dimension(image, j, 0)

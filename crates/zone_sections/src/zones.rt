@@ -1,20 +1,20 @@
 // The sections of a zone, one after the other in node order.
 ghost use Rattle.std.specs.Prelude.{◌≡◌, ◌+◌, ◌-◌, ◌≤◌, ◌<◌, length, get_or};
-ghost use Rattle.model.specs.Lists.{seekFrom};
-ghost use Rattle.model.specs.Image.{tree_of, nodeCount};
-ghost use Rattle.model.specs.Containment.{sectionOf};
+ghost use Rattle.model.specs.Lists.{seek_from};
+ghost use Rattle.model.specs.Image.{tree_of, node_count};
+ghost use Rattle.model.specs.Containment.{section_of};
 ghost use Rattle.index.specs.Index.{Index};
-ghost use Rattle.model.specs.Sections.{sectionNodes, entry};
-ghost use Rattle.zone_sections.specs.After.{sectionsAfter, Onward};
+ghost use Rattle.model.specs.Sections.{section_nodes, entry};
+ghost use Rattle.zone_sections.specs.After.{sections_after, Onward};
 
 use super::entry::entry_of;
 use model::Section;
 
 // The first section of the zone after node i; the node count where there is none.
 fn section_after(image: &[u8], index: &[u16], zone: usize, i: usize) -> usize
-    requires { Index image.now index.now × (i < nodeCount image.now) }
-    ensures { (result ≡ seekFrom (sectionOf (tree_of image.now) zone) (nodeCount image.now - (i + 1)) (i + 1))
-        × (result ≤ nodeCount image.now) }
+    requires { Index image.now index.now × (i < node_count image.now) }
+    ensures { (result ≡ seek_from (section_of (tree_of image.now) zone) (node_count image.now - (i + 1)) (i + 1))
+        × (result ≤ node_count image.now) }
 {
     let n = labels::node_count(image);
     let mut j = i + 1;
@@ -30,7 +30,7 @@ fn section_after(image: &[u8], index: &[u16], zone: usize, i: usize) -> usize
 // The entry of the zone's first section after node i, where there is one.
 pub fn entry_after(image: &[u8], index: &[u16], zone: u64, i: u64) -> Section
     requires { Onward image.now index.now zone i }
-    ensures { result ≡ entry (tree_of image.now) (get_or (sectionsAfter (tree_of image.now) zone i) 0 0) }
+    ensures { result ≡ entry (tree_of image.now) (get_or (sections_after (tree_of image.now) zone i) 0 0) }
 {
     let s = section_after(image, index, zone as usize, i as usize);
     entry_of(image, index, s)
@@ -38,8 +38,8 @@ pub fn entry_after(image: &[u8], index: &[u16], zone: u64, i: u64) -> Section
 
 // How many sections the zone has. They have higher numbers than the zone.
 pub fn section_count(image: &[u8], index: &[u16], zone: usize) -> usize
-    requires { Index image.now index.now × (zone < nodeCount image.now) }
-    ensures { (result ≡ length (sectionNodes (tree_of image.now) zone)) × (result ≤ 4096) }
+    requires { Index image.now index.now × (zone < node_count image.now) }
+    ensures { (result ≡ length (section_nodes (tree_of image.now) zone)) × (result ≤ 4096) }
 {
     let n = labels::node_count(image);
     let mut count = 0;

@@ -3,20 +3,20 @@ use Prim.Native.Nat.{ℕ}
 use mathlib.Core.Path.{refl, ap}
 use mathlib.Core.List.{[], ◌∷◌}
 use borrow.Author.Rules.{rules}
-use Rattle.model.specs.ReadList.{ruleOf}
-use Rattle.model.specs.Exports.{agreementWords}
-use Rattle.answers.proofs.Bits.{one-if}
+use Rattle.model.specs.ReadList.{rule_of}
+use Rattle.model.specs.Exports.{agreement_words}
+use Rattle.answers.proofs.Bits.{one_if}
 use Rattle.answers.proofs.agreement_answer.Statement.{statement}
 use Rattle.answers.proofs.agreement_answer.Tie as tie
 
 returns : tie.Need-returns
-unfolding ruleOf agreementWords
+unfolding rule_of agreement_words
 returns c =
     let told = c.before.before.a.given in
-    rw (c.answered.ensures.0, c.answered.ensures.1, told.1) (refl, ap (λ (n : ℕ). 0 ∷ 0 ∷ 0 ∷ n ∷ []) (one-if told.0.0))
+    rw (c.answered.ensures.0, c.answered.ensures.1, told.1) (refl, ap (λ (n : ℕ). 0 ∷ 0 ∷ 0 ∷ n ∷ []) (one_if told.0.0))
 
 returns-2 : tie.Need-returns-2
-unfolding ruleOf agreementWords
+unfolding rule_of agreement_words
 returns-2 c = rw (c.rejected.ensures.0, c.rejected.ensures.1, c.before.before.a2.given.1) (refl, refl)
 
 pub agreement-answer-spec : {M : Type 1} → statement M

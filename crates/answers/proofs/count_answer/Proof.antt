@@ -1,17 +1,17 @@
 -- By the case of the answer.
 use mathlib.Core.Path.{refl}
 use borrow.Author.Rules.{rules}
-use Rattle.model.specs.ReadList.{ruleOf}
-use Rattle.model.specs.Exports.{countWords}
+use Rattle.model.specs.ReadList.{rule_of}
+use Rattle.model.specs.Exports.{count_words}
 use Rattle.answers.proofs.count_answer.Statement.{statement}
 use Rattle.answers.proofs.count_answer.Tie as tie
 
 returns : tie.Need-returns
-unfolding ruleOf countWords
+unfolding rule_of count_words
 returns c = rw (c.answered.ensures.0, c.answered.ensures.1, c.before.before.c.given.1) (refl, refl)
 
 returns-2 : tie.Need-returns-2
-unfolding ruleOf countWords
+unfolding rule_of count_words
 returns-2 c = rw (c.rejected.ensures.0, c.rejected.ensures.1, c.before.before.c2.given.1) (refl, refl)
 
 pub count-answer-spec : {M : Type 1} → statement M

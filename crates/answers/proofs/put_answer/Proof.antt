@@ -2,12 +2,12 @@
 use native.Mathlib.Omega.{arith}
 use mathlib.Core.Path.{refl, sym}
 use borrow.Author.Rules.{rules}
-use Rattle.answers.proofs.Written.{take-fits}
+use Rattle.answers.proofs.Written.{take_fits}
 use Rattle.answers.proofs.put_answer.Statement.{statement}
 use Rattle.answers.proofs.put_answer.Tie as tie
 
 share : tie.Need-array-share-prefix-words
-share c = take-fits _ _ c.before.before.before.requires.0
+share c = take_fits _ _ c.before.before.before.requires.0
 
 counted : tie.Need-slice-aggregate-put-words
 counted c = sym c.before.before.before.before.requires.0

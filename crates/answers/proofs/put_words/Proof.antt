@@ -7,7 +7,7 @@ use lib.ListN.{length, take}
 use lib.Seq.{take_all}
 use Rattle.model.specs.Lists.{over}
 use Rattle.model.specs.Bytes.{all_bytes}
-use Rattle.answers.proofs.Written.{none-put, word-put}
+use Rattle.answers.proofs.Written.{none_put, word_put}
 use Rattle.answers.proofs.put_words.Statement.{statement}
 use Rattle.answers.proofs.put_words.Tie as tie
 
@@ -18,7 +18,7 @@ abbrev decreases-loop : tie.decreases-loop
 decreases-loop out₀ words k₀ out k = length words - k
 
 loop-holds : tie.Need-loop-init invariant-loop decreases-loop
-loop-holds c = (omega arith, none-put _, refl)
+loop-holds c = (omega arith, none_put _, refl)
 
 put-word-requires : tie.Need-put-word-requires invariant-loop decreases-loop
 put-word-requires c κs = (omega arith, omega (arith, c.before.before.before.loop.invariant.2))
@@ -27,7 +27,7 @@ loop-again : tie.Need-loop-preserved invariant-loop decreases-loop
 loop-again c =
     let l = c.before.before.before.before.before.before in
     let p = c.before.before.put_word in
-    (omega arith, p.ensures ∙ rw l.loop.invariant.1 (word-put _ _ l.loop.k (omega arith)), p.auto.0 ∙ l.loop.invariant.2)
+    (omega arith, p.ensures ∙ rw l.loop.invariant.1 (word_put _ _ l.loop.k (omega arith)), p.auto.0 ∙ l.loop.invariant.2)
 
 same_length : tie.Need-same-length invariant-loop decreases-loop
 same_length c = c.before.loop.invariant.2

@@ -1,17 +1,17 @@
 -- By the case of the answer.
 use mathlib.Core.Path.{refl}
 use borrow.Author.Rules.{rules}
-use Rattle.model.specs.ReadList.{ruleOf}
-use Rattle.model.specs.Exports.{validationWords}
+use Rattle.model.specs.ReadList.{rule_of}
+use Rattle.model.specs.Exports.{validation_words}
 use Rattle.answers.proofs.validation_answer.Statement.{statement}
 use Rattle.answers.proofs.validation_answer.Tie as tie
 
 returns : tie.Need-returns
-unfolding ruleOf validationWords
+unfolding rule_of validation_words
 returns c = rw (c.answered.ensures.0, c.answered.ensures.1, c.before.before.v.given.1) (refl, refl)
 
 returns-2 : tie.Need-returns-2
-unfolding ruleOf validationWords
+unfolding rule_of validation_words
 returns-2 c = rw (c.rejected.ensures.0, c.rejected.ensures.1, c.before.before.v2.given.1) (refl, refl)
 
 pub validation-answer-spec : {M : Type 1} → statement M

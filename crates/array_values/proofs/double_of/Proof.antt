@@ -5,7 +5,7 @@ use borrow.Author.Rules.{rules}
 use lib.Ieee.{binary64, nan_bits}
 use Rattle.model.specs.Rules.{answer}
 use Rattle.model.specs.ArrayValue.{double}
-use Rattle.array_values.proofs.Laws.{no_nan, bits-kept}
+use Rattle.array_values.proofs.Laws.{no_nan, bits_kept}
 use Rattle.array_values.proofs.double_of.Statement.{statement}
 use Rattle.array_values.proofs.double_of.Tie as tie
 
@@ -15,7 +15,7 @@ plain c = sym c.before.nan-double.ensures ∙ c.if1.false
 returns-2 : tie.Need-returns-2
 returns-2 c =
     let f = c.before.before in
-    let k = bits-kept binary64 f.args.bits f.ranges.bits.fits (plain c) in
+    let k = bits_kept binary64 f.args.bits f.ranges.bits.fits (plain c) in
     (ap (λ x. answer (double x)) k.0, k.1)
 
 pub double-of-spec : {M : Type 1} → statement M

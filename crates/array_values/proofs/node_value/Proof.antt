@@ -7,11 +7,11 @@ use mathlib.Core.Bool.{true}
 use lib.Dec.{T}
 use Rattle.model.specs.Lists.{among}
 use Rattle.model.specs.Rules.{rejected}
-use Rattle.model.specs.Image.{tree_of, dataType}
-use Rattle.words.specs.Width.{isWidth}
+use Rattle.model.specs.Image.{tree_of, data_type_of}
+use Rattle.words.specs.Width.{is_width}
 use Rattle.array_values.specs.Readable.{readable}
 use Rattle.array_values.proofs.Laws.{readable-wide, width_is}
-use Rattle.array_values.proofs.Answer.{unreadable, not-from-one, past_end, in-range}
+use Rattle.array_values.proofs.Answer.{unreadable, not-from-one, past_end, in_range_lem}
 use Rattle.array_values.proofs.node_value.Statement.{statement}
 use Rattle.array_values.proofs.node_value.Tie as tie
 
@@ -19,7 +19,7 @@ use Rattle.array_values.proofs.node_value.Tie as tie
 readable-type : (c : tie.Else1) → among c.before.before.data-type-of.result readable ≡ true
 readable-type c = sym c.before.is-readable.ensures ∙ not-false _ c.if1.false
 
-readable-node : (c : tie.Else1) → let a = c.before.before.before.before.args in among (dataType (tree_of a.image.now) a.i) readable ≡ true
+readable-node : (c : tie.Else1) → let a = c.before.before.before.before.args in among (data_type_of (tree_of a.image.now) a.i) readable ≡ true
 readable-node c = rw c.before.before.data-type-of.ensures.0 at (readable-type c)
 
 returns : tie.Need-returns
@@ -39,7 +39,7 @@ array-length-requires : tie.Need-array-length-requires
 array-length-requires c κs =
     let d = c.before.before in
     let w = c.width_of_lem.ensures.0 in
-    let t : T (isWidth c.width_of_lem.result) = rw w (readable-wide _ (readable-type d)).0 in
+    let t : T (is_width c.width_of_lem.result) = rw w (readable-wide _ (readable-type d)).0 in
     (d.before.before.before.before.requires, (t, w ∙ width_is _ _ d.before.before.data-type-of.ensures.0))
 
 returns-3 : tie.Need-returns-3
@@ -57,7 +57,7 @@ returns-4 : tie.Need-returns-4
 returns-4 c =
     let d = c.before.before.before.before.before in
     let f = d.before.before.before.before in (
-      c.value-at.ensures.0 ∙ in-range f.requires.0 f.args.i f.args.k f.requires.1 (readable-node d) (omega arith)
+      c.value-at.ensures.0 ∙ in_range_lem f.requires.0 f.args.i f.args.k f.requires.1 (readable-node d) (omega arith)
           (omega arith),
       c.value-at.ensures.1,
     )

@@ -5,9 +5,9 @@ use mir.Facts.{to_z-of_z}
 use mathlib.Core.Path.{refl, ap, ◌∙◌}
 use lib.Dec.{T}
 use Rattle.model.specs.Image.{tree_of, widths}
-use Rattle.words.specs.Width.{isWidth}
+use Rattle.words.specs.Width.{is_width}
 use Rattle.model.specs.Rules.{answer}
-use Rattle.array_values.proofs.Laws.{array-room, readable-wide, value-single, value-double, value-whole}
+use Rattle.array_values.proofs.Laws.{array_room, readable-wide, value-single, value-double, value-whole}
 use Rattle.array_values.proofs.value_at.Statement.{statement}
 use Rattle.array_values.proofs.value_at.Tie as tie
 
@@ -15,7 +15,7 @@ number-requires : tie.Need-number-requires
 unfolding widths
 number-requires c κs =
     let f = c.before.before in
-    let r = array-room _ f.requires.0.0.0 f.args.i f.requires.0.0.1 f.requires.0.1.1 6 4 c.if1.true refl f.args.k f.requires.1 in
+    let r = array_room _ f.requires.0.0.0 f.args.i f.requires.0.0.1 f.requires.0.1.1 6 4 c.if1.true refl f.args.k f.requires.1 in
     (f.requires.0.0, ((tt, r.0), r.1))
 
 returns : tie.Need-returns
@@ -30,7 +30,7 @@ number-requires-2 : tie.Need-number-requires-2
 unfolding widths
 number-requires-2 c κs =
     let f = c.before.before.before in
-    let r = array-room _ f.requires.0.0.0 f.args.i f.requires.0.0.1 f.requires.0.1.1 9 8 c.if2.true refl f.args.k f.requires.1 in
+    let r = array_room _ f.requires.0.0.0 f.args.i f.requires.0.0.1 f.requires.0.1.1 9 8 c.if2.true refl f.args.k f.requires.1 in
     (f.requires.0.0, ((tt, r.0), r.1))
 
 returns-2 : tie.Need-returns-2
@@ -49,8 +49,8 @@ whole-at-requires c κs =
     let f = c.before.before.before.before in
     let d = f.args.data-type in
     let w = c.width_of_lem.ensures.0 in
-    let t : T (isWidth c.width_of_lem.result) = rw w (readable-wide d f.requires.0.1.0).0 in
-    let r = array-room _ f.requires.0.0.0 f.args.i f.requires.0.0.1 f.requires.0.1.1 d _ refl w f.args.k f.requires.1 in
+    let t : T (is_width c.width_of_lem.result) = rw w (readable-wide d f.requires.0.1.0).0 in
+    let r = array_room _ f.requires.0.0.0 f.args.i f.requires.0.0.1 f.requires.0.1.1 d _ refl w f.args.k f.requires.1 in
     ((f.requires.0.0, (t, r.0)), r.1)
 
 returns-3 : tie.Need-returns-3

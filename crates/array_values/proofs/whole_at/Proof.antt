@@ -3,7 +3,7 @@ use borrow.Author.Rules.{rules, sfits_of}
 use mir.Syntax.{w64}
 use mir.Facts.{to_z-of_z}
 use Rattle.model.proofs.Reading.{number-at}
-use Rattle.records.proofs.Places.{area-at}
+use Rattle.records.proofs.Places.{area_at_lem}
 use Rattle.array_values.proofs.whole_at.Statement.{statement}
 use Rattle.array_values.proofs.whole_at.Tie as tie
 
@@ -13,7 +13,7 @@ returns c =
     let b = f.args.image.now in
     let w = f.requires.0.1.1 in
     let n = number-at b f.args.i f.args.k (rw (← w) f.requires.1) in
-    let r = area-at b in
+    let r = area_at_lem b in
     rw (to_z-of_z (sfits_of {w = w64} {z = c.signed-at.result} c.signed-at.type-inv)) cc
 
 pub whole-at-spec : {M : Type 1} → statement M

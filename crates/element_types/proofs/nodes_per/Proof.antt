@@ -2,13 +2,13 @@
 use mathlib.Core.Path.{refl}
 use native.Mathlib.Omega.{arith}
 use Rattle.model.specs.Lists.{row}
-use Rattle.model.specs.Elements.{nodesPer}
+use Rattle.model.specs.Elements.{nodes_per}
 use Rattle.element_types.proofs.Laws.{listed, unlisted}
 use Rattle.element_types.proofs.nodes_per.Statement.{statement}
 use Rattle.element_types.proofs.nodes_per.Tie as tie
 
 pub nodes-per-spec : {M : Type 1} → statement M
-unfolding nodesPer row
+unfolding nodes_per row
 nodes-per-spec =
     tie.close
     (tie.spec

@@ -4,12 +4,12 @@ use mathlib.Core.Path.{◌≡◌}
 use native.Mathlib.Omega.{arith}
 use borrow.Author.Rules.{rules}
 use lib.ListN.{length-set}
-use Rattle.model.specs.Sections.{entryNumbers}
+use Rattle.model.specs.Sections.{entry_numbers}
 use Rattle.entries.proofs.put_entry.Statement.{statement}
 use Rattle.entries.proofs.put_entry.Tie as tie
 
 returns : tie.Need-returns
-unfolding entryNumbers
+unfolding entry_numbers
 returns c =
     let k = c.args.k in
     let p : k + 1 ≡ suc k = omega arith in

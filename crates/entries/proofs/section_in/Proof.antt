@@ -5,18 +5,18 @@ use native.Mathlib.Omega.{arith}
 use borrow.Author.Rules.{rules}
 use lib.ListN.{get_or, drop}
 use Rattle.model.specs.Bytes.{le, numbers}
-use Rattle.model.specs.Sections.{entryLength}
-use Rattle.model.specs.Reads.{sectionAt}
-use Rattle.model.specs.Exports.{sectionIn}
+use Rattle.model.specs.Sections.{entry_length}
+use Rattle.model.specs.Reads.{section_at}
+use Rattle.model.specs.Exports.{section_in}
 use Rattle.model.proofs.Reading.{numbers-at}
 use Rattle.entries.proofs.section_in.Statement.{statement}
 use Rattle.entries.proofs.section_in.Tie as tie
 
 returns : tie.Need-returns
-unfolding sectionIn sectionAt
+unfolding section_in section_at
 returns c =
     let s = c.before.before.before.before.before.before.before.before.before.before.before.before.args.s.now in
-    let w : (k : ℕ) → k < entryLength → le 8 (drop (8 * k) s) ≡ get_or (numbers 8 entryLength s) k 0 = λ k h. sym (numbers-at 8 entryLength k s h) in
+    let w : (k : ℕ) → k < entry_length → le 8 (drop (8 * k) s) ≡ get_or (numbers 8 entry_length s) k 0 = λ k h. sym (numbers-at 8 entry_length k s h) in
     cc (
       w 0 (omega arith),
       w 1 (omega arith),

@@ -5,7 +5,7 @@ use borrow.Author.Tests.{not-true, not-false}
 use Rattle.model.specs.Rules.{rejected}
 use Rattle.model.proofs.Staging.{passes, rejects}
 use Rattle.model.proofs.Bounds.{accepted-image}
-use Rattle.faces.proofs.Checks.{usage-refused, not-accepted, no-zone}
+use Rattle.faces.proofs.Checks.{usage_refused, not-accepted, no_zone}
 use Rattle.faces.proofs.usage_after.Statement.{statement}
 use Rattle.faces.proofs.usage_after.Tie as tie
 
@@ -13,7 +13,7 @@ returns : tie.Need-returns
 returns c =
     let d = c.before.before.before.before.before.before.before.before.before in
     rw c.rejection.ensures
-    (usage-refused d.args.image.now d.args.zone d.args.out.now (not-accepted _ _ _ (rejects d.requires.0.0 c.before.enum-told2.given.1)))
+    (usage_refused d.args.image.now d.args.zone d.args.out.now (not-accepted _ _ _ (rejects d.requires.0.0 c.before.enum-told2.given.1)))
 
 is-zone-requires : tie.Need-is-zone-requires
 is-zone-requires c κs =
@@ -23,8 +23,8 @@ returns-2 : tie.Need-returns-2
 returns-2 c =
     let i = c.before.before in
     let d = c.before.before.before.before.before.before.before.before.before.before.before in
-    let w = usage-refused d.args.image.now d.args.zone d.args.out.now
-    (no-zone _ _ _ (passes d.requires.0.0 i.before.enum_told.given.1) (sym i.is-zone.ensures ∙ not-true _ c.before.if1.true)) in
+    let w = usage_refused d.args.image.now d.args.zone d.args.out.now
+    (no_zone _ _ _ (passes d.requires.0.0 i.before.enum_told.given.1) (sym i.is-zone.ensures ∙ not-true _ c.before.if1.true)) in
     (ap rejected c.at.ensures ∙ w.0, w.1)
 
 zone-usage-requires : tie.Need-zone-usage-requires

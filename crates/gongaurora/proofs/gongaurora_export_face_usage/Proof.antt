@@ -3,24 +3,24 @@ use native.Mathlib.Omega.{arith}
 use mathlib.Core.Path.{ap, ◌∙◌}
 use borrow.Author.Rules.{rules}
 use lib.ListN.{length}
-use Rattle.model.specs.Exports.{usageWords}
-use Rattle.gongaurora.proofs.Laws.{usage-four, short, enough, memory-short, memory-long}
+use Rattle.model.specs.Exports.{usage_words}
+use Rattle.gongaurora.proofs.Laws.{usage_four, short, enough, memory_short, memory_long}
 use Rattle.gongaurora.proofs.gongaurora_export_face_usage.Statement.{statement}
 use Rattle.gongaurora.proofs.gongaurora_export_face_usage.Tie as tie
 
 returns : tie.Need-returns
-returns c = let s = short usageWords 4 usage-four _ _ c.if1.true in (s.0, (s.1, memory-short 4 _ _ _ c.if1.true))
+returns c = let s = short usage_words 4 usage_four _ _ c.if1.true in (s.0, (s.1, memory_short 4 _ _ _ c.if1.true))
 
 put-answer-requires : tie.Need-put-answer-requires
-put-answer-requires c κs = (ap length c.usage-answer.ensures.1 ∙ usage-four _, omega arith)
+put-answer-requires c κs = (ap length c.usage-answer.ensures.1 ∙ usage_four _, omega arith)
 
 returns-2 : tie.Need-returns-2
 returns-2 c =
     let d = c.before.before in
     let call = d.before.before.before.before.face-usage.ensures in
     let room = d.before.before.before.before.before.before.before.if1.false in
-    let answers = enough usageWords 4 usage-four _ _ room call.0 d.before.usage-answer.ensures d.put-answer.ensures in
-    (answers.0, (answers.1, call.1 ∙ memory-long 4 _ _ _ room))
+    let answers = enough usage_words 4 usage_four _ _ room call.0 d.before.usage-answer.ensures d.put-answer.ensures in
+    (answers.0, (answers.1, call.1 ∙ memory_long 4 _ _ _ room))
 
 pub gongaurora-export-face-usage-spec : {M : Type 1} → statement M
 gongaurora-export-face-usage-spec =

@@ -3,22 +3,22 @@ use native.Mathlib.Omega.{arith}
 use mathlib.Core.Path.{ap, ◌∙◌}
 use borrow.Author.Rules.{rules}
 use lib.ListN.{length}
-use Rattle.model.specs.Exports.{countWords}
-use Rattle.gongaurora.proofs.Laws.{count-three, short, enough}
+use Rattle.model.specs.Exports.{count_words}
+use Rattle.gongaurora.proofs.Laws.{count_three, short, enough}
 use Rattle.gongaurora.proofs.gongaurora_export_name_bytes.Statement.{statement}
 use Rattle.gongaurora.proofs.gongaurora_export_name_bytes.Tie as tie
 
 returns : tie.Need-returns
-returns c = short countWords 3 count-three _ _ c.if1.true
+returns c = short count_words 3 count_three _ _ c.if1.true
 
 put-answer-requires : tie.Need-put-answer-requires
-put-answer-requires c κs = (ap length c.count-answer.ensures.1 ∙ count-three _, omega arith)
+put-answer-requires c κs = (ap length c.count-answer.ensures.1 ∙ count_three _, omega arith)
 
 returns-2 : tie.Need-returns-2
 returns-2 c =
     let d = c.before.before in
     let call = d.before.before.name-bytes.ensures in
-    enough countWords 3 count-three _ _ d.before.before.before.before.if1.false call d.before.count-answer.ensures d.put-answer.ensures
+    enough count_words 3 count_three _ _ d.before.before.before.before.if1.false call d.before.count-answer.ensures d.put-answer.ensures
 
 pub gongaurora-export-name-bytes-spec : {M : Type 1} → statement M
 gongaurora-export-name-bytes-spec =

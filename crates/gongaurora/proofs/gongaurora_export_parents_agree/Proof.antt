@@ -3,24 +3,24 @@ use native.Mathlib.Omega.{arith}
 use mathlib.Core.Path.{ap, ◌∙◌}
 use borrow.Author.Rules.{rules}
 use lib.ListN.{length}
-use Rattle.model.specs.Exports.{agreementWords}
-use Rattle.gongaurora.proofs.Laws.{agreement-four, short, enough, memory-short, memory-long}
+use Rattle.model.specs.Exports.{agreement_words}
+use Rattle.gongaurora.proofs.Laws.{agreement_four, short, enough, memory_short, memory_long}
 use Rattle.gongaurora.proofs.gongaurora_export_parents_agree.Statement.{statement}
 use Rattle.gongaurora.proofs.gongaurora_export_parents_agree.Tie as tie
 
 returns : tie.Need-returns
-returns c = let s = short agreementWords 4 agreement-four _ _ c.if1.true in (s.0, (s.1, memory-short 4 _ _ _ c.if1.true))
+returns c = let s = short agreement_words 4 agreement_four _ _ c.if1.true in (s.0, (s.1, memory_short 4 _ _ _ c.if1.true))
 
 put-answer-requires : tie.Need-put-answer-requires
-put-answer-requires c κs = (ap length c.agreement-answer.ensures.1 ∙ agreement-four _, omega arith)
+put-answer-requires c κs = (ap length c.agreement-answer.ensures.1 ∙ agreement_four _, omega arith)
 
 returns-2 : tie.Need-returns-2
 returns-2 c =
     let d = c.before.before in
     let call = d.before.before.before.before.parents-agree.ensures in
     let room = d.before.before.before.before.before.before.before.if1.false in
-    let answers = enough agreementWords 4 agreement-four _ _ room call.0 d.before.agreement-answer.ensures d.put-answer.ensures in
-    (answers.0, (answers.1, call.1 ∙ memory-long 4 _ _ _ room))
+    let answers = enough agreement_words 4 agreement_four _ _ room call.0 d.before.agreement-answer.ensures d.put-answer.ensures in
+    (answers.0, (answers.1, call.1 ∙ memory_long 4 _ _ _ room))
 
 pub gongaurora-export-parents-agree-spec : {M : Type 1} → statement M
 gongaurora-export-parents-agree-spec =

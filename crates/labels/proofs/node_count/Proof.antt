@@ -1,6 +1,6 @@
 -- The header's third word.
 use mathlib.Core.Path.{◌≡◌, ◌∙◌}
-use Rattle.model.specs.Image.{nodeCount}
+use Rattle.model.specs.Image.{node_count}
 use Rattle.labels.proofs.Nodes.{count_at}
 use native.Mathlib.Omega.{arith}
 use borrow.Author.Rules.{rules}
@@ -9,7 +9,7 @@ use Rattle.labels.proofs.node_count.Tie as tie
 
 returns : tie.Need-returns
 returns c =
-    let e : c.u32-at.result ≡ nodeCount c.before.before.args.image.now = c.u32-at.ensures.0 ∙ count_at _ in
+    let e : c.u32-at.result ≡ node_count c.before.before.args.image.now = c.u32-at.ensures.0 ∙ count_at _ in
     (e, omega arith)
 
 pub node-count-spec : {M : Type 1} → statement M

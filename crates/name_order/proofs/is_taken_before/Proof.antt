@@ -3,24 +3,24 @@ use Prim.Native.Nat.{◌-◌}
 use mathlib.Core.Path.{sym, ◌∙◌}
 use native.Mathlib.Omega.{arith}
 use borrow.Author.Rules.{rules}
-use Rattle.model.specs.Records.{namesake, nameTaken}
-use Rattle.model.proofs.Loops.{SomeLeft, some-start, some_more, some-stop, some-done}
-use Rattle.records.specs.Table.{allRecords}
+use Rattle.model.specs.Records.{namesake, name_taken}
+use Rattle.model.proofs.Loops.{SomeLeft, some_start, some_more, some_stop, some-done}
+use Rattle.records.specs.Table.{all_records}
 use Rattle.name_order.proofs.is_taken_before.Statement.{statement}
 use Rattle.name_order.proofs.is_taken_before.Tie as tie
 
 abbrev invariant-loop : tie.invariant-loop
-invariant-loop table i up j₀ j = SomeLeft (namesake (allRecords table) i) i j (nameTaken (allRecords table) i)
+invariant-loop table i up j₀ j = SomeLeft (namesake (all_records table) i) i j (name_taken (all_records table) i)
 
 abbrev decreases-loop : tie.decreases-loop
 decreases-loop table i up j₀ j = i - j
 
 loop-holds : tie.Need-loop-init invariant-loop decreases-loop
-unfolding nameTaken
-loop-holds c = some-start _ _ 0 (omega arith) (λ k h. absurd (omega arith))
+unfolding name_taken
+loop-holds c = some_start _ _ 0 (omega arith) (λ k h. absurd (omega arith))
 
 returns : tie.Need-returns invariant-loop decreases-loop
-returns c = some-stop c.before.before.before.loop.invariant (omega arith) (sym c.before.is-namesake.ensures ∙ c.if1.true)
+returns c = some_stop c.before.before.before.loop.invariant (omega arith) (sym c.before.is-namesake.ensures ∙ c.if1.true)
 
 loop-again : tie.Need-loop-preserved invariant-loop decreases-loop
 loop-again c = some_more c.before.before.before.loop.invariant (omega arith) (sym c.before.is-namesake.ensures ∙ c.if1.false)

@@ -3,7 +3,7 @@ use native.Mathlib.Omega.{arith}
 use borrow.Author.Rules.{rules}
 use mathlib.Core.Path.{◌∙◌, ap}
 use Prim.Native.Nat.{◌<◌}
-use Rattle.model.specs.Image.{nodeCount}
+use Rattle.model.specs.Image.{node_count}
 use Rattle.model.proofs.Reading.{name-at}
 use Rattle.model.specs.Path.{trimmed}
 use Rattle.paths.proofs.name_length.Statement.{statement}
@@ -13,7 +13,7 @@ returns : tie.Need-returns
 returns c =
     let a = c.before.before.before.args in
     let b = a.image.now in
-    let h : a.i < nodeCount b = omega arith in
+    let h : a.i < node_count b = omega arith in
     rw (← c.before.at.ensures) (ap trimmed (name-at b a.i h) ∙ rw (← c.before.at.ensures) c.text-length.ensures.0, omega arith)
 
 pub name-length-spec : {M : Type 1} → statement M

@@ -5,7 +5,7 @@ use Prim.Native.Nat.{◌≤◌}
 use mathlib.Core.Path.{◌≡◌, ◌∙◌, sym}
 use lib.ListN.{take, drop}
 use Rattle.model.specs.Path.{trimmed}
-use Rattle.paths.proofs.Laws.{trim-keep, trim-drop, trim_end}
+use Rattle.paths.proofs.Laws.{trim_keep, trim_drop, trim_end}
 use Rattle.paths.proofs.text_length.Statement.{statement}
 use Rattle.paths.proofs.text_length.Tie as tie
 
@@ -19,7 +19,7 @@ returns : tie.Need-returns invariant-loop decreases-loop
 returns c =
     let d = c.before.before in
     let a = d.before.before.before.args in (
-      sym d.before.loop.invariant.1 ∙ trim-keep a.image.now a.at d.before.loop.k (omega arith) (omega arith)
+      sym d.before.loop.invariant.1 ∙ trim_keep a.image.now a.at d.before.loop.k (omega arith) (omega arith)
           (λ e. c.if1.true (c.before.byte_at.ensures.0 ∙ e)),
       search rules,
     )
@@ -29,7 +29,7 @@ loop-again c = (
   search rules,
   let d = c.before.before in
       let a = d.before.before.before.args in
-      trim-drop a.image.now a.at d.before.loop.k (omega arith) (omega arith) (sym c.before.byte_at.ensures.0 ∙ c.if1.false)
+      trim_drop a.image.now a.at d.before.loop.k (omega arith) (omega arith) (sym c.before.byte_at.ensures.0 ∙ c.if1.false)
       ∙ d.before.loop.invariant.1,
 )
 

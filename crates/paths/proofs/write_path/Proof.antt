@@ -4,20 +4,20 @@ use borrow.Author.Rules.{rules}
 use mathlib.Core.Path.{ap}
 use lib.ListN.{length}
 use Rattle.model.specs.Image.{tree_of}
-use Rattle.paths.proofs.Laws.{path-root, path_names, slash-alone}
+use Rattle.paths.proofs.Laws.{path_root, path_names, slash_alone}
 use Rattle.paths.proofs.write_path.Statement.{statement}
 use Rattle.paths.proofs.write_path.Tie as tie
 
 slice-write-out : tie.Need-slice-write-out
 slice-write-out c =
     let a = c.before.before.before.args in
-    let e = path-root (tree_of a.image.now) a.i c.if1.true in
+    let e = path_root (tree_of a.image.now) a.i c.if1.true in
     omega (arith, ap length e)
 
 returns : tie.Need-returns
 returns c =
     let a = c.before.before.before.args in
-    rw (path-root (tree_of a.image.now) a.i c.if1.true) (slash-alone a.out.now (slice-write-out c))
+    rw (path_root (tree_of a.image.now) a.i c.if1.true) (slash_alone a.out.now (slice-write-out c))
 
 write-names-requires : tie.Need-write-names-requires
 write-names-requires c κs =

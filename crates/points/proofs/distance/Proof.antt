@@ -1,7 +1,7 @@
 -- By the sign.
 use native.Mathlib.Omega.{arith}
 use Rattle.words.proofs.Signed.{half_is}
-use Rattle.points.proofs.PointRanges.{distance-low, distance_high}
+use Rattle.points.proofs.PointRanges.{distance_low, distance_high}
 use Rattle.points.proofs.distance.Statement.{statement}
 use Rattle.points.proofs.distance.Tie as tie
 
@@ -13,7 +13,7 @@ add-result c =
     omega arith
 
 returns : tie.Need-returns
-returns c = let e = c.before.half_of_lem.ensures in rw e (distance-low _ _ (rw e at c.if1.true))
+returns c = let e = c.before.half_of_lem.ensures in rw e (distance_low _ _ (rw e at c.if1.true))
 
 returns-2 : tie.Need-returns-2
 returns-2 c = let e = c.before.half_of_lem.ensures in rw e (distance_high _ _ (rw e at c.if1.false))

@@ -4,8 +4,8 @@ use mathlib.Core.Path.{◌≡◌}
 use native.Mathlib.Omega.{arith}
 use borrow.Author.Rules.{rules}
 use Rattle.model.specs.Image.{tree_of}
-use Rattle.model.specs.Values.{pointsIn}
-use Rattle.points.proofs.PointRanges.{ProductTo, direction-lawful, points-are, product-start, product-more, product-room, product-stop, product-done}
+use Rattle.model.specs.Values.{points_in}
+use Rattle.points.proofs.PointRanges.{ProductTo, direction_lawful_lem, points_are, product_start, product_more, product-room, product_stop, product-done}
 use Rattle.points.proofs.has_points.Statement.{statement}
 use Rattle.points.proofs.has_points.Tie as tie
 
@@ -19,7 +19,7 @@ dimension-above-requires : tie.Need-dimension-above-requires invariant-loop decr
 dimension-above-requires c κs = let p = c.before.before.requires in ((p.0, p.1.0.above), (p.1.0.inside, p.1.0.based))
 
 loop-holds : tie.Need-loop-init invariant-loop decreases-loop
-loop-holds c = product-start _ _ c.dimension-above.ensures.0
+loop-holds c = product_start _ _ c.dimension-above.ensures.0
 
 points-in-requires : tie.Need-points-in-requires invariant-loop decreases-loop
 points-in-requires c κs =
@@ -32,22 +32,22 @@ module _ (c : tie.After-points-in invariant-loop decreases-loop) where
   abbrev start : tie.Start invariant-loop decreases-loop
   start = c.before.before.before.before.before.before
 
-  are : c.points-in.result ≡ pointsIn (tree_of start.args.image.now) start.args.i c.before.before.loop.d
+  are : c.points-in.result ≡ points_in (tree_of start.args.image.now) start.args.i c.before.before.loop.d
   are =
       let l = c.before.before in
       let p = start.pre.1 in
-      points-are _ _ _ c.points-in.ensures.0
-      (direction-lawful start.args.image.now start.args.i p.0 p.1 l.loop.d
+      points_are _ _ _ c.points-in.ensures.0
+      (direction_lawful_lem start.args.image.now start.args.i p.0 p.1 l.loop.d
       (rw (← l.before.dimension-above.ensures.0) c.before.loop-test.true))
 
 div-if1 : tie.Need-nonzero-div-if1 invariant-loop decreases-loop
-unfolding pointsIn
+unfolding points_in
 div-if1 c = let e = are c in omega arith
 
 returns : tie.Need-returns invariant-loop decreases-loop
 returns c =
     let l = c.before.before.before in
-    product-stop _ _ _ _ _ l.loop.invariant _ c.before.before.loop-test.true (are c.before) c.if1.true
+    product_stop _ _ _ _ _ l.loop.invariant _ c.before.before.loop-test.true (are c.before) c.if1.true
 
 mul-product : tie.Need-overflow-mul-product invariant-loop decreases-loop
 mul-product c =
@@ -61,7 +61,7 @@ mul-product c =
 loop-again : tie.Need-loop-preserved invariant-loop decreases-loop
 loop-again c =
     let l = c.before.before.before in
-    product-more _ _ _ _ _ l.loop.invariant c.before.before.loop-test.true (are c.before)
+    product_more _ _ _ _ _ l.loop.invariant c.before.before.loop-test.true (are c.before)
 
 returns-2 : tie.Need-returns-2 invariant-loop decreases-loop
 returns-2 c = product-done _ _ _ _ _ c.before.loop.invariant _ c.loop-test.false

@@ -5,9 +5,9 @@ use borrow.Author.Tests.{ne_eqb}
 use Rattle.model.specs.Lists.{row}
 use Rattle.model.specs.Image.{tree_of, parent}
 use Rattle.model.specs.Containment.{role}
-use Rattle.model.specs.Values.{rangeValue, indexRangeValue}
+use Rattle.model.specs.Values.{range_value, index_range_value}
 use Rattle.types.specs.Given.{HeldContext}
-use Rattle.types.proofs.Roles.{range-has, held-context}
+use Rattle.types.proofs.Roles.{range-has, held_context}
 use Rattle.points.proofs.index_range_value.Statement.{statement}
 use Rattle.points.proofs.index_range_value.Tie as tie
 
@@ -17,7 +17,7 @@ module _ (c : tie.After-parent-of) where
   start = c.before.before.before
 
   held : HeldContext start.args.image.now start.args.i
-  held = let p = start.pre in held-context _ p.0.0.0.sound start.args.i p.0.0.1 8 p.1 refl
+  held = let p = start.pre in held_context _ p.0.0.0.sound start.args.i p.0.0.1 8 p.1 refl
 
 -- its role
 module _ (c : tie.After-role-of) where
@@ -44,15 +44,15 @@ point-range-value-requires c κs =
     (s.pre.0.0.0, record { inside = s.pre.0.0.1.inside; above = h.above; based = h.flow f; flow = f; range = s.pre.1; type = s.pre.0.1 })
 
 returns : tie.Need-returns
-unfolding indexRangeValue row rangeValue
+unfolding index_range_value row range_value
 returns c = rw (sym (above-is c.before.before) ∙ c.before.match.keys1) c.pair-within.ensures
 
 returns-2 : tie.Need-returns-2
-unfolding indexRangeValue row
+unfolding index_range_value row
 returns-2 c = rw (sym (above-is c.before.before) ∙ c.before.match.keys2) c.point-range-value.ensures
 
 returns-3 : tie.Need-returns-3
-unfolding indexRangeValue row
+unfolding index_range_value row
 returns-3 c = let m = c.match.rest in rw (← above-is c.before, ne_eqb _ 7 m.0.1, ne_eqb _ 6 m.1)
 
 pub index-range-value-spec : {M : Type 1} → statement M

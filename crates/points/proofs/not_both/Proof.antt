@@ -9,7 +9,7 @@ use borrow.Author.Rules.{rules}
 use borrow.Author.Tests.{eq-eqb, ne_eqb, lt-ltb, le-ltb}
 use Rattle.model.specs.Image.{tree_of}
 use Rattle.model.specs.Containment.{found}
-use Rattle.model.specs.Values.{notBoth}
+use Rattle.model.specs.Values.{not_both}
 use Rattle.points.proofs.not_both.Statement.{statement}
 use Rattle.points.proofs.not_both.Tie as tie
 
@@ -21,7 +21,7 @@ missing j n h =
     ]
 
 returns : tie.Need-returns
-unfolding notBoth found tree_of
+unfolding not_both found tree_of
 returns c =
     let d = c.before in
     let n = d.before.node-count.ensures.0 in
@@ -29,7 +29,7 @@ returns c =
     rw (← d.point-range.ensures.0, ← n, le-ltb _ _ m)
 
 returns-2 : tie.Need-returns-2
-unfolding notBoth found tree_of
+unfolding not_both found tree_of
 returns-2 c =
     let d = c.before.before in
     let n = d.before.node-count.ensures.0 in

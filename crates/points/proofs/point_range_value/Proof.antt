@@ -2,14 +2,14 @@
 use Prim.Native.Nat.{◌-◌}
 use borrow.Author.Rules.{rules}
 use Rattle.model.specs.Image.{tree_of}
-use Rattle.model.specs.Values.{directionLawful, pointRangeValue}
-use Rattle.model.proofs.Loops.{EveryLeft, every-start, every_more, every-stop, every-done}
+use Rattle.model.specs.Values.{direction_lawful, point_range_value}
+use Rattle.model.proofs.Loops.{EveryLeft, every_start, every_more, every_stop, every_done}
 use Rattle.points.proofs.PointRanges.{unlawful, is_lawful}
 use Rattle.points.proofs.point_range_value.Statement.{statement}
 use Rattle.points.proofs.point_range_value.Tie as tie
 
 abbrev invariant-loop : tie.invariant-loop
-invariant-loop image index i n d₀ d = EveryLeft (directionLawful (tree_of image) i) n d (pointRangeValue (tree_of image) i)
+invariant-loop image index i n d₀ d = EveryLeft (direction_lawful (tree_of image) i) n d (point_range_value (tree_of image) i)
 
 abbrev decreases-loop : tie.decreases-loop
 decreases-loop image index i n d₀ d = n - d
@@ -18,8 +18,8 @@ dimension-above-requires : tie.Need-dimension-above-requires invariant-loop decr
 dimension-above-requires c κs = let p = c.before.before.requires in ((p.0, p.1.above), (p.1.inside, p.1.based))
 
 loop-holds : tie.Need-loop-init invariant-loop decreases-loop
-unfolding pointRangeValue
-loop-holds c = rw (← c.dimension-above.ensures.0) (every-start _ _)
+unfolding point_range_value
+loop-holds c = rw (← c.dimension-above.ensures.0) (every_start _ _)
 
 points-in-requires : tie.Need-points-in-requires invariant-loop decreases-loop
 points-in-requires c κs =
@@ -30,7 +30,7 @@ points-in-requires c κs =
 returns : tie.Need-returns invariant-loop decreases-loop
 returns c =
     let l = c.before.before.before in
-    every-stop l.loop.invariant c.before.before.loop-test.true (unlawful _ _ _ c.before.points-in.ensures.0 c.if1.true)
+    every_stop l.loop.invariant c.before.before.loop-test.true (unlawful _ _ _ c.before.points-in.ensures.0 c.if1.true)
 
 loop-again : tie.Need-loop-preserved invariant-loop decreases-loop
 loop-again c =
@@ -38,7 +38,7 @@ loop-again c =
     every_more l.loop.invariant c.before.before.loop-test.true (is_lawful _ _ _ c.before.points-in.ensures.0 c.if1.false)
 
 returns-2 : tie.Need-returns-2 invariant-loop decreases-loop
-returns-2 c = every-done c.before.loop.invariant c.loop-test.false
+returns-2 c = every_done c.before.loop.invariant c.loop-test.false
 
 pub point-range-value-spec : {M : Type 1} → statement M
 point-range-value-spec =

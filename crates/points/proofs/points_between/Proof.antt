@@ -4,9 +4,9 @@ use mathlib.Core.Path.{◌≡◌}
 use mathlib.Core.Bool.{cond}
 use native.Mathlib.Omega.{arith}
 use Rattle.model.specs.Bytes.{half, distance}
-use Rattle.points.specs.Between.{lawfulBetween}
+use Rattle.points.specs.Between.{lawful_between}
 use Rattle.words.proofs.Signed.{half_is}
-use Rattle.points.proofs.PointRanges.{Near, none_between, some-between}
+use Rattle.points.proofs.PointRanges.{Near, none_between, some_between}
 use Rattle.points.proofs.points_between.Statement.{statement}
 use Rattle.points.proofs.points_between.Tie as tie
 
@@ -33,7 +33,7 @@ module _ (c : tie.After-distance2) where
   ends : e < half w + half w
   ends = rw (half_is w start.pre.0).0 at start.pre.1.1
 
-  none : (Near w b e wide begins ends → ⊥) → (0 ≡ cond (lawfulBetween w b e) (distance w e - distance w b + 1) 0) × (0 ≤ 4294967295)
+  none : (Near w b e wide begins ends → ⊥) → (0 ≡ cond (lawful_between w b e) (distance w e - distance w b + 1) 0) × (0 ≤ 4294967295)
   none n = (none_between w b e wide begins ends n, omega arith)
 
 sub-if1 : tie.Need-overflow-sub-if1
@@ -78,7 +78,7 @@ returns-4 c =
     let f = d.before.distance.ensures in
     let g = d.distance2.ensures in
     let n : Near (w d) (b d) (e d) (wide d) (begins d) (ends d) = record { from = omega arith; to = omega arith; rising = omega arith } in
-    (rw (f, g) (some-between (w d) (b d) (e d) (wide d) (begins d) (ends d) n), omega arith)
+    (rw (f, g) (some_between (w d) (b d) (e d) (wide d) (begins d) (ends d) n), omega arith)
 
 pub points-between-spec : {M : Type 1} → statement M
 points-between-spec =

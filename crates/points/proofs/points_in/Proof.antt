@@ -5,9 +5,9 @@ use mathlib.Core.List.{List}
 use native.Mathlib.Omega.{arith}
 use borrow.Author.Rules.{rules}
 use Rattle.model.specs.Image.{tree_of}
-use Rattle.model.specs.Values.{indexDimension, zoneAbove, directionLawful, bounded, pointsIn, rangeBegin, rangeEnd}
+use Rattle.model.specs.Values.{index_dimension, zone_above, direction_lawful, bounded, points_in, range_begin, range_end}
 use Rattle.types.specs.Given.{HasNumber}
-use Rattle.points.proofs.PointRanges.{point-has}
+use Rattle.points.proofs.PointRanges.{point_has}
 use Rattle.points.proofs.points_in.Statement.{statement}
 use Rattle.points.proofs.points_in.Tie as tie
 
@@ -19,8 +19,8 @@ module _ (c : tie.After-width-at) where
   abbrev b : List ℕ
   b = start.args.image.now
 
-  has : (k : ℕ) → k < 2 * indexDimension (tree_of b) (zoneAbove (tree_of b) start.args.i) → HasNumber b start.args.i k
-  has k h = point-has b start.args.i start.pre.0.1 start.pre.0.0 k h
+  has : (k : ℕ) → k < 2 * index_dimension (tree_of b) (zone_above (tree_of b) start.args.i) → HasNumber b start.args.i k
+  has k h = point_has b start.args.i start.pre.0.1 start.pre.0.0 k h
 
 number-requires : tie.Need-number-requires
 number-requires c κs =
@@ -41,7 +41,7 @@ points-between-requires c κs =
     (rw d.width-at.ensures.0 n.wide, (search rules, search rules))
 
 returns : tie.Need-returns
-unfolding directionLawful bounded pointsIn rangeBegin rangeEnd
+unfolding direction_lawful bounded points_in range_begin range_end
 returns c =
     let r = c.points-between.ensures in
     let s = c.before.before.before.before.before in

@@ -1,6 +1,6 @@
 -- The sum is no less than 2^63 exactly where x is no greater than y.
 use Rattle.std.proofs.Common.{leb, arith, rules, leb-false, leb-true}
-use Rattle.ranges.proofs.Cases.{one-or-none}
+use Rattle.ranges.proofs.Cases.{one_or_none}
 use Rattle.ranges.proofs.at_most.Statement.{statement}
 use Rattle.ranges.proofs.at_most.Tie as tie
 
@@ -8,7 +8,7 @@ returns : tie.Need-returns
 returns c =
     let x = c.args.x in
     let y = c.args.y in
-    (one-or-none (leb x y) (λ e. omega (arith, leb-true x y e)) (λ e. omega (arith, leb-false x y e)), omega arith)
+    (one_or_none (leb x y) (λ e. omega (arith, leb-true x y e)) (λ e. omega (arith, leb-false x y e)), omega arith)
 
 pub at-most-spec : {M : Type 1} → statement M
 at-most-spec = tie.close (tie.spec (search rules) (search rules) returns)

@@ -1,7 +1,7 @@
 -- The entries before `from` begin no later, those after the entries left begin later, for first numbers rise.
 use Rattle.std.proofs.Common.{◌≡◌, ◌-◌, ◌*◌, ◌/◌, ◌≤◌, mul-le-mul_left, arith, rules}
 use Rattle.ranges.specs.Tables.{Begun}
-use Rattle.ranges.proofs.Halving.{begun-start, begun-half}
+use Rattle.ranges.proofs.Halving.{begun_start, begun_half}
 use Rattle.ranges.proofs.begun.Statement.{statement}
 use Rattle.ranges.proofs.begun.Tie as tie
 
@@ -12,7 +12,7 @@ abbrev decreases-loop : tie.decreases-loop
 decreases-loop firsts n f from₀ left₀ from left = left
 
 loop-holds : tie.Need-loop-init invariant-loop decreases-loop
-loop-holds c = begun-start _ _ _
+loop-holds c = begun_start _ _ _
 
 at-most-requires : tie.Need-at-most-requires invariant-loop decreases-loop
 at-most-requires c κs = let p = c.before.before.before.before.requires in (p.0.small _ (omega arith), p.1)
@@ -24,7 +24,7 @@ module _ (c : tie.After-at-most invariant-loop decreases-loop) where
 loop-again : tie.Need-loop-preserved invariant-loop decreases-loop
 loop-again c =
     let l = c.before.before.before in
-    begun-half l.loop.invariant l.before.before.requires.0.rise (omega arith) (omega arith) c.at_most.ensures.0
+    begun_half l.loop.invariant l.before.before.requires.0.rise (omega arith) (omega arith) c.at_most.ensures.0
 
 returns : tie.Need-returns invariant-loop decreases-loop
 returns c = let e : c.before.loop.left ≡ 0 = omega arith in rw e at c.before.loop.invariant

@@ -6,14 +6,14 @@ use Rattle.ranges.proofs.insert.Statement.{statement}
 use Rattle.ranges.proofs.insert.Tie as tie
 
 begun-requires : tie.Need-begun-requires
-begun-requires c κs = let p = c.before.before.before.pre in (p.0.firsts-rise, p.1.2)
+begun-requires c κs = let p = c.before.before.before.pre in (p.0.firsts_rise, p.1.2)
 
 raise-requires : tie.Need-raise-requires
 raise-requires c κs =
     let q = c.before.before.before.put2 in (
       omega (arith, q.kept.0),
       placed-rises q.ensures
-          c.before.before.before.before.before.before.before.before.before.before.before.before.before.before.before.pre.0.reach-rises,
+          c.before.before.before.before.before.before.before.before.before.before.before.before.before.before.before.pre.0.reach_rises,
     )
 
 returns : tie.Need-returns

@@ -1,6 +1,6 @@
 -- The entry that holds f holds every number of the interval, which is cut to the zone.
 use Rattle.std.proofs.Common.{◌+◌, ◌-◌, ◌<◌, ◌≤◌, sym, ◌∙◌, arith, rules, le-ltb, lt-ltb}
-use Rattle.ranges.proofs.Intervals.{none-covered, low-high, all-covered, tells}
+use Rattle.ranges.proofs.Intervals.{none-covered, low_high, all_covered, tells}
 use Rattle.ranges.proofs.interval_around.Statement.{statement}
 use Rattle.ranges.proofs.interval_around.Tie as tie
 
@@ -15,7 +15,7 @@ module _ (c : tie.After-cut2) where
       let i = c.before.before.before.before.before in
       let j = i.before in
       let k = j.before in
-      let l = low-high _ _ _ _ _ (j.find.ensures.1 i.if1.left) k.key.ensures.0 c.before.before.before.before.key2.ensures.0
+      let l = low_high _ _ _ _ _ (j.find.ensures.1 i.if1.left) k.key.ensures.0 c.before.before.before.before.key2.ensures.0
       k.before.before.before.pre.1.1 c.before.before.cut.ensures c.cut2.ensures in
       omega arith
 
@@ -25,7 +25,7 @@ returns-2 c =
     let j = i.before in
     let k = j.before in
     let some : 0 < c.cut2.result + 1 - c.before.before.cut.result = omega (arith, ordered c) in (
-      all-covered _ _ _ _ _ (j.find.ensures.1 i.if1.left) k.key.ensures.0 c.before.before.before.before.key2.ensures.0
+      all_covered _ _ _ _ _ (j.find.ensures.1 i.if1.left) k.key.ensures.0 c.before.before.before.before.key2.ensures.0
           k.before.before.before.pre.1.1 c.before.before.cut.ensures c.cut2.ensures i.if1.left,
       tells _ _ _ _ _ k.key.ensures.0 (lt-ltb _ _ some ∙ sym (lt-ltb _ _ i.if1.left) ∙ j.find.ensures.0),
     )

@@ -1,6 +1,6 @@
 -- Entries from the last down to the place take the one before them, which is still as it was.
 use Rattle.std.proofs.Common.{◌≡◌, ◌≤◌, ◌∙◌, arith, length-set, rules}
-use Rattle.ranges.proofs.Moving.{Moved, moved-start, moved_more, moved-put}
+use Rattle.ranges.proofs.Moving.{Moved, moved_start, moved_more, moved_put}
 use Rattle.ranges.proofs.put.Statement.{statement}
 use Rattle.ranges.proofs.put.Tie as tie
 
@@ -17,9 +17,9 @@ returns : tie.Need-returns invariant-loop decreases-loop
 returns c =
     let l = c.before.loop in
     let e : c.before.before.args.place ≡ l.k = omega arith in
-    rw e (moved-put l.invariant.1 (omega arith) _)
+    rw e (moved_put l.invariant.1 (omega arith) _)
 
 pub put_spec : {M : Type 1} → statement M
-put_spec = tie.close (tie.spec invariant-loop decreases-loop (λ c. (search rules, moved-start _ _)) (search rules) (search rules) (search rules) (search rules)
+put_spec = tie.close (tie.spec invariant-loop decreases-loop (λ c. (search rules, moved_start _ _)) (search rules) (search rules) (search rules) (search rules)
     (search rules) (search rules) (search rules) loop-again (search rules) (search rules)
     (λ c. let l = c.before.loop in length-set l.table _ _ ∙ l.invariant.1.long) returns)

@@ -13,18 +13,18 @@ use Rattle.model.specs.declared.Rejection.{Rejection}
 use Rattle.model.specs.declared.Count.TheVariants as Count
 use Rattle.model.specs.Lists.{over}
 use Rattle.model.specs.Rules.{rejected, rejection, check, ◌then◌, ◌gives◌, leaves}
-use Rattle.model.specs.ReadList.{requestsIn, answerAt, number_of, ruleOf, valuesFrom, readsCheck, ReadsAnswered}
-use Rattle.model.proofs.Written.{written_none, written-more}
+use Rattle.model.specs.ReadList.{requests_in, answer_at, number_of, rule_of, values_from, reads_check, ReadsAnswered}
+use Rattle.model.proofs.Written.{written_none, written_more}
 use Rattle.reads.proofs.corner_reads.Statement.{statement}
 use Rattle.reads.proofs.corner_reads.Tie as tie
 
 record Written (image entries reads : List ℕ) (numbers₀ : List ℤ) (rules₀ : List ℕ) (n : ℕ) (numbers : List ℤ) (rules : List ℕ) (i : ℕ) : Type 0 where
-  count : n ≡ requestsIn reads
+  count : n ≡ requests_in reads
   so_far : i ≤ n
   room : n ≤ length numbers₀
   room-2 : n ≤ length rules₀
-  numbers-are : numbers ≡ over numbers₀ (valuesFrom (λ k. number_of (answerAt image entries reads k)) i 0)
-  rules-are : rules ≡ over rules₀ (valuesFrom (λ k. ruleOf (answerAt image entries reads k)) i 0)
+  numbers_are : numbers ≡ over numbers₀ (values_from (λ k. number_of (answer_at image entries reads k)) i 0)
+  rules_are : rules ≡ over rules₀ (values_from (λ k. rule_of (answer_at image entries reads k)) i 0)
   length-kept : length numbers ≡ length numbers₀
   length-kept-2 : length rules ≡ length rules₀
 
@@ -36,17 +36,17 @@ decreases-loop image entries reads numbers₀ rules₀ n i₀ numbers rules i = 
 
 -- 46, and nothing is written
 short : {image entries reads : List ℕ} {numbers : List ℤ} {rules : List ℕ} {r : Rejection} → r ≡ rejection 46 0
-    → readsCheck reads (length numbers) (length rules) ≡ rejected (rejection 46 0)
+    → reads_check reads (length numbers) (length rules) ≡ rejected (rejection 46 0)
     → ReadsAnswered image entries reads numbers rules (Count.Rejected r) image entries numbers rules
 unfolding ◌gives◌ ◌then◌ leaves
-short e q = record { answers = rw (e, q); image-kept = refl; entries-kept = refl; numbers-are = rw q; rules-are = rw q }
+short e q = record { answers = rw (e, q); image-kept = refl; entries-kept = refl; numbers_are = rw q; rules_are = rw q }
 
 returns : tie.Need-returns invariant-loop decreases-loop
-unfolding readsCheck check
+unfolding reads_check check
 returns c = short c.at.ensures (simp (lt-leb _ _ c.before.if1.true))
 
 returns-2 : tie.Need-returns-2 invariant-loop decreases-loop
-unfolding readsCheck check
+unfolding reads_check check
 returns-2 c = short c.at2.ensures (simp (le-leb _ _ c.before.before.if1.false, lt-leb _ _ c.before.if2.true))
 
 loop-holds : tie.Need-loop-init invariant-loop decreases-loop
@@ -56,8 +56,8 @@ loop-holds c =
       so_far = omega arith;
       room = omega arith;
       room-2 = omega arith;
-      numbers-are = written_none _ _;
-      rules-are = written_none _ _;
+      numbers_are = written_none _ _;
+      rules_are = written_none _ _;
       length-kept = refl;
       length-kept-2 = refl;
     }
@@ -72,27 +72,27 @@ loop-again c =
       so_far = omega arith;
       room = v.room;
       room-2 = v.room-2;
-      numbers-are =
-          written-more _ _ _ _ _ (omega arith) v.numbers-are
+      numbers_are =
+          written_more _ _ _ _ _ (omega arith) v.numbers_are
           (to_z-of_z (sfits_of {w = w64} {z = z.result} z.type-inv) ∙ z.ensures ∙ ap number_of a.ensures);
-      rules-are = written-more _ _ _ _ _ (omega arith) v.rules-are (c.rule-of.ensures ∙ ap ruleOf a.ensures);
+      rules_are = written_more _ _ _ _ _ (omega arith) v.rules_are (c.rule-of.ensures ∙ ap rule_of a.ensures);
       length-kept = simp length-set v.length-kept;
       length-kept-2 = simp length-set v.length-kept-2;
     }
 
 returns-3 : tie.Need-returns-3 invariant-loop decreases-loop
-unfolding readsCheck check leaves ◌gives◌ ◌then◌
+unfolding reads_check check leaves ◌gives◌ ◌then◌
 returns-3 c =
     let v = c.before.loop.invariant in
-    let e : c.before.loop.i ≡ requestsIn c.before.before.before.before.before.before.before.before.args.reads.now = omega arith in
+    let e : c.before.loop.i ≡ requests_in c.before.before.before.before.before.before.before.before.args.reads.now = omega arith in
     let p = le-leb _ _ v.room in
     let q = le-leb _ _ v.room-2 in
     record {
       answers = rw (p, q);
       image-kept = refl;
       entries-kept = refl;
-      numbers-are = rw (p, q) (rw e at v.numbers-are);
-      rules-are = rw (p, q) (rw e at v.rules-are);
+      numbers_are = rw (p, q) (rw e at v.numbers_are);
+      rules_are = rw (p, q) (rw e at v.rules_are);
     }
 
 pub corner-reads-spec : {M : Type 1} → statement M

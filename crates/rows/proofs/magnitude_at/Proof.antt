@@ -9,7 +9,7 @@ use mir.Syntax.{w32, w64}
 use mir.Facts.{to_z-of_z}
 use Rattle.model.specs.Corner.{number_at}
 use Rattle.words.proofs.Signed.{eight, magnitude-is}
-use Rattle.rows.proofs.Rows.{room, bits-bound}
+use Rattle.rows.proofs.Rows.{room, bits_bound}
 use Rattle.rows.proofs.magnitude_at.Statement.{statement}
 use Rattle.rows.proofs.magnitude_at.Tie as tie
 
@@ -24,7 +24,7 @@ unfolding number_at
 returns c =
     let d = c.before.before in
     let e = d.before.before in
-    rw (← magnitude-is _ _ (bits-bound e.requires.0 d.before.shared-slice-known.given e.args.k), d.if1.true)
+    rw (← magnitude-is _ _ (bits_bound e.requires.0 d.before.shared-slice-known.given e.args.k), d.if1.true)
     (c.magnitude32.ensures ∙ ap nat_abs (to_z-of_z (sfits_of {w = w32} {z = c.before.i32-at.result} c.before.i32-at.type-inv) ∙ c.before.i32-at.ensures))
 
 returns-2 : tie.Need-returns-2
@@ -32,7 +32,7 @@ unfolding number_at
 returns-2 c =
     let d = c.before.before in
     let e = d.before.before in
-    rw (← magnitude-is _ _ (bits-bound e.requires.0 d.before.shared-slice-known.given e.args.k), eight _ e.requires.0.wide d.if1.false)
+    rw (← magnitude-is _ _ (bits_bound e.requires.0 d.before.shared-slice-known.given e.args.k), eight _ e.requires.0.wide d.if1.false)
     (c.magnitude64.ensures ∙ ap nat_abs (to_z-of_z (sfits_of {w = w64} {z = c.before.i64-at.result} c.before.i64-at.type-inv) ∙ c.before.i64-at.ensures))
 
 pub magnitude-at-spec : {M : Type 1} → statement M

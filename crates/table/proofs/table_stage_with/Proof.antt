@@ -1,7 +1,7 @@
 -- The header's bounds, then the records of the image's table.
 use native.Mathlib.Omega.{arith}
 use borrow.Author.Rules.{rules}
-use Rattle.model.specs.Records.{tableCheck}
+use Rattle.model.specs.Records.{table_check}
 use Rattle.model.specs.Bounds.{Laid}
 use Rattle.model.proofs.Bounds.{laid}
 use Rattle.model.proofs.Staging.{passes, stop, go}
@@ -10,7 +10,7 @@ use Rattle.table.proofs.table_stage_with.Statement.{statement}
 use Rattle.table.proofs.table_stage_with.Tie as tie
 
 returns : tie.Need-returns
-unfolding tableCheck
+unfolding table_check
 returns c = stop c.before.before.header-stage.ensures _ c.enum-told2.given.1
 
 -- the header holds
@@ -18,10 +18,10 @@ bounds : (e : tie.After-enum-told) → Laid e.before.before.before.before.before
 bounds e = laid _ (passes e.before.before.header-stage.ensures e.enum_told.given.1)
 
 node-table-requires : tie.Need-node-table-requires
-node-table-requires c κs = let l = bounds c in omega (arith, l.data-at, l.whole)
+node-table-requires c κs = let l = bounds c in omega (arith, l.data_at_lem, l.whole)
 
 read-requires : tie.Need-read-requires
-read-requires c κs = let l = bounds c.before in omega (arith, l.data-at, l.whole)
+read-requires c κs = let l = bounds c.before in omega (arith, l.data_at_lem, l.whole)
 
 records-stage-requires : tie.Need-records-stage-requires
 records-stage-requires c κs =
@@ -29,7 +29,7 @@ records-stage-requires c κs =
     (rw (n.node-table.ensures.0, c.before.read.ensures) (table-laid _ (bounds n.before)), n.before.before.before.before.before.before.requires)
 
 returns-2 : tie.Need-returns-2
-unfolding tableCheck
+unfolding table_check
 returns-2 c =
     let r = c.before.before in
     let n = r.before.before.before in

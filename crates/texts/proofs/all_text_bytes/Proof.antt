@@ -6,14 +6,14 @@ use mathlib.Core.Bool.{◌&&◌}
 use lib.Dec.{eqb}
 use lib.ListN.{drop}
 use borrow.Author.Rules.{rules}
-use Rattle.texts.specs.Texts.{textAt, textBytes}
-use Rattle.texts.proofs.Laws.{byte-on, bytes-end}
+use Rattle.texts.specs.Texts.{text_at, text_bytes}
+use Rattle.texts.proofs.Laws.{byte_on, bytes-end}
 use Rattle.texts.proofs.all_text_bytes.Statement.{statement}
 use Rattle.texts.proofs.all_text_bytes.Tie as tie
 
 abbrev invariant-loop : tie.invariant-loop
 invariant-loop table at barred n₀ k₀ n k =
-    ((k ≤ 32) × (n ≤ k)) × ((eqb n 0 && textBytes barred (drop k (textAt table at))) ≡ textBytes barred (textAt table at))
+    ((k ≤ 32) × (n ≤ k)) × ((eqb n 0 && text_bytes barred (drop k (text_at table at))) ≡ text_bytes barred (text_at table at))
 
 abbrev decreases-loop : tie.decreases-loop
 decreases-loop table at barred n₀ k₀ n k = 32 - k
@@ -27,7 +27,7 @@ loop-again c =
     let a = l.before.before.args in (
       (omega arith, omega (arith, c.bad.ensures.1)),
       rw c.bad.ensures.0
-          (byte-on a.table.now a.at (omega arith) l.loop.k (omega arith) refl a.barred l.loop.n ∙ l.loop.invariant.1),
+          (byte_on a.table.now a.at (omega arith) l.loop.k (omega arith) refl a.barred l.loop.n ∙ l.loop.invariant.1),
     )
 
 returns : tie.Need-returns invariant-loop decreases-loop

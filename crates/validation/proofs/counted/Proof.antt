@@ -4,22 +4,22 @@ use Prim.Native.Nat.{ℕ, ◌-◌, ◌<◌}
 use mathlib.Core.Path.{◌≡◌, refl, ap, ◌∙◌}
 use lib.Dec.{eqb, ltb}
 use borrow.Author.Rules.{rules}
-use Rattle.model.specs.Image.{tree_of, nodeCount}
-use Rattle.model.specs.Containment.{validated, validatedAs, Zone, Elements}
-use Rattle.index.proofs.Marking.{kind-validated, kind-as}
-use Rattle.validation.proofs.Laws.{Counted, none-counted, more-counted, all-counted, counts-are}
+use Rattle.model.specs.Image.{tree_of, node_count}
+use Rattle.model.specs.Containment.{validated, validated_as, Zone, Elements}
+use Rattle.index.proofs.Marking.{kind-validated, kind_as}
+use Rattle.validation.proofs.Laws.{Counted, none_counted, more_counted, all_counted, counts_are}
 use Rattle.validation.proofs.counted.Statement.{statement}
 use Rattle.validation.proofs.counted.Tie as tie
 
 abbrev invariant-loop : tie.invariant-loop
 invariant-loop image index n v₀ z₀ s₀ i₀ v z s i =
-    (Counted (validated (tree_of image)) n i v) × ((Counted (validatedAs (tree_of image) Zone) n i z) × (Counted (validatedAs (tree_of image) Elements) n i s))
+    (Counted (validated (tree_of image)) n i v) × ((Counted (validated_as (tree_of image) Zone) n i z) × (Counted (validated_as (tree_of image) Elements) n i s))
 
 abbrev decreases-loop : tie.decreases-loop
 decreases-loop image index n v₀ z₀ s₀ i₀ v z s i = n - i
 
 loop-holds : tie.Need-loop-init invariant-loop decreases-loop
-loop-holds c = (none-counted _ _, (none-counted _ _, none-counted _ _))
+loop-holds c = (none_counted _ _, (none_counted _ _, none_counted _ _))
 
 add-validated : tie.Need-overflow-add-validated invariant-loop decreases-loop
 add-validated c =
@@ -46,14 +46,14 @@ loop-again c =
     let d = l.before.before.before.before in
     let b = d.args.image.now in
     let i = l.loop.i in
-    let h : i < nodeCount b = omega arith in
+    let h : i < node_count b = omega arith in
     let e = k.kind-of.ensures.0 in
-    let counts : (r : ℕ) → 0 < r → eqb k.kind-of.result r ≡ validatedAs (tree_of b) r i = λ r z. ap (λ (x : ℕ). eqb x r) e ∙ kind-as b
+    let counts : (r : ℕ) → 0 < r → eqb k.kind-of.result r ≡ validated_as (tree_of b) r i = λ r z. ap (λ (x : ℕ). eqb x r) e ∙ kind_as b
     d.requires.sound i r h z in (
-      more-counted l.loop.invariant.0 _ (omega arith) (ap (ltb 0) e ∙ kind-validated b d.requires.sound i h) c.before.before.unit.ensures.0,
+      more_counted l.loop.invariant.0 _ (omega arith) (ap (ltb 0) e ∙ kind-validated b d.requires.sound i h) c.before.before.unit.ensures.0,
       (
-        more-counted l.loop.invariant.1.0 _ (omega arith) (counts Zone (omega arith)) c.before.unit2.ensures.0,
-        more-counted l.loop.invariant.1.1 _ (omega arith) (counts Elements (omega arith)) c.unit3.ensures.0,
+        more_counted l.loop.invariant.1.0 _ (omega arith) (counts Zone (omega arith)) c.before.unit2.ensures.0,
+        more_counted l.loop.invariant.1.1 _ (omega arith) (counts Elements (omega arith)) c.unit3.ensures.0,
       ),
     )
 
@@ -62,9 +62,9 @@ unfolding tree_of
 returns c =
     let l = c.before in
     let n = l.before.node-count.ensures.0 in
-    let v = (all-counted l.loop.invariant.0 (omega arith)).0 in
-    counts-are _ l.before.node-count.result _ _ _ _ n v refl (all-counted l.loop.invariant.1.0 (omega arith)).0
-    (all-counted l.loop.invariant.1.1 (omega arith)).0
+    let v = (all_counted l.loop.invariant.0 (omega arith)).0 in
+    counts_are _ l.before.node-count.result _ _ _ _ n v refl (all_counted l.loop.invariant.1.0 (omega arith)).0
+    (all_counted l.loop.invariant.1.1 (omega arith)).0
 
 pub counted_spec : {M : Type 1} → statement M
 counted_spec =

@@ -6,7 +6,7 @@ use lib.ListN.{length}
 use borrow.Author.Rules.{rules}
 use Rattle.model.specs.Image.{tree_of}
 use Rattle.model.proofs.Staging.{passes, refuses}
-use Rattle.validation.proofs.Laws.{NodesLeft, nodes-start, nodes-on, nodes-off, nodes-end}
+use Rattle.validation.proofs.Laws.{NodesLeft, nodes_start, nodes-on, nodes-off, nodes-end}
 use Rattle.validation.proofs.every_node.Statement.{statement}
 use Rattle.validation.proofs.every_node.Tie as tie
 
@@ -18,7 +18,7 @@ decreases-loop image index overlap parents firsts reach faces levels₀ n i₀ l
 
 loop-holds : tie.Need-loop-init invariant-loop decreases-loop
 unfolding tree_of
-loop-holds c = (refl, nodes-start _ _ c.node-count.ensures.0)
+loop-holds c = (refl, nodes_start _ _ c.node-count.ensures.0)
 
 node-stage-requires : tie.Need-node-stage-requires invariant-loop decreases-loop
 node-stage-requires c κs =

@@ -1,8 +1,8 @@
 -- Rules 1 to 18, then the others; where these hold the index is built, and is read only from there on.
 use mathlib.Core.Path.{sym, ap, ◌∙◌}
 use borrow.Author.Rules.{rules}
-use Rattle.model.specs.Validation.{imageCheck}
-use Rattle.model.specs.Answers.{stageTells}
+use Rattle.model.specs.Validation.{image_check}
+use Rattle.model.specs.Answers.{stage_tells}
 use Rattle.model.proofs.Passed.{refused}
 use Rattle.model.proofs.Bounds.{sound}
 use Rattle.model.proofs.Staging.{passes, stop, go}
@@ -10,10 +10,10 @@ use Rattle.validation.proofs.image_stage_with.Statement.{statement}
 use Rattle.validation.proofs.image_stage_with.Tie as tie
 
 returns : tie.Need-returns
-unfolding imageCheck
+unfolding image_check
 returns c =
     let t = c.enum-told2.given.1 in
-    (stop c.before.before.before.before.table-stage-with.ensures _ t, λ e. refused (sym (ap stageTells t) ∙ e))
+    (stop c.before.before.before.before.table-stage-with.ensures _ t, λ e. refused (sym (ap stage_tells t) ∙ e))
 
 build-requires : tie.Need-build-requires
 build-requires c κs =
@@ -27,7 +27,7 @@ nodes-stage-requires c κs =
     ((k.build.ensures, p.0.1), p.1)
 
 returns-2 : tie.Need-returns-2
-unfolding imageCheck
+unfolding image_check
 returns-2 c =
     let n = c.before.before.before.before.before.before in
     let k = n.before.before.before.before.before.before.before in

@@ -3,7 +3,7 @@ use mathlib.Core.Path.{sym, ◌∙◌}
 use borrow.Author.Rules.{rules}
 use borrow.Author.Tests.{not-true, not-false}
 use Rattle.model.proofs.Staging.{passes, stop, go}
-use Rattle.validation.proofs.Laws.{node-skipped, node-checked}
+use Rattle.validation.proofs.Laws.{node-skipped, node_checked}
 use Rattle.validation.proofs.node_stage.Statement.{statement}
 use Rattle.validation.proofs.node_stage.Tie as tie
 
@@ -23,7 +23,7 @@ returns-2 : tie.Need-returns-2
 returns-2 c =
     let i = c.before.before.before in
     stop c.before.before.sids-stage.ensures _ c.enum-told2.given.1
-    ∙ node-checked _ _ (sym i.before.is-validated.ensures ∙ not-false _ i.if1.false)
+    ∙ node_checked _ _ (sym i.before.is-validated.ensures ∙ not-false _ i.if1.false)
 
 section-stage-requires : tie.Need-section-stage-requires
 section-stage-requires c κs =
@@ -40,7 +40,7 @@ returns-3 c =
     let s = d.before.before.before.before in
     let v = s.before.before in
     go s.sids-stage.ensures d.before.before.enum_told.given.1 d.section-stage.ensures
-    ∙ node-checked _ _ (sym v.is-validated.ensures ∙ not-false _ s.before.if1.false)
+    ∙ node_checked _ _ (sym v.is-validated.ensures ∙ not-false _ s.before.if1.false)
 
 pub node-stage-spec : {M : Type 1} → statement M
 node-stage-spec =

@@ -54,4 +54,4 @@ nodes-stage-spec =
     (faces e).gather-faces.auto.1.1.0 ∙ ((parents e).first-broken.auto.1.1.0 ∙ (overlap (parents e)).first-overlap.kept.1.1.0))
     (λ c. let e = c.before.before in
     (faces e).gather-faces.auto.1.1.1.0 ∙ ((parents e).first-broken.auto.1.1.1.0 ∙ (overlap (parents e)).first-overlap.kept.1.1.1.0))
-    (λ c. c.before.before.every-node.auto.1.1.1.1.1.1.1.0) (λ c. c.before.before.every-node.ensures))
+    (λ c. c.before.before.every_node.auto.1.1.1.1.1.1.1.0) (λ c. c.before.before.every_node.ensures))

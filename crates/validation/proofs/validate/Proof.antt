@@ -2,7 +2,7 @@
 use mathlib.Core.Path.{refl, ap, sym, ◌∙◌}
 use borrow.Author.Rules.{rules}
 use Rattle.model.specs.Rules.{◌gives◌}
-use Rattle.model.specs.Answers.{stageTells}
+use Rattle.model.specs.Answers.{stage_tells}
 use Rattle.model.specs.Validation.{validation}
 use Rattle.model.proofs.Passed.{then-on, then-off}
 use Rattle.model.proofs.Staging.{passes, rejects}
@@ -16,7 +16,7 @@ returns c =
     rw c.rejection.ensures (sym (then-off _ (rejects s.image-stage.ensures.0 c.before.enum-told2.given.1)))
 
 counted-requires : tie.Need-counted-requires
-counted-requires c κs = c.before.before.before.before.image-stage.ensures.1 (ap stageTells c.before.enum_told.given.1)
+counted-requires c κs = c.before.before.before.before.image-stage.ensures.1 (ap stage_tells c.before.enum_told.given.1)
 
 returns-2 : tie.Need-returns-2
 unfolding validation ◌gives◌

@@ -3,7 +3,7 @@ use Prim.Native.Nat.{◌+◌, ◌*◌, ◌-◌}
 use mathlib.Core.Path.{◌≡◌, sym, ◌∙◌}
 use native.Mathlib.Omega.{arith}
 use borrow.Author.Rules.{rules}
-use Rattle.words.proofs.Difference.{Agree, agree-start, agree-more, agree-stop, agree-done}
+use Rattle.words.proofs.Difference.{Agree, agree_start, agree_more, agree_stop, agree-done}
 use Rattle.words.proofs.first_difference.Statement.{statement}
 use Rattle.words.proofs.first_difference.Tie as tie
 
@@ -14,14 +14,14 @@ abbrev decreases-loop : tie.decreases-loop
 decreases-loop a p b q j₀ j = 4 - j
 
 loop-holds : tie.Need-loop-init invariant-loop decreases-loop
-loop-holds c = agree-start _ _ _ _ _
+loop-holds c = agree_start _ _ _ _ _
 
 returns : tie.Need-returns invariant-loop decreases-loop
 returns c =
     let l = c.before.before.before.before.before in
     let j = l.loop.j in
     let s =
-    agree-stop l.loop.invariant (omega arith) (omega arith) 8 (omega arith) (λ i. omega (arith, l.before.before.shared-slice-known.given i))
+    agree_stop l.loop.invariant (omega arith) (omega arith) 8 (omega arith) (λ i. omega (arith, l.before.before.shared-slice-known.given i))
     (λ i. omega (arith, l.before.shared-slice-known2.given i))
     (λ e. c.before.if1.true (c.before.before.before.u64-at.ensures ∙ e ∙ sym c.before.before.u64-at2.ensures)) in
     let m = rw (c.before.before.before.u64-at.ensures, c.before.before.u64-at2.ensures) at c.same_bytes.ensures.0 in
@@ -31,7 +31,7 @@ loop-again : tie.Need-loop-preserved invariant-loop decreases-loop
 loop-again c =
     let l = c.before.before.before.before in
     let e : 8 * l.loop.j + 8 ≡ 8 * (l.loop.j + 1) = omega arith in
-    rw e at (agree-more l.loop.invariant (omega arith) (omega arith) 8 (omega arith) (λ i. omega (arith, l.before.before.shared-slice-known.given i))
+    rw e at (agree_more l.loop.invariant (omega arith) (omega arith) 8 (omega arith) (λ i. omega (arith, l.before.before.shared-slice-known.given i))
     (λ i. omega (arith, l.before.shared-slice-known2.given i)) (sym c.before.before.u64-at.ensures ∙ c.if1.false ∙ c.before.u64-at2.ensures))
 
 returns-2 : tie.Need-returns-2 invariant-loop decreases-loop

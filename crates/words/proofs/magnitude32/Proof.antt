@@ -2,17 +2,17 @@
 use native.Mathlib.Omega.{arith}
 use mir.Syntax.{w32}
 use mir.Facts.{to_z-of_z}
-use Rattle.words.proofs.Signed.{down, up, less, less-back}
+use Rattle.words.proofs.Signed.{down, up, less, less_back}
 use Rattle.words.proofs.magnitude32.Statement.{statement}
 use Rattle.words.proofs.magnitude32.Tie as tie
 
 cast-result : tie.Need-overflow-cast-result
 cast-result c =
-    rw (less-back w32 _ c.before.ranges.x c.if1.true) (tt, omega (arith, down w32 _ c.before.ranges.x c.if1.true))
+    rw (less_back w32 _ c.before.ranges.x c.if1.true) (tt, omega (arith, down w32 _ c.before.ranges.x c.if1.true))
 
 add-result : tie.Need-overflow-add-result
 add-result c =
-    rw (less-back w32 _ c.before.ranges.x c.if1.true) (omega (arith, down w32 _ c.before.ranges.x c.if1.true))
+    rw (less_back w32 _ c.before.ranges.x c.if1.true) (omega (arith, down w32 _ c.before.ranges.x c.if1.true))
 
 cast-result-2 : tie.Need-overflow-cast-result-2
 cast-result-2 c =
@@ -20,7 +20,7 @@ cast-result-2 c =
 
 returns : tie.Need-returns
 returns c =
-    rw (less-back w32 _ c.before.ranges.x c.if1.true) (omega (arith, down w32 _ c.before.ranges.x c.if1.true))
+    rw (less_back w32 _ c.before.ranges.x c.if1.true) (omega (arith, down w32 _ c.before.ranges.x c.if1.true))
 
 pub magnitude32-spec : {M : Type 1} → statement M
 magnitude32-spec =

@@ -3,7 +3,7 @@ use native.Mathlib.Omega.{arith}
 use borrow.Author.Rules.{rules}
 use Prim.Native.Nat.{◌-◌}
 use lib.ListN.{length, drop}
-use Rattle.words.proofs.Writes.{Left, start, bytes-more, done}
+use Rattle.words.proofs.Writes.{Left, start, bytes_more, done}
 use Rattle.words.proofs.put_bytes.Statement.{statement}
 use Rattle.words.proofs.put_bytes.Tie as tie
 
@@ -20,7 +20,7 @@ slice-write-out : tie.Need-slice-write-out invariant-loop decreases-loop
 slice-write-out c = omega (arith, c.before.before.loop.invariant.long)
 
 loop-again : tie.Need-loop-preserved invariant-loop decreases-loop
-loop-again c = bytes-more c.before.before.loop.invariant (omega arith) (omega arith)
+loop-again c = bytes_more c.before.before.loop.invariant (omega arith) (omega arith)
 
 same_length : tie.Need-same-length invariant-loop decreases-loop
 same_length c = c.before.loop.invariant.long

@@ -3,7 +3,7 @@ use Prim.Native.Nat.{◌-◌}
 use native.Mathlib.Omega.{arith}
 use borrow.Author.Rules.{rules}
 use lib.ListN.{length}
-use Rattle.words.proofs.Rows.{WordsLeft, words-start, words_more, words-done}
+use Rattle.words.proofs.Rows.{WordsLeft, words_start, words_more, words-done}
 use Rattle.words.proofs.put_words.Statement.{statement}
 use Rattle.words.proofs.put_words.Tie as tie
 
@@ -14,7 +14,7 @@ abbrev decreases-loop : tie.decreases-loop
 decreases-loop out₀ at words k₀ out k = length words - k
 
 loop-holds : tie.Need-loop-init invariant-loop decreases-loop
-loop-holds c = words-start _ _ _
+loop-holds c = words_start _ _ _
 
 put-word-requires : tie.Need-put-word-requires invariant-loop decreases-loop
 put-word-requires c κs = (omega arith, omega (arith, c.before.before.before.loop.invariant.long))

@@ -6,9 +6,9 @@ use lib.ListN.{length}
 use borrow.Author.Rules.{rules}
 use Rattle.model.specs.Rules.{Check, ◌then◌}
 use Rattle.model.proofs.Staging.{stop, go, passes}
-use Rattle.writer_model.specs.Writer.{Addition, addCheck}
+use Rattle.writer_model.specs.Writer.{Addition, add_check}
 use Rattle.writer_model.specs.Writer.{addition}
-use Rattle.writer.proofs.Calls.{turn, rulesOf, turn-room, addition-groups}
+use Rattle.writer.proofs.Calls.{turn, rules_of, turn_room, addition_groups}
 use Rattle.writer.proofs.addition_stage.Statement.{statement}
 use Rattle.writer.proofs.addition_stage.Tie as tie
 
@@ -23,16 +23,16 @@ start d = d.before.before.before.before.before.before.before.before.before
 
 -- the groups are the check
 abbrev groups_of : tie.Start → Check
-groups_of z = turn z.args.state (length z.args.room.now) then rulesOf z.args.state (given z) z.args.room.now
+groups_of z = turn z.args.state (length z.args.room.now) then rules_of z.args.state (given z) z.args.room.now
 
-groups : (d : tie.After-turn-stage) → let z = d.before.before.before.before.before.before.before in groups_of z ≡ addCheck z.args.state (given z) z.args.room.now
-groups d = let z = d.before.before.before.before.before.before.before in sym (addition-groups z.args.state (given z) z.args.room.now)
+groups : (d : tie.After-turn-stage) → let z = d.before.before.before.before.before.before.before in groups_of z ≡ add_check z.args.state (given z) z.args.room.now
+groups d = let z = d.before.before.before.before.before.before.before in sym (addition_groups z.args.state (given z) z.args.room.now)
 
 returns : tie.Need-returns
 returns c = stop c.before.before.turn-stage.ensures _ c.enum-told2.given.1 ∙ groups c.before.before
 
 line-stage-requires : tie.Need-line-stage-requires
-line-stage-requires c κs = turn-room _ _ (passes c.before.before.turn-stage.ensures c.enum_told.given.1)
+line-stage-requires c κs = turn_room _ _ (passes c.before.before.turn-stage.ensures c.enum_told.given.1)
 
 returns-2 : tie.Need-returns-2
 returns-2 c =
@@ -42,7 +42,7 @@ returns-2 c =
     ∙ groups d.before.before
 
 text-stage-requires : tie.Need-text-stage-requires
-text-stage-requires c κs = let d = c.before.before.before in turn-room _ _ (passes d.before.before.turn-stage.ensures d.enum_told.given.1)
+text-stage-requires c κs = let d = c.before.before.before in turn_room _ _ (passes d.before.before.turn-stage.ensures d.enum_told.given.1)
 
 returns-3 : tie.Need-returns-3
 returns-3 c =

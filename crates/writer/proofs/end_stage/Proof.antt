@@ -2,7 +2,7 @@
 use mathlib.Core.Path.{sym}
 use borrow.Author.Rules.{rules}
 use borrow.Author.Tests.{le-leb, lt-leb}
-use Rattle.model.proofs.Staging.{holds, fails, no-rule}
+use Rattle.model.proofs.Staging.{holds, fails, no_rule}
 use Rattle.writer.proofs.end_stage.Statement.{statement}
 use Rattle.writer.proofs.end_stage.Tie as tie
 
@@ -17,7 +17,7 @@ returns-2 c =
 returns-3 : tie.Need-returns-3
 returns-3 c =
     let g = c.before.before in
-    holds 0 46 _ (rw (← g.before.needed-room.ensures) (le-leb _ _ g.if1.false)) (holds 0 51 _ (le-leb _ _ c.if2.false) (sym (no-rule 0)))
+    holds 0 46 _ (rw (← g.before.needed-room.ensures) (le-leb _ _ g.if1.false)) (holds 0 51 _ (le-leb _ _ c.if2.false) (sym (no_rule 0)))
 
 pub end-stage-spec : {M : Type 1} → statement M
 end-stage-spec = tie.close (tie.spec (search rules) (search rules) returns (search rules) returns-2 returns-3)

@@ -5,10 +5,10 @@ use borrow.Author.Rules.{rules}
 use Rattle.model.specs.Lists.{over}
 use Rattle.model.specs.Bytes.{all_bytes}
 use Rattle.model.specs.Rules.{Answer}
-use Rattle.model.specs.ReadList.{ruleOf}
+use Rattle.model.specs.ReadList.{rule_of}
 use Rattle.writer_model.specs.declared.Writer.{Writer}
-use Rattle.writer_model.specs.Writer.{addAnswer, addMemory}
-use Rattle.writer_model.specs.Exports.{stateAfter, writingWords}
+use Rattle.writer_model.specs.Writer.{add_answer, add_memory}
+use Rattle.writer_model.specs.Exports.{state_after, writing_words}
 use Rattle.writer_model.specs.Writer.{addition}
 use Rattle.writer_exports.proofs.StateLaws.{few-numbers, few_bytes, enough, short, written}
 use Rattle.writer_exports.proofs.add.Statement.{statement}
@@ -31,11 +31,11 @@ returns-3 c =
     let g = i.before.before in
     let z = g.before.before.before.before.before.before.before.before.before.before.args in
     let a = addition z.name.now z.label.now z.data-type.now z.dimensions.now z.parent z.bytes.now in
-    let e = d.add.ensures.0 ∙ ap (λ (s : Writer). addAnswer s a z.room.now) i.state-in.ensures in
-    let m = d.add.ensures.1 ∙ ap (λ (s : Writer). addMemory s a z.room.now) i.state-in.ensures in
-    written _ _ z.room.now z.state.now z.answer.now (enough 2 _ _ g.before.if1.false g.if2.false) (w.0 ∙ ap ruleOf e) m
-    (w.1.0 ∙ ap (λ (t : Answer Writer). stateAfter t z.state.now) e)
-    (w.1.1 ∙ ap (λ (t : Answer Writer). over z.answer.now (all_bytes 8 (writingWords t))) e)
+    let e = d.add.ensures.0 ∙ ap (λ (s : Writer). add_answer s a z.room.now) i.state-in.ensures in
+    let m = d.add.ensures.1 ∙ ap (λ (s : Writer). add_memory s a z.room.now) i.state-in.ensures in
+    written _ _ z.room.now z.state.now z.answer.now (enough 2 _ _ g.before.if1.false g.if2.false) (w.0 ∙ ap rule_of e) m
+    (w.1.0 ∙ ap (λ (t : Answer Writer). state_after t z.state.now) e)
+    (w.1.1 ∙ ap (λ (t : Answer Writer). over z.answer.now (all_bytes 8 (writing_words t))) e)
 
 pub add_spec : {M : Type 1} → statement M
 add_spec = tie.close (tie.spec returns (search rules) returns-2 (search rules) (search rules) put-writing-requires (search rules) (search rules) (search rules) returns-3)

@@ -2,17 +2,17 @@
 use native.Mathlib.Omega.{arith}
 use lib.ListN.{length-set}
 use borrow.Author.Rules.{rules}
-use Rattle.writer_model.specs.Exports.{stateNumbers, stateAfter}
+use Rattle.writer_model.specs.Exports.{state_numbers, state_after}
 use Rattle.writer_exports.proofs.StateLaws.{six}
 use Rattle.writer_exports.proofs.put_state.Statement.{statement}
 use Rattle.writer_exports.proofs.put_state.Tie as tie
 
 returns : tie.Need-returns
-unfolding stateAfter
+unfolding state_after
 returns c = rw c.enum_told.given.1
 
 returns-2 : tie.Need-returns-2
-unfolding stateAfter stateNumbers
+unfolding state_after state_numbers
 returns-2 c = rw c.before.w.given.1 (six _ _ _ _ _ _ _ c.before.before.before.requires)
 
 second : tie.Need-slice-write-state-2

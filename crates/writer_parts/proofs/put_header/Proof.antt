@@ -2,8 +2,8 @@
 use native.Mathlib.Omega.{arith}
 use borrow.Author.Rules.{rules}
 use mathlib.Core.Path.{refl, ◌∙◌}
-use Rattle.model.proofs.Overlays.{overAt-zero}
-use Rattle.writer_parts.proofs.PartLaws.{room-sum, none, next}
+use Rattle.model.proofs.Overlays.{over_at_zero}
+use Rattle.writer_parts.proofs.PartLaws.{room_sum, none, next}
 use Rattle.writer_parts.proofs.put_header.Statement.{statement}
 use Rattle.writer_parts.proofs.put_header.Tie as tie
 
@@ -26,11 +26,11 @@ returns c =
     let p6 = next _ 4 p5 c6.put-word6.ensures refl (omega arith) in
     let p7 = next _ 4 p6 c7.put-word7.ensures refl (omega arith) in
     let p8 = next _ 4 p7 c8.put-word8.ensures refl (omega arith) in
-    p8.is ∙ overAt-zero _ _
+    p8.is ∙ over_at_zero _ _
 
 pub put-header-spec : {M : Type 1} → statement M
 put-header-spec =
-    tie.close (tie.spec (λ c. omega (arith, room-sum _ _ _ _ c.before.requires.0)) (λ c. omega (arith, room-sum _ _ _ _ c.before.requires.0))
-    (λ c. omega (arith, room-sum _ _ _ _ c.before.requires.0)) (λ c. omega (arith, room-sum _ _ _ _ c.before.requires.0)) (search rules)
-    (λ c. omega (arith, room-sum _ _ _ _ c.before.before.before.before.before.before.requires.0))
+    tie.close (tie.spec (λ c. omega (arith, room_sum _ _ _ _ c.before.requires.0)) (λ c. omega (arith, room_sum _ _ _ _ c.before.requires.0))
+    (λ c. omega (arith, room_sum _ _ _ _ c.before.requires.0)) (λ c. omega (arith, room_sum _ _ _ _ c.before.requires.0)) (search rules)
+    (λ c. omega (arith, room_sum _ _ _ _ c.before.before.before.before.before.before.requires.0))
     (search rules) (search rules) (search rules) (search rules) (search rules) (search rules) (search rules) (search rules) returns)

@@ -4,7 +4,7 @@ use borrow.Author.Rules.{rules}
 use Prim.Native.Nat.{ℕ, ◌-◌}
 use lib.ListN.{length, replicate, length-replicate}
 use Rattle.words.proofs.Writes.{Left, done}
-use Rattle.writer_parts.proofs.PartLaws.{zeros-start, zeros-more}
+use Rattle.writer_parts.proofs.PartLaws.{zeros_start, zeros_more}
 use Rattle.writer_parts.proofs.put_zeros.Statement.{statement}
 use Rattle.writer_parts.proofs.put_zeros.Tie as tie
 
@@ -15,13 +15,13 @@ abbrev decreases-loop : tie.decreases-loop
 decreases-loop out₀ at n k₀ out k = n - k
 
 loop-holds : tie.Need-loop-init invariant-loop decreases-loop
-loop-holds c = zeros-start c.args.out.now c.args.at c.args.n
+loop-holds c = zeros_start c.args.out.now c.args.at c.args.n
 
 slice-write-out : tie.Need-slice-write-out invariant-loop decreases-loop
 slice-write-out c = omega (arith, c.before.loop.invariant.long)
 
 loop-again : tie.Need-loop-preserved invariant-loop decreases-loop
-loop-again c = let n = c.before.before.args.n in zeros-more n c.before.loop.invariant (omega arith) (rw (length-replicate {A = ℕ} n 0) (omega arith))
+loop-again c = let n = c.before.before.args.n in zeros_more n c.before.loop.invariant (omega arith) (rw (length-replicate {A = ℕ} n 0) (omega arith))
 
 same_length : tie.Need-same-length invariant-loop decreases-loop
 same_length c = c.before.loop.invariant.long

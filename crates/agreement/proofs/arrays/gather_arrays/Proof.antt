@@ -4,15 +4,15 @@ use mathlib.Core.Path.{◌≡◌, refl, ◌∙◌}
 use native.Mathlib.Omega.{arith}
 use borrow.Author.Rules.{rules}
 use lib.ListN.{length}
-use Rattle.model.specs.Image.{tree_of, nodeCount}
+use Rattle.model.specs.Image.{tree_of, node_count}
 use Rattle.agreement.specs.Arrays.{Arrays}
-use Rattle.agreement.proofs.ArrayLaws.{no-arrays}
+use Rattle.agreement.proofs.ArrayLaws.{no_arrays}
 use Rattle.agreement.proofs.arrays.gather_arrays.Statement.{statement}
 use Rattle.agreement.proofs.arrays.gather_arrays.Tie as tie
 
 abbrev invariant-loop : tie.invariant-loop
 invariant-loop image index z firsts reach n arrays₀ nodes i₀ arrays i =
-    (((nodes ≡ nodeCount image) × (i ≤ nodes)) × (length arrays ≡ length arrays₀)) × Arrays (tree_of image) z i n firsts arrays
+    (((nodes ≡ node_count image) × (i ≤ nodes)) × (length arrays ≡ length arrays₀)) × Arrays (tree_of image) z i n firsts arrays
 
 abbrev decreases-loop : tie.decreases-loop
 decreases-loop image index z firsts reach n arrays₀ nodes i₀ arrays i = nodes - i
@@ -20,7 +20,7 @@ decreases-loop image index z firsts reach n arrays₀ nodes i₀ arrays i = node
 loop-holds : tie.Need-loop-init invariant-loop decreases-loop
 loop-holds c =
     let d = c.before.before.before.before.before.before in
-    (((c.node-count.ensures.0, omega arith), refl), no-arrays _ _ _ _ _ d.requires.0.1)
+    (((c.node-count.ensures.0, omega arith), refl), no_arrays _ _ _ _ _ d.requires.0.1)
 
 put-array-requires : tie.Need-put-array-requires invariant-loop decreases-loop
 put-array-requires c κs =
@@ -37,7 +37,7 @@ loop-again c =
 returns : tie.Need-returns invariant-loop decreases-loop
 returns c =
     let l = c.before.loop in
-    let e : l.i ≡ nodeCount c.before.before.before.before.before.before.before.before.args.image.now = omega (arith, l.invariant.0.0.0) in
+    let e : l.i ≡ node_count c.before.before.before.before.before.before.before.before.args.image.now = omega (arith, l.invariant.0.0.0) in
     rw e at l.invariant.1
 
 pub gather-arrays-spec : {M : Type 1} → statement M

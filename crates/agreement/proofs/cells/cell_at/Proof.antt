@@ -1,7 +1,7 @@
 -- Where it does not hold the entry, the next one does.
 use native.Mathlib.Omega.{arith}
 use borrow.Author.Rules.{rules}
-use Rattle.agreement.proofs.CellLaws.{next-inside, next-cell}
+use Rattle.agreement.proofs.CellLaws.{next-inside, next_cell}
 use Rattle.agreement.proofs.cells.cell_at.Statement.{statement}
 use Rattle.agreement.proofs.cells.cell_at.Tie as tie
 
@@ -15,7 +15,7 @@ number-at-requires c κs =
 returns-2 : tie.Need-returns-2
 returns-2 c =
     let p = c.before.before.before.before.before.requires in
-    next-cell p.0.1.0 p.0.1.1 p.1 (omega (arith, c.before.before.if1.false)) c.number-at.ensures
+    next_cell p.0.1.0 p.0.1.1 p.1 (omega (arith, c.before.before.if1.false)) c.number-at.ensures
 
 pub cell-at-spec : {M : Type 1} → statement M
 cell-at-spec = tie.close (tie.spec returns (search rules) (search rules) number-at-requires returns-2)

@@ -3,8 +3,8 @@ use mathlib.Core.Path.{◌≡◌, sym, ◌∙◌}
 use native.Mathlib.Omega.{arith}
 use borrow.Author.Rules.{rules}
 use Rattle.model.specs.Image.{tree_of}
-use Rattle.model.specs.FaceUsage.{facesIn}
-use Rattle.agreement.proofs.CompleteLaws.{unasked, no-parents, section-type, section-elements, stores, not_there, two-each, faces-room, section-is}
+use Rattle.model.specs.FaceUsage.{faces_in}
+use Rattle.agreement.proofs.CompleteLaws.{unasked, no_parents, section-type, section-elements, stores, not_there, two-each, faces_room, section-is}
 use Rattle.agreement.proofs.complete.section_agrees.Statement.{statement}
 use Rattle.agreement.proofs.complete.section_agrees.Tie as tie
 
@@ -13,14 +13,14 @@ returns c =
     let d = c.before.before.before.before in
     let p = d.requires in
     let a = p.0.0 in
-    sym (unasked a d.args.z d.args.s p.0.1.1 (no-parents a d.args.z d.args.s p.0.1.1 (sym p.1.0.0 ∙ c.if1.true)))
+    sym (unasked a d.args.z d.args.s p.0.1.1 (no_parents a d.args.z d.args.s p.0.1.1 (sym p.1.0.0 ∙ c.if1.true)))
 
 parents-of-requires : tie.Need-parents-of-requires
 parents-of-requires c κs =
     let d = c.before.before.before.before in
     let p = d.requires in
     let a = p.0.0 in
-    let m : facesIn (tree_of d.args.image.now) d.args.z d.args.s ≡ 0 → ⊥ = λ q. c.if1.false (p.1.0.0 ∙ q) in ((p.0.1.0, p.0.1.1), (section-elements a d.args.z d.args.s p.0.1.1 m p.0.1.0, section-type a d.args.z d.args.s p.0.1.1 m))
+    let m : faces_in (tree_of d.args.image.now) d.args.z d.args.s ≡ 0 → ⊥ = λ q. c.if1.false (p.1.0.0 ∙ q) in ((p.0.1.0, p.0.1.1), (section-elements a d.args.z d.args.s p.0.1.1 m p.0.1.0, section-type a d.args.z d.args.s p.0.1.1 m))
 
 parents-row-requires : tie.Need-parents-row-requires
 parents-row-requires c κs =
@@ -43,8 +43,8 @@ faces-complete-requires c κs =
     let p = d.requires in
     let a = p.0.0 in
     let r = rw c.before.before.before.parents-of.ensures.0 at c.before.before.parents-row.ensures in
-    let m : facesIn (tree_of d.args.image.now) d.args.z d.args.s ≡ 0 → ⊥ = λ q. c.before.before.before.before.if1.false (p.1.0.0 ∙ q) in
-    (r.numbers, (rw p.1.0.0 (two-each a d.args.z d.args.s p.0.1.1 m r c.if2.false), rw p.1.0.0 (faces-room a d.args.z d.args.s p.0.1.1 m r c.if2.false p.1.0.1 p.1.1.0)))
+    let m : faces_in (tree_of d.args.image.now) d.args.z d.args.s ≡ 0 → ⊥ = λ q. c.before.before.before.before.if1.false (p.1.0.0 ∙ q) in
+    (r.numbers, (rw p.1.0.0 (two-each a d.args.z d.args.s p.0.1.1 m r c.if2.false), rw p.1.0.0 (faces_room a d.args.z d.args.s p.0.1.1 m r c.if2.false p.1.0.1 p.1.1.0)))
 
 returns-3 : tie.Need-returns-3
 returns-3 c =

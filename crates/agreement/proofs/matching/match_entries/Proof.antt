@@ -6,12 +6,12 @@ use borrow.Author.Rules.{rules}
 use borrow.Author.Tests.{not-true, not-false}
 use Rattle.section_data.proofs.TableLaws.{face-small}
 use Rattle.face_places.proofs.Gathering.{few-ranges}
-use Rattle.face_uses.proofs.Runs.{tables-kept, entry-face}
-use Rattle.agreement.proofs.ArrayLaws.{array-is, array-stores, face-row}
+use Rattle.face_uses.proofs.Runs.{tables_kept, entry-face}
+use Rattle.agreement.proofs.ArrayLaws.{array_is, array_stores, face-row}
 use Rattle.agreement.proofs.CellLaws.{at_next}
 use Rattle.agreement.proofs.EntryLaws.{found_at}
-use Rattle.agreement.proofs.RunLaws.{users-end, parents-most, cells-filled, element-is, Going, start_none, no-uses, one_more}
-use Rattle.agreement.proofs.Steps.{matched-then, matched-same, matched-stop}
+use Rattle.agreement.proofs.RunLaws.{users-end, parents_most, cells_filled, element-is, Going, start_none, no_uses, one_more}
+use Rattle.agreement.proofs.Steps.{matched-then, matched-same, matched_stop}
 use Rattle.agreement.proofs.matching.match_entries.Statement.{statement}
 use Rattle.agreement.proofs.matching.match_entries.Tie as tie
 
@@ -26,7 +26,7 @@ references-of-requires : tie.Need-references-of-requires invariant-loop decrease
 references-of-requires c κs = let p = c.before.before.before.before.before.before.before.before.requires in (p.1.0.accepted, p.0.0)
 
 returns : tie.Need-returns invariant-loop decreases-loop
-returns c = no-uses c.before.before.before.before.before.before.before.before.before.before.before.requires.0.0.1 (sym c.before.before.references-of.ensures.long ∙ c.if1.true)
+returns c = no_uses c.before.before.before.before.before.before.before.before.before.before.before.requires.0.0.1 (sym c.before.before.references-of.ensures.long ∙ c.if1.true)
 
 span-of-requires : tie.Need-span-of-requires invariant-loop decreases-loop
 span-of-requires c κs = (c.before.before.references-of.ensures.each 0 (omega (arith, c.if1.false))).cells.section
@@ -37,7 +37,7 @@ cell-offsets-requires c κs = ((c.before.before.before.references-of.ensures.eac
 first-cell-requires : tie.Need-first-cell-requires invariant-loop decreases-loop
 first-cell-requires c κs =
     let r = c.before.before.before.before.references-of in
-    let w = c.cell-offsets.ensures in (w.numbers, (r.result.n, cells-filled r.ensures c.before.before.if1.false c.before.Span-of.ensures w))
+    let w = c.cell-offsets.ensures in (w.numbers, (r.result.n, cells_filled r.ensures c.before.before.if1.false c.before.Span-of.ensures w))
 
 loop-holds : tie.Need-loop-init invariant-loop decreases-loop
 loop-holds c =
@@ -52,7 +52,7 @@ loop-holds c =
 cell-at-requires : tie.Need-cell-at-requires invariant-loop decreases-loop
 cell-at-requires c κs =
     let w = c.before.before.before.before.cell-offsets.ensures in
-    let f = cells-filled c.before.before.before.before.before.before.before.before.references-of.ensures c.before.before.before.before.before.before.if1.false c.before.before.before.before.before.Span-of.ensures w in
+    let f = cells_filled c.before.before.before.before.before.before.before.before.references-of.ensures c.before.before.before.before.before.before.if1.false c.before.before.before.before.before.Span-of.ensures w in
     ((w.numbers, (f, c.if2.true)), c.before.before.loop.invariant.at)
 
 slice-aggregate-entry-of : tie.Need-slice-aggregate-entry-of invariant-loop decreases-loop
@@ -74,8 +74,8 @@ array-at-requires c κs =
     let a = p.1.0.accepted in
     let h = c.before.before.before.before.if2.true in
     let at = found_at p.1.0 (entry-face (c.before.before.before.before.before.before.before.before.before.before.before.before.references-of.ensures.each l.k h)) c.before.entry_of.ensures in (
-      ((a.sound, omega (arith, at.inside, p.1.1.room)), rw (array-is a p.1.1 at) (parents-most _ _)),
-      (array-stores a p.1.1 at, λ e. rw e (l.invariant.known (omega (arith, at.inside, few-ranges a p.1.0.ranges)))),
+      ((a.sound, omega (arith, at.inside, p.1.1.room)), rw (array_is a p.1.1 at) (parents_most _ _)),
+      (array_stores a p.1.1 at, λ e. rw e (l.invariant.known (omega (arith, at.inside, few-ranges a p.1.0.ranges)))),
     )
 
 add-element : tie.Need-overflow-add-element invariant-loop decreases-loop
@@ -91,7 +91,7 @@ match-entry-requires c κs =
     let h = c.before.before.before.before.before.before.before.if2.true in
     let f = entry-face (r.each l.k h) in
     let e = c.before.before.before.before.entry_of.ensures in
-    ((r.numbers, h), (f, (tables-kept p.1.0 l.invariant.done.kept.long, (e, face-row p.1.0.accepted p.1.1 (found_at p.1.0 f e) c.before.before.Array-at.ensures))))
+    ((r.numbers, h), (f, (tables_kept p.1.0 l.invariant.done.kept.long, (e, face-row p.1.0.accepted p.1.1 (found_at p.1.0 f e) c.before.before.Array-at.ensures))))
 
 same_length : tie.Need-same-length invariant-loop decreases-loop
 same_length c =
@@ -104,7 +104,7 @@ returns-2 c =
     let h = c.before.before.before.before.before.before.before.before.before.before.before.if2.true in
     let q = element-is r c.before.before.before.before.before.before.before.before.before.before.before.before.before.before.before.before.before.if1.false c.before.before.before.before.before.before.before.before.before.before.before.before.before.before.before.before.Span-of.ensures c.before.before.before.before.before.before.before.before.before.before.before.before.before.before.before.cell-offsets.ensures c.before.before.before.before.before.before.before.before.before.before.Cell-at.ensures in
     let m = one_more (r.each l.k h) (omega (arith, h, r.long)) q c.before.before.before.match-entry.ensures in
-    matched-then l.invariant.done (matched-stop (not-true _ c.if3.true) m)
+    matched-then l.invariant.done (matched_stop (not-true _ c.if3.true) m)
 
 add-k : tie.Need-overflow-add-k invariant-loop decreases-loop
 add-k c = omega (arith, c.before.before.before.before.before.before.before.before.before.before.before.if2.true, c.before.before.before.before.before.before.before.before.before.before.before.before.struct-known2.given)

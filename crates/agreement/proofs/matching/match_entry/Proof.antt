@@ -3,7 +3,7 @@ use mathlib.Core.Path.{sym, ap, ◌∙◌}
 use native.Mathlib.Omega.{arith}
 use borrow.Author.Rules.{rules}
 use Rattle.face_places.proofs.Gathering.{few-ranges}
-use Rattle.agreement.proofs.EntryLaws.{found_at, unasked, first-inside, second-inside, matched-use}
+use Rattle.agreement.proofs.EntryLaws.{found_at, unasked, first-inside, second-inside, matched_use}
 use Rattle.agreement.proofs.matching.match_entry.Statement.{statement}
 use Rattle.agreement.proofs.matching.match_entry.Tie as tie
 
@@ -17,7 +17,7 @@ mul-d c =
 
 shared-slice-read-d : tie.Need-shared-slice-read-d
 shared-slice-read-d c =
-    let p = c.before.before.before.before.before.before.before.before.before.pre.1 in omega (arith, (found_at p.1.0 p.0 p.1.1.0).inside, p.1.0.ranges.gathered.ordered.firsts-rise.rise.room)
+    let p = c.before.before.before.before.before.before.before.before.before.pre.1 in omega (arith, (found_at p.1.0 p.0 p.1.1.0).inside, p.1.0.ranges.gathered.ordered.firsts_rise.rise.room)
 
 sub-d : tie.Need-sub-d
 sub-d c = let p = c.before.before.before.before.before.before.before.before.before.pre.1 in omega (arith, (found_at p.1.0 p.0 p.1.1.0).from, c.before.magnitude-at.ensures)
@@ -27,7 +27,7 @@ place-of-requires c κs =
     let p = c.before.before.before.before.before.before.before.before.before.pre.1 in
     let w = found_at p.1.0 p.0 p.1.1.0 in
     let e = c.before.magnitude-at.ensures in (
-      (omega (arith, w.inside, p.1.0.ranges.gathered.ordered.firsts-rise.rise.room), omega (arith, w.inside, p.1.0.ranges.room)),
+      (omega (arith, w.inside, p.1.0.ranges.gathered.ordered.firsts_rise.rise.room), omega (arith, w.inside, p.1.0.ranges.room)),
       (omega (arith, w.from, e), omega (arith, w.small, e)),
     )
 
@@ -64,7 +64,7 @@ returns-2 c =
     let p = d.pre.1 in
     let e = o.magnitude-at.ensures in
     let w = found_at p.1.0 p.0 p.1.1.0 in
-    matched-use p.1.0.accepted w p.1.1.1 o.before.if1.left d.args.cell d.args.out.now (l.place_of.ensures ∙ rw e (sym w.place))
+    matched_use p.1.0.accepted w p.1.1.1 o.before.if1.left d.args.cell d.args.out.now (l.place_of.ensures ∙ rw e (sym w.place))
     (m.before.before.before.before.number-at.ensures ∙ rw e) (m.before.before.number-at2.ensures ∙ rw e) p.1.0.room m.match-parent.ensures
 
 pub match-entry-spec : {M : Type 1} → statement M

@@ -5,16 +5,16 @@ use mathlib.Core.Bool.{true}
 use native.Mathlib.Omega.{arith}
 use borrow.Author.Rules.{rules}
 use borrow.Author.Tests.{not-true, not-false}
-use Rattle.model.specs.Image.{tree_of, nodeCount}
-use Rattle.face_uses.proofs.Runs.{tables-kept}
-use Rattle.agreement.specs.Matching.{Matched, usersOn}
-use Rattle.agreement.proofs.Steps.{matched-none, matched-then, matched-stop}
+use Rattle.model.specs.Image.{tree_of, node_count}
+use Rattle.face_uses.proofs.Runs.{tables_kept}
+use Rattle.agreement.specs.Matching.{Matched, users_on}
+use Rattle.agreement.proofs.Steps.{matched-none, matched-then, matched_stop}
 use Rattle.agreement.proofs.matching.match_nodes.Statement.{statement}
 use Rattle.agreement.proofs.matching.match_nodes.Tie as tie
 
 abbrev invariant-loop : tie.invariant-loop
 invariant-loop image index faces firsts reach places levels arrays out₀ nodes i₀ out i =
-    ((nodes ≡ nodeCount image) × (i ≤ nodes)) × Matched image faces.zone (usersOn (tree_of image) faces.zone 0) (usersOn (tree_of image) faces.zone i) out₀ true out
+    ((nodes ≡ node_count image) × (i ≤ nodes)) × Matched image faces.zone (users_on (tree_of image) faces.zone 0) (users_on (tree_of image) faces.zone i) out₀ true out
 
 abbrev decreases-loop : tie.decreases-loop
 decreases-loop image index faces firsts reach places levels arrays out₀ nodes i₀ out i = nodes - i
@@ -25,7 +25,7 @@ loop-holds c = ((c.node-count.ensures.0, omega arith), matched-none)
 match-entries-requires : tie.Need-match-entries-requires invariant-loop decreases-loop
 match-entries-requires c κs =
     let l = c.before.before.loop.invariant in
-    let p = c.before.before.before.before.before.before.before.before.before.before.before.before.requires in (((p.0.0, omega (arith, l.0)), p.0.1), (tables-kept p.1.0 l.1.kept.long, p.1.1))
+    let p = c.before.before.before.before.before.before.before.before.before.before.before.before.requires in (((p.0.0, omega (arith, l.0)), p.0.1), (tables_kept p.1.0 l.1.kept.long, p.1.1))
 
 same_length : tie.Need-same-length invariant-loop decreases-loop
 same_length c =
@@ -33,7 +33,7 @@ same_length c =
 
 returns : tie.Need-returns invariant-loop decreases-loop
 returns c =
-    matched-then c.before.before.before.before.before.before.loop.invariant.1 (matched-stop (not-true _ c.if1.true) c.before.before.before.match-entries.ensures)
+    matched-then c.before.before.before.before.before.before.loop.invariant.1 (matched_stop (not-true _ c.if1.true) c.before.before.before.match-entries.ensures)
 
 loop-again : tie.Need-loop-preserved invariant-loop decreases-loop
 loop-again c =
@@ -47,7 +47,7 @@ same-length-2 c =
 returns-2 : tie.Need-returns-2 invariant-loop decreases-loop
 returns-2 c =
     let l = c.before.loop in
-    let e : l.i ≡ nodeCount c.before.before.before.before.before.before.before.before.before.before.before.args.image.now = omega (arith, l.invariant.0) in rw e at l.invariant.1
+    let e : l.i ≡ node_count c.before.before.before.before.before.before.before.before.before.before.before.args.image.now = omega (arith, l.invariant.0) in rw e at l.invariant.1
 
 pub match-nodes-spec : {M : Type 1} → statement M
 match-nodes-spec = tie.close (tie.spec invariant-loop decreases-loop (λ c κs. search rules) loop-holds match-entries-requires same_length

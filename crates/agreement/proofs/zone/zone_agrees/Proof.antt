@@ -2,7 +2,7 @@
 use mathlib.Core.Path.{refl, sym, ◌∙◌}
 use native.Mathlib.Omega.{arith}
 use borrow.Author.Rules.{rules}
-use Rattle.face_places.proofs.Gathering.{few-ranges, all-faces}
+use Rattle.face_places.proofs.Gathering.{few-ranges, all_faces}
 use Rattle.agreement.proofs.ZoneLaws.{restored}
 use Rattle.agreement.proofs.zone.zone_agrees.Statement.{statement}
 use Rattle.agreement.proofs.zone.zone_agrees.Tie as tie
@@ -17,12 +17,12 @@ all-agree-requires c κs = let p = c.before.before.before.before.before.before.b
 
 clear-marks-requires : tie.Need-clear-marks-requires
 clear-marks-requires c κs =
-    let t = c.before.before.before.before.before.before.before.before.before.before.before.before.before.before.before.before.before.requires.1.0 in omega (arith, all-faces t.accepted t.ranges, t.room, c.before.before.before.before.all-agree.ensures.1.long)
+    let t = c.before.before.before.before.before.before.before.before.before.before.before.before.before.before.before.before.before.requires.1.0 in omega (arith, all_faces t.accepted t.ranges, t.room, c.before.before.before.before.all-agree.ensures.1.long)
 
 returns : tie.Need-returns
 returns c =
     let p = c.before.before.before.before.before.before.before.before.before.before.before.before.before.before.before.before.before.before.before.before.requires.1 in
-    let e = c.before.before.before.before.before.before.before.all-agree.ensures in (e.0, restored (all-faces p.0.accepted p.0.ranges) p.1 e.1 c.before.before.clear-marks.ensures)
+    let e = c.before.before.before.before.before.before.before.all-agree.ensures in (e.0, restored (all_faces p.0.accepted p.0.ranges) p.1 e.1 c.before.before.clear-marks.ensures)
 
 pub zone-agrees-spec : {M : Type 1} → statement M
 zone-agrees-spec =

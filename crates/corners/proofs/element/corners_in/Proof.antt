@@ -5,7 +5,7 @@ use mathlib.Core.Path.{◌≡◌, ap, ◌∙◌}
 use borrow.Author.Rules.{rules}
 use Rattle.model.specs.Rules.{rejected}
 use Rattle.rows.proofs.Rows.{inside-numbers}
-use Rattle.corners.proofs.Outcomes.{too_short, long-enough}
+use Rattle.corners.proofs.Outcomes.{too_short, long_enough}
 use Rattle.corners.proofs.element.corners_in.Statement.{statement}
 use Rattle.corners.proofs.element.corners_in.Tie as tie
 
@@ -18,7 +18,7 @@ put-numbers-requires c κs =
 
 returns-2 : tie.Need-returns-2
 returns-2 c =
-    let r = long-enough _ _ _ _ _ c.before.before.before.if1.false in
+    let r = long_enough _ _ _ _ _ c.before.before.before.if1.false in
     (r.0, c.before.put-numbers.ensures ∙ r.1)
 
 pub corners-in-spec : {M : Type 1} → statement M

@@ -9,23 +9,23 @@ use borrow.Author.Tests.{not-true, not-false}
 use Rattle.model.specs.Rules.{rejected}
 use Rattle.corners.specs.Spans.{held, SpanInside, span_of}
 use Rattle.rows.proofs.Rows.{inside-few}
-use Rattle.corners.proofs.Ranges.{span-outside, any_found, mixed-found, nodes-found}
-use Rattle.corners.proofs.Outcomes.{below-range, above-range, element-outside, element-unreadable, corners-are}
+use Rattle.corners.proofs.Ranges.{span_outside, any_found, mixed-found, nodes-found}
+use Rattle.corners.proofs.Outcomes.{below-range, above-range, element_outside, element_unreadable, corners_are}
 use Rattle.corners.proofs.element.element_corners.Statement.{statement}
 use Rattle.corners.proofs.element.element_corners.Tie as tie
 
 returns : tie.Need-returns
-returns c = let r = element-outside _ _ _ _ (below-range _ _ c.before.if1.true) in (ap rejected c.at.ensures ∙ r.0, r.1)
+returns c = let r = element_outside _ _ _ _ (below-range _ _ c.before.if1.true) in (ap rejected c.at.ensures ∙ r.0, r.1)
 
 returns-2 : tie.Need-returns-2
-returns-2 c = let r = element-outside _ _ _ _ (above-range _ _ c.before.if2.true) in (ap rejected c.at2.ensures ∙ r.0, r.1)
+returns-2 c = let r = element_outside _ _ _ _ (above-range _ _ c.before.if2.true) in (ap rejected c.at2.ensures ∙ r.0, r.1)
 
 returns-3 : tie.Need-returns-3
 returns-3 c =
     let a = c.before.before.before.before.before.before.args in
     let i = c.before.before.inside.ensures in
-    let q = span-outside _ _ _ (sym i ∙ not-true _ c.before.if3.true) in
-    let r = element-unreadable a.image.now a.section a.element a.out.now (omega arith) (omega arith) q in
+    let q = span_outside _ _ _ (sym i ∙ not-true _ c.before.if3.true) in
+    let r = element_unreadable a.image.now a.section a.element a.out.now (omega arith) (omega arith) q in
     (ap rejected c.at3.ensures ∙ r.0, r.1)
 
 -- the connectivity lies inside the image
@@ -55,7 +55,7 @@ joined c =
 returns-4 : tie.Need-returns-4
 returns-4 c =
     let j = joined c.before.before.before in
-    let r = element-unreadable _ _ _ _ (omega arith) (omega arith) (sym c.before.enum_told.given.1 ∙ j.0) in
+    let r = element_unreadable _ _ _ _ (omega arith) (omega arith) (sym c.before.enum_told.given.1 ∙ j.0) in
     (ap rejected c.at4.ensures ∙ r.0, r.1)
 
 corners-in-requires : tie.Need-corners-in-requires
@@ -67,7 +67,7 @@ returns-5 c =
     let g = d.span.given.1 in
     let j = joined d.before.before in
     let r = c.before.corners-in.ensures in
-    let s = corners-are _ _ _ _ (omega arith) (omega arith) _ _ (sym g ∙ j.0) (rw g at j.1).0 in
+    let s = corners_are _ _ _ _ (omega arith) (omega arith) _ _ (sym g ∙ j.0) (rw g at j.1).0 in
     (r.0 ∙ s.0, r.1 ∙ s.1)
 
 pub element-corners-spec : {M : Type 1} → statement M

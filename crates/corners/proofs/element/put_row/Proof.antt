@@ -7,13 +7,13 @@ use lib.ListN.{length, length-set}
 use mir.Syntax.{w64}
 use mir.Facts.{to_z-of_z}
 use Rattle.model.specs.Lists.{over}
-use Rattle.model.proofs.Written.{written_none, written-more}
-use Rattle.corners.specs.Spans.{rowValues}
+use Rattle.model.proofs.Written.{written_none, written_more}
+use Rattle.corners.specs.Spans.{row_values}
 use Rattle.corners.proofs.element.put_row.Statement.{statement}
 use Rattle.corners.proofs.element.put_row.Tie as tie
 
 abbrev invariant-loop : tie.invariant-loop
-invariant-loop image row start n out₀ k₀ out k = (k ≤ n) × (out ≡ over out₀ (rowValues image row start k)) × (length out ≡ length out₀)
+invariant-loop image row start n out₀ k₀ out k = (k ≤ n) × (out ≡ over out₀ (row_values image row start k)) × (length out ≡ length out₀)
 
 abbrev decreases-loop : tie.decreases-loop
 decreases-loop image row start n out₀ k₀ out k = n - k
@@ -26,7 +26,7 @@ loop-again c =
     let l = c.before.before in
     let z = c.signed-number-at in (
       omega arith,
-      written-more _ _ _ _ _ (omega arith) l.loop.invariant.1 (to_z-of_z (sfits_of {w = w64} {z = z.result} z.type-inv) ∙ z.ensures),
+      written_more _ _ _ _ _ (omega arith) l.loop.invariant.1 (to_z-of_z (sfits_of {w = w64} {z = z.result} z.type-inv) ∙ z.ensures),
       rw length-set l.loop.invariant.2,
     )
 

@@ -9,22 +9,22 @@ use borrow.Author.Tests.{not-true, not-false}
 use Rattle.model.specs.Rules.{rejected, answer}
 use Rattle.corners.specs.Spans.{held, SpanInside, span_of}
 use Rattle.rows.proofs.Rows.{inside-few, inside-numbers}
-use Rattle.corners.proofs.Ranges.{span-outside, any_found, mixed-found, nodes-found}
-use Rattle.corners.proofs.Outcomes.{below-range, above-range, type-outside, type-unreadable, type-place, type-mixed, type-plain}
+use Rattle.corners.proofs.Ranges.{span_outside, any_found, mixed-found, nodes-found}
+use Rattle.corners.proofs.Outcomes.{below-range, above-range, type_outside, type_unreadable, type-place, type-mixed, type_plain}
 use Rattle.corners.proofs.own_type.element_type.Statement.{statement}
 use Rattle.corners.proofs.own_type.element_type.Tie as tie
 
 returns : tie.Need-returns
-returns c = ap rejected c.at.ensures ∙ type-outside _ _ _ (below-range _ _ c.before.if1.true)
+returns c = ap rejected c.at.ensures ∙ type_outside _ _ _ (below-range _ _ c.before.if1.true)
 
 returns-2 : tie.Need-returns-2
-returns-2 c = ap rejected c.at2.ensures ∙ type-outside _ _ _ (above-range _ _ c.before.if2.true)
+returns-2 c = ap rejected c.at2.ensures ∙ type_outside _ _ _ (above-range _ _ c.before.if2.true)
 
 returns-3 : tie.Need-returns-3
 returns-3 c =
     let a = c.before.before.before.before.before.before.args in
-    let q = span-outside _ _ _ (sym c.before.before.inside.ensures ∙ not-true _ c.before.if3.true) in
-    ap rejected c.at3.ensures ∙ type-unreadable a.image.now a.section a.element (omega arith) (omega arith) q
+    let q = span_outside _ _ _ (sym c.before.before.inside.ensures ∙ not-true _ c.before.if3.true) in
+    ap rejected c.at3.ensures ∙ type_unreadable a.image.now a.section a.element (omega arith) (omega arith) q
 
 -- the connectivity lies inside the image
 within : (c : tie.Else3) → let a = c.before.before.before.before.before.args in held a.image.now a.section ≡ true
@@ -53,12 +53,12 @@ joined c =
 returns-4 : tie.Need-returns-4
 returns-4 c =
     ap rejected c.at4.ensures
-    ∙ type-unreadable _ _ _ (omega arith) (omega arith) (sym c.before.enum_told.given.1 ∙ (joined c.before.before.before).0)
+    ∙ type_unreadable _ _ _ (omega arith) (omega arith) (sym c.before.enum_told.given.1 ∙ (joined c.before.before.before).0)
 
 returns-5 : tie.Need-returns-5
 returns-5 c =
     let d = c.before.before in
-    type-plain _ _ _ (omega arith) (omega arith) (sym d.span.given.1 ∙ (joined d.before.before).0) c.if6.true
+    type_plain _ _ _ (omega arith) (omega arith) (sym d.span.given.1 ∙ (joined d.before.before).0) c.if6.true
 
 sub-number-at : tie.Need-overflow-sub-number-at
 sub-number-at c =

@@ -3,21 +3,21 @@ use native.Mathlib.Omega.{arith}
 use mathlib.Core.Path.{refl, sym, ap, ◌∙◌}
 use borrow.Author.Rules.{rules}
 use Rattle.model.specs.Rules.{rejected}
-use Rattle.corners.proofs.Outcomes.{below-range, above-range, corner-outside, corner-unreadable, corner-is}
+use Rattle.corners.proofs.Outcomes.{below-range, above-range, corner_outside, corner_unreadable, corner-is}
 use Rattle.corners.proofs.reader.corner.Statement.{statement}
 use Rattle.corners.proofs.reader.corner.Tie as tie
 
 returns : tie.Need-returns
-returns c = record { answers = ap rejected c.at.ensures ∙ corner-outside _ _ _ _ (below-range _ _ c.before.if1.true); image-kept = refl }
+returns c = record { answers = ap rejected c.at.ensures ∙ corner_outside _ _ _ _ (below-range _ _ c.before.if1.true); image-kept = refl }
 
 returns-2 : tie.Need-returns-2
-returns-2 c = record { answers = ap rejected c.at2.ensures ∙ corner-outside _ _ _ _ (above-range _ _ c.before.if2.true); image-kept = refl }
+returns-2 c = record { answers = ap rejected c.at2.ensures ∙ corner_outside _ _ _ _ (above-range _ _ c.before.if2.true); image-kept = refl }
 
 returns-3 : tie.Need-returns-3
 returns-3 c =
     record {
       answers = ap rejected c.at3.ensures
-          ∙ corner-unreadable _ _ _ _ (omega arith) (omega arith) (sym c.before.enum_told.given.1 ∙ c.before.before.before.element-span.ensures.0);
+          ∙ corner_unreadable _ _ _ _ (omega arith) (omega arith) (sym c.before.enum_told.given.1 ∙ c.before.before.before.element-span.ensures.0);
       image-kept = refl;
     }
 

@@ -3,18 +3,18 @@ use mathlib.Core.Path.{sym, ◌∙◌}
 use native.Mathlib.Omega.{arith}
 use borrow.Author.Rules.{rules}
 use borrow.Author.Tests.{eq-eqb, ne_eqb, not-true, not-false}
-use Rattle.corners.specs.Spans.{behindType, mixedSpan}
+use Rattle.corners.specs.Spans.{behind_type, mixed_span}
 use Rattle.rows.proofs.Rows.{inside-numbers}
-use Rattle.corners.proofs.Ranges.{type-apart, type-in-front, fits-two}
+use Rattle.corners.proofs.Ranges.{type_apart, type_in_front, fits_two}
 use Rattle.corners.proofs.spans.behind_type.Statement.{statement}
 use Rattle.corners.proofs.spans.behind_type.Tie as tie
 
 returns : tie.Need-returns
-unfolding mixedSpan
+unfolding mixed_span
 returns c = (rw (ne_eqb _ _ c.if1.true), tt)
 
 returns-2 : tie.Need-returns-2
-unfolding mixedSpan behindType
+unfolding mixed_span behind_type
 returns-2 c = (rw (c.enum_told.given.1, eq-eqb _ _ c.before.before.if1.false), tt)
 
 number-at-requires : tie.Need-number-at-requires
@@ -34,7 +34,7 @@ returns-3 c =
     let f = c.before in
     let s = f.before.before.before in (
       rw s.span.given.1
-          (type-apart _ _ _ _ _ s.before.before.if1.false f.before.number-at.ensures f.fits-length.ensures (not-true _ c.if2.true)),
+          (type_apart _ _ _ _ _ s.before.before.if1.false f.before.number-at.ensures f.fits-length.ensures (not-true _ c.if2.true)),
       tt,
     )
 
@@ -51,8 +51,8 @@ returns-4 c =
     let e = f.fits-length.ensures in
     let y = not-false _ c.if2.false in
     let p = rw s.span.given.1 at s.before.before.before.before.requires.1 in (
-      rw s.span.given.1 (type-in-front _ _ _ _ _ s.before.before.if1.false f.before.number-at.ensures e y),
-      (omega (arith, fits-two _ _ (sym e ∙ y)), p.1),
+      rw s.span.given.1 (type_in_front _ _ _ _ _ s.before.before.if1.false f.before.number-at.ensures e y),
+      (omega (arith, fits_two _ _ (sym e ∙ y)), p.1),
     )
 
 pub behind-type-spec : {M : Type 1} → statement M

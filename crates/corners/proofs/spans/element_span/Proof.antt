@@ -4,7 +4,7 @@ use mathlib.Core.Path.{◌≡◌, sym, ◌∙◌}
 use mathlib.Core.Bool.{true}
 use borrow.Author.Rules.{rules}
 use Rattle.corners.specs.Spans.{held}
-use Rattle.corners.proofs.Ranges.{span-outside, any_found, mixed-found, nodes-found}
+use Rattle.corners.proofs.Ranges.{span_outside, any_found, mixed-found, nodes-found}
 use Rattle.rows.proofs.Rows.{inside-few}
 use Rattle.corners.proofs.spans.element_span.Statement.{statement}
 use Rattle.corners.proofs.spans.element_span.Tie as tie
@@ -40,7 +40,7 @@ returns-3 c =
     c.fixed-span.ensures
 
 returns-4 : tie.Need-returns-4
-returns-4 c = (span-outside _ _ _ (sym c.before.inside.ensures ∙ c.if1.false), tt)
+returns-4 c = (span_outside _ _ _ (sym c.before.inside.ensures ∙ c.if1.false), tt)
 
 pub element-span-spec : {M : Type 1} → statement M
 element-span-spec =

@@ -1,7 +1,7 @@
 -- An end below half of the patterns that is above the start: neither is negative.
 use borrow.Author.Rules.{rules}
 use borrow.Author.Tests.{le-leb, lt-leb}
-use Rattle.corners.proofs.Ranges.{end-negative, not-rising, rising}
+use Rattle.corners.proofs.Ranges.{end-negative, not_rising, rising}
 use Rattle.corners.proofs.spans.range_between.Statement.{statement}
 use Rattle.corners.proofs.spans.range_between.Tie as tie
 
@@ -9,7 +9,7 @@ returns : tie.Need-returns
 returns c = (end-negative _ _ _ _ (rw c.before.half_of_lem.ensures at c.if1.true), tt)
 
 returns-2 : tie.Need-returns-2
-returns-2 c = (not-rising _ _ _ _ c.if2.true, tt)
+returns-2 c = (not_rising _ _ _ _ c.if2.true, tt)
 
 returns-3 : tie.Need-returns-3
 returns-3 c = (

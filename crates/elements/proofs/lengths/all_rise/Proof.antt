@@ -4,8 +4,8 @@ use Prim.Native.Nat.{◌-◌}
 use native.Mathlib.Omega.{arith}
 use borrow.Author.Rules.{rules}
 use borrow.Author.Tests.{not-true, not-false}
-use Rattle.model.proofs.Loops.{every-done}
-use Rattle.elements.proofs.Offsets.{Rising, rising-start, rising-on, rising-off}
+use Rattle.model.proofs.Loops.{every_done}
+use Rattle.elements.proofs.Offsets.{Rising, rising_start, rising_on, rising_off}
 use Rattle.elements.proofs.lengths.all_rise.Statement.{statement}
 use Rattle.elements.proofs.lengths.all_rise.Tie as tie
 
@@ -16,20 +16,20 @@ abbrev decreases-loop : tie.decreases-loop
 decreases-loop image row least n width last₀ k₀ last k = n - k
 
 loop-holds : tie.Need-loop-init invariant-loop decreases-loop
-loop-holds c = rising-start c.before.before.requires.1.0
+loop-holds c = rising_start c.before.before.requires.1.0
 
 returns : tie.Need-returns invariant-loop decreases-loop
 returns c =
-    rising-off c.before.before.before.before.loop.invariant c.before.before.number-at.ensures (omega arith)
+    rising_off c.before.before.before.before.loop.invariant c.before.before.number-at.ensures (omega arith)
     (sym c.before.rises.ensures ∙ not-true _ c.if1.true)
 
 loop-again : tie.Need-loop-preserved invariant-loop decreases-loop
 loop-again c =
-    rising-on c.before.before.before.before.loop.invariant c.before.before.number-at.ensures (omega arith)
+    rising_on c.before.before.before.before.loop.invariant c.before.before.number-at.ensures (omega arith)
     (sym c.before.rises.ensures ∙ not-false _ c.if1.false)
 
 returns-2 : tie.Need-returns-2 invariant-loop decreases-loop
-returns-2 c = every-done c.before.loop.invariant.left (omega arith)
+returns-2 c = every_done c.before.loop.invariant.left (omega arith)
 
 rises-requires : tie.Need-rises-requires invariant-loop decreases-loop
 rises-requires c κs =

@@ -1,7 +1,7 @@
 -- CellDimension is the first number of the base, which is two above the section.
 use native.Mathlib.Omega.{arith}
 use borrow.Author.Rules.{rules}
-use Rattle.elements.proofs.ShapeLaws.{least-elsewhere, least-face, least-cell, least_other}
+use Rattle.elements.proofs.ShapeLaws.{least_elsewhere, least-face, least_cell, least_other}
 use Rattle.elements.proofs.lengths.least_size.Statement.{statement}
 use Rattle.elements.proofs.lengths.least_size.Tie as tie
 
@@ -14,7 +14,7 @@ returns : tie.Need-returns
 returns c =
     let w = c.before in
     let b = w.before in (
-      least-elsewhere _ _ b.before.parent_of.ensures.0 b.parent-of2.ensures.0 w.whole.ensures
+      least_elsewhere _ _ b.before.parent_of.ensures.0 b.parent-of2.ensures.0 w.whole.ensures
           b.before.before.before.requires.1 c.if1.true,
       omega arith,
     )
@@ -32,7 +32,7 @@ returns-3 : tie.Need-returns-3
 returns-3 c =
     let w = c.before.before.before in
     let b = w.before in (
-      least-cell _ _ b.before.parent_of.ensures.0 b.parent-of2.ensures.0 w.whole.ensures
+      least_cell _ _ b.before.parent_of.ensures.0 b.parent-of2.ensures.0 w.whole.ensures
           b.before.before.before.requires.1 c.before.before.if1.false c.if3.true,
       omega arith,
     )

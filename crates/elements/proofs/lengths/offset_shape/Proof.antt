@@ -2,8 +2,8 @@
 use mathlib.Core.Path.{sym, ap, ◌∙◌}
 use Rattle.model.specs.Rules.{rejected}
 use Rattle.section_data.proofs.ArrayLaws.{row-numbers}
-use Rattle.section_data.proofs.ArrayLaws.{offsets-there, offsets-found}
-use Rattle.elements.proofs.ShapeLaws.{count_small, offsets-short, offsets-fit}
+use Rattle.section_data.proofs.ArrayLaws.{offsets_there, offsets-found}
+use Rattle.elements.proofs.ShapeLaws.{count_small, offsets-short, offsets_fit}
 use native.Mathlib.Omega.{arith}
 use borrow.Author.Rules.{rules}
 use Rattle.elements.proofs.lengths.offset_shape.Statement.{statement}
@@ -12,14 +12,14 @@ use Rattle.elements.proofs.lengths.offset_shape.Tie as tie
 size-of-requires : tie.Need-size-of-requires
 size-of-requires c κs =
     let p = c.before.before.before.requires in
-    ((p.0.0.sound, c.offsets-of.ensures.1), λ h. offsets-there p.0.1 c.offsets-of.ensures.0 h)
+    ((p.0.0.sound, c.offsets_of_lem.ensures.1), λ h. offsets_there p.0.1 c.offsets_of_lem.ensures.0 h)
 
 returns : tie.Need-returns
 returns c =
     let z = c.before.before in
     let p = z.before.before.before.before.requires in
     ap rejected c.at.ensures
-    ∙ offsets-short _ _ p.1.1.1 p.1.0.0 p.1.0.1 z.before.offsets-of.ensures.0 z.type_size.ensures c.before.if1.true
+    ∙ offsets-short _ _ p.1.1.1 p.1.0.0 p.1.0.1 z.before.offsets_of_lem.ensures.0 z.type_size.ensures c.before.if1.true
 
 least-size-requires : tie.Need-least-size-requires
 least-size-requires c κs = let p = c.before.before.before.before.before.requires in ((p.0.0.sound, p.0.1), p.1.1.0)
@@ -28,7 +28,7 @@ row-of-requires : tie.Need-row-of-requires
 row-of-requires c κs =
     let z = c.before.before in
     let p = z.before.before.before.before.requires in
-    (p.0.0.sound, offsets-there p.0.1 z.before.offsets-of.ensures.0 (offsets-found _ _ _ _ z.type_size.ensures c.before.if1.false))
+    (p.0.0.sound, offsets_there p.0.1 z.before.offsets_of_lem.ensures.0 (offsets-found _ _ _ _ z.type_size.ensures c.before.if1.false))
 
 offsets-stage-requires : tie.Need-offsets-stage-requires
 offsets-stage-requires c κs =
@@ -46,7 +46,7 @@ returns-2 c =
     let p = z.before.before.before.before.requires in
     let a = r.row_of.ensures in
     c.offsets-stage.ensures
-    ∙ offsets-fit _ _ p.1.1.1 p.1.0.0 p.1.0.1 z.before.offsets-of.ensures.0 p.0.0.sound a
+    ∙ offsets_fit _ _ p.1.1.1 p.1.0.0 p.1.0.1 z.before.offsets_of_lem.ensures.0 p.0.0.sound a
     (a.long ∙ sym z.type_size.ensures ∙ m.before.if1.false) m.least_size.ensures.0
 
 pub offset-shape-spec : {M : Type 1} → statement M

@@ -1,6 +1,6 @@
 -- The first stage that rejects is the answer.
 use Rattle.model.proofs.Staging.{stop, go, passes}
-use Rattle.elements.proofs.StageLaws.{length-read}
+use Rattle.elements.proofs.StageLaws.{length_read}
 use Rattle.section_data.proofs.ArrayLaws.{row_is}
 use borrow.Author.Rules.{rules}
 use Rattle.elements.proofs.stage.array_stage.Statement.{statement}
@@ -13,7 +13,7 @@ row-of-requires c κs = let p = c.before.before.before.before.before.before.requ
 shape-stage-requires : tie.Need-shape-stage-requires
 shape-stage-requires c κs =
     let p = c.before.before.before.before.before.before.before.requires in
-    (p.0, ((p.1.0.1, length-read _ _ c.row_of.ensures.long c.before.connectivity-of.ensures.0), p.1.0.0))
+    (p.0, ((p.1.0.1, length_read _ _ c.row_of.ensures.long c.before.connectivity-of.ensures.0), p.1.0.0))
 
 returns : tie.Need-returns
 returns c = stop c.before.before.shape-stage.ensures _ c.enum-told2.given.1

@@ -3,21 +3,21 @@ use Prim.Native.Nat.{◌-◌}
 use mathlib.Core.Path.{sym, ◌∙◌}
 use native.Mathlib.Omega.{arith}
 use borrow.Author.Rules.{rules}
-use Rattle.model.specs.Lists.{someFrom}
-use Rattle.model.specs.Image.{tree_of, nodeCount}
-use Rattle.model.specs.ParentElements.{hasParents}
-use Rattle.model.proofs.Loops.{SomeLeft, some-start, some_more, some-stop, some-done}
+use Rattle.model.specs.Lists.{some_from}
+use Rattle.model.specs.Image.{tree_of, node_count}
+use Rattle.model.specs.ParentElements.{has_parents}
+use Rattle.model.proofs.Loops.{SomeLeft, some_start, some_more, some_stop, some-done}
 use Rattle.face_parents.proofs.face.any_parents.Statement.{statement}
 use Rattle.face_parents.proofs.face.any_parents.Tie as tie
 
 abbrev invariant-loop : tie.invariant-loop
-invariant-loop image index z nodes s₀ s = SomeLeft (hasParents (tree_of image) z) nodes s (someFrom (hasParents (tree_of image) z) (nodeCount image) 0)
+invariant-loop image index z nodes s₀ s = SomeLeft (has_parents (tree_of image) z) nodes s (some_from (has_parents (tree_of image) z) (node_count image) 0)
 
 abbrev decreases-loop : tie.decreases-loop
 decreases-loop image index z nodes s₀ s = nodes - s
 
 loop-holds : tie.Need-loop-init invariant-loop decreases-loop
-loop-holds c = rw (← c.node-count.ensures.0) (some-start _ _ 0 (omega arith) (λ j h. absurd (omega arith)))
+loop-holds c = rw (← c.node-count.ensures.0) (some_start _ _ 0 (omega arith) (λ j h. absurd (omega arith)))
 
 has-parents-requires : tie.Need-has-parents-requires invariant-loop decreases-loop
 has-parents-requires c κs =
@@ -25,11 +25,11 @@ has-parents-requires c κs =
 
 returns : tie.Need-returns invariant-loop decreases-loop
 returns c =
-    some-stop c.before.before.before.loop.invariant (omega (arith, c.before.before.loop-test.true)) (sym c.before.has-parents.ensures ∙ c.if1.true)
+    some_stop c.before.before.before.loop.invariant (omega (arith, c.before.before.loop-test.true)) (sym c.before.has_parents_lem.ensures ∙ c.if1.true)
 
 loop-again : tie.Need-loop-preserved invariant-loop decreases-loop
 loop-again c =
-    some_more c.before.before.before.loop.invariant (omega (arith, c.before.before.loop-test.true)) (sym c.before.has-parents.ensures ∙ c.if1.false)
+    some_more c.before.before.before.loop.invariant (omega (arith, c.before.before.loop-test.true)) (sym c.before.has_parents_lem.ensures ∙ c.if1.false)
 
 pub any-parents-spec : {M : Type 1} → statement M
 any-parents-spec = tie.close (tie.spec invariant-loop decreases-loop (λ c κs. search rules) loop-holds has-parents-requires returns (search rules) (search rules) loop-again

@@ -4,20 +4,20 @@ use mathlib.Core.Path.{sym, ◌∙◌}
 use native.Mathlib.Omega.{arith}
 use borrow.Author.Rules.{rules}
 use Rattle.model.specs.Image.{tree_of}
-use Rattle.model.specs.Elements.{hasFace, sectionWithFace}
-use Rattle.model.proofs.Loops.{SeekLeft, seek-more, seek_stop, seek-done}
-use Rattle.face_parents.proofs.OneFace.{section-start}
+use Rattle.model.specs.Elements.{has_face, section_with_face}
+use Rattle.model.proofs.Loops.{SeekLeft, seek_more, seek_stop, seek_done}
+use Rattle.face_parents.proofs.OneFace.{section_start}
 use Rattle.face_parents.proofs.face.section_with_face.Statement.{statement}
 use Rattle.face_parents.proofs.face.section_with_face.Tie as tie
 
 abbrev invariant-loop : tie.invariant-loop
-invariant-loop image index z f nodes s₀ s = SeekLeft (hasFace (tree_of image) z f) nodes s (sectionWithFace (tree_of image) z f)
+invariant-loop image index z f nodes s₀ s = SeekLeft (has_face (tree_of image) z f) nodes s (section_with_face (tree_of image) z f)
 
 abbrev decreases-loop : tie.decreases-loop
 decreases-loop image index z f nodes s₀ s = nodes - s
 
 loop-holds : tie.Need-loop-init invariant-loop decreases-loop
-loop-holds c = section-start _ _ _ c.node-count.ensures.0
+loop-holds c = section_start _ _ _ c.node-count.ensures.0
 
 has-face-requires : tie.Need-has-face-requires invariant-loop decreases-loop
 has-face-requires c κs =
@@ -32,11 +32,11 @@ returns c =
 
 loop-again : tie.Need-loop-preserved invariant-loop decreases-loop
 loop-again c =
-    seek-more c.before.before.before.loop.invariant (omega (arith, c.before.before.loop-test.true)) (sym c.before.has-face.ensures ∙ c.if1.false)
+    seek_more c.before.before.before.loop.invariant (omega (arith, c.before.before.loop-test.true)) (sym c.before.has-face.ensures ∙ c.if1.false)
 
 returns-2 : tie.Need-returns-2 invariant-loop decreases-loop
 returns-2 c =
-    let l = c.before in (seek-done l.loop.invariant (omega arith), omega (arith, l.loop.invariant.inside, l.before.node-count.ensures.0))
+    let l = c.before in (seek_done l.loop.invariant (omega arith), omega (arith, l.loop.invariant.inside, l.before.node-count.ensures.0))
 
 pub section-with-face-spec : {M : Type 1} → statement M
 section-with-face-spec = tie.close (tie.spec invariant-loop decreases-loop (λ c κs. search rules) loop-holds has-face-requires returns (search rules) (search rules)

@@ -1,15 +1,15 @@
 -- The face is in the section's range, and the two columns have a number for each face of it.
 use native.Mathlib.Omega.{arith}
 use borrow.Author.Rules.{rules}
-use Rattle.face_parents.proofs.Columns.{columns-long}
-use Rattle.face_parents.proofs.OneFace.{in_span, row-long, stored-pair}
+use Rattle.face_parents.proofs.Columns.{columns_long}
+use Rattle.face_parents.proofs.OneFace.{in_span, row-long, stored_pair}
 use Rattle.face_parents.proofs.face.stored_parents.Statement.{statement}
 use Rattle.face_parents.proofs.face.stored_parents.Tie as tie
 
 parents-row-requires : tie.Need-parents-row-requires
 parents-row-requires c κs =
     let p = c.before.before.before.requires in
-    ((p.0.0.accepted.sound, omega (arith, p.1.1.stores.inside)), λ l. rw (columns-long p.1.1) p.1.1)
+    ((p.0.0.accepted.sound, omega (arith, p.1.1.stores.inside)), λ l. rw (columns_long p.1.1) p.1.1)
 
 sub-k : tie.Need-overflow-sub-k
 sub-k c = (in_span c.before.before.Span-of.ensures _ c.before.before.before.before.before.requires.0.1).0
@@ -36,7 +36,7 @@ number-at-requires-2 c κs =
 returns : tie.Need-returns
 returns c =
     let p = c.before.before.before.before.before.before.before.before.requires in
-    stored-pair c.before.before.before.before.before.Span-of.ensures _ p.0.1 p.1.0 p.1.1
+    stored_pair c.before.before.before.before.before.Span-of.ensures _ p.0.1 p.1.0 p.1.1
     c.before.before.before.before.parents-row.ensures c.before.number-at.ensures c.number-at2.ensures
 
 pub stored-parents-spec : {M : Type 1} → statement M

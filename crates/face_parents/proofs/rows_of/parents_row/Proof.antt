@@ -1,7 +1,7 @@
 -- A node with two columns has a word for each, and its first dimension is how long they are.
 use native.Mathlib.Omega.{arith}
 use borrow.Author.Rules.{rules}
-use Rattle.face_parents.proofs.Columns.{two-words, column-short, parent_row}
+use Rattle.face_parents.proofs.Columns.{two-words, column_short, parent_row}
 use Rattle.face_parents.proofs.rows_of.parents_row.Statement.{statement}
 use Rattle.face_parents.proofs.rows_of.parents_row.Tie as tie
 
@@ -14,7 +14,7 @@ dimension-requires c κs =
 mul-t6 : tie.Need-overflow-mul-t6
 mul-t6 c =
     let p = c.before.before.before.before.before.before.requires in
-    record { fits = omega (arith, column-short p.0.0 (p.1 (omega arith)), c.dimension.ensures) }
+    record { fits = omega (arith, column_short p.0.0 (p.1 (omega arith)), c.dimension.ensures) }
 
 returns-2 : tie.Need-returns-2
 returns-2 c =

@@ -5,15 +5,15 @@ use native.Mathlib.Omega.{arith}
 use borrow.Author.Rules.{rules}
 use lib.ListN.{length, length-set}
 use lib.Seq.{get_or-set_same}
-use Rattle.model.specs.Image.{tree_of, nodeCount}
+use Rattle.model.specs.Image.{tree_of, node_count}
 use Rattle.face_places.specs.Ranges.{Ranges}
-use Rattle.face_places.proofs.Gathering.{no-ranges}
+use Rattle.face_places.proofs.Gathering.{no_ranges}
 use Rattle.face_places.proofs.places.gather.Statement.{statement}
 use Rattle.face_places.proofs.places.gather.Tie as tie
 
 abbrev invariant-loop : tie.invariant-loop
 invariant-loop image index z firsts₀ reach₀ places₀ nodes n₀ i₀ firsts reach places n i =
-    (((nodes ≡ nodeCount image) × (i ≤ nodes)) × ((length firsts ≡ length firsts₀) × (length reach ≡ length reach₀) × (length places ≡ length places₀)))
+    (((nodes ≡ node_count image) × (i ≤ nodes)) × ((length firsts ≡ length firsts₀) × (length reach ≡ length reach₀) × (length places ≡ length places₀)))
     × Ranges (tree_of image) z i firsts reach places n
 
 abbrev decreases-loop : tie.decreases-loop
@@ -23,7 +23,7 @@ loop-holds : tie.Need-loop-init invariant-loop decreases-loop
 loop-holds c =
     let p = c.before.before.before.before.before.before.args.places.now in (
       ((c.node-count.ensures.0, omega arith), (refl, refl, refl)),
-      no-ranges _ _ _ _ _ (get_or-set_same p 0 0 0 (omega arith)) (rw (length-set p 0 0) (omega arith)),
+      no_ranges _ _ _ _ _ (get_or-set_same p 0 0 0 (omega arith)) (rw (length-set p 0 0) (omega arith)),
     )
 
 add-section-requires : tie.Need-add-section-requires invariant-loop decreases-loop
@@ -43,7 +43,7 @@ loop-again c =
 returns : tie.Need-returns invariant-loop decreases-loop
 returns c =
     let l = c.before.loop in
-    let e : l.i ≡ nodeCount c.before.before.before.before.before.before.before.before.args.image.now = omega (arith, l.invariant.0.0.0) in
+    let e : l.i ≡ node_count c.before.before.before.before.before.before.before.before.args.image.now = omega (arith, l.invariant.0.0.0) in
     rw e at l.invariant.1
 
 same-length-3 : tie.Need-same-length-3 invariant-loop decreases-loop

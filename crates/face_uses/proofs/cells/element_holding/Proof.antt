@@ -1,7 +1,7 @@
 -- The section's start offsets tell how many of its elements end before the entry.
 use mathlib.Core.Path.{refl}
 use borrow.Author.Rules.{rules}
-use Rattle.face_uses.proofs.Arrays.{element-read}
+use Rattle.face_uses.proofs.Arrays.{element_read}
 use Rattle.face_uses.proofs.cells.element_holding.Statement.{statement}
 use Rattle.face_uses.proofs.cells.element_holding.Tie as tie
 
@@ -11,7 +11,7 @@ cell-offsets-requires c κs = (c.before.before.before.requires, c.Span-of.ensure
 returns : tie.Need-returns
 returns c =
     let o = c.before.before in
-    let s = o.before in element-read s.before.before.before.requires s.Span-of.ensures refl o.cell-offsets.ensures _ c.before.ends-after.ensures.0
+    let s = o.before in element_read s.before.before.before.requires s.Span-of.ensures refl o.cell-offsets.ensures _ c.before.ends-after.ensures.0
 
 pub element-holding-spec : {M : Type 1} → statement M
 element-holding-spec =

@@ -5,10 +5,10 @@ use lib.ListN.{length}
 use borrow.Author.Tests.{not-true, not-false}
 use Rattle.model.specs.Rules.{repetition}
 use Rattle.model.specs.Image.{tree_of}
-use Rattle.model.specs.FaceUsage.{faceCount, usesIn, useEntries}
+use Rattle.model.specs.FaceUsage.{face_count, uses_in, use_entries}
 use Rattle.section_data.proofs.TableLaws.{face-small}
-use Rattle.face_uses.proofs.Runs.{tables-kept, Left, left-more, left-stop, left-done, entries-start, entries-step, entries-end}
-use Rattle.face_uses.proofs.Runs.{entry-face, entry-used, entry-repeated}
+use Rattle.face_uses.proofs.Runs.{tables_kept, Left, left_more, left_stop, left-done, entries_start, entries_step, entries-end}
+use Rattle.face_uses.proofs.Runs.{entry-face, entry-used, entry_repeated}
 use native.Mathlib.Omega.{arith}
 use borrow.Author.Rules.{rules}
 use Rattle.face_uses.proofs.uses.use_entries.Statement.{statement}
@@ -17,8 +17,8 @@ use Rattle.face_uses.proofs.uses.use_entries.Tie as tie
 abbrev invariant-loop : tie.invariant-loop
 invariant-loop image index faces s firsts reach places levels out₀ row guesses₀ last₀ k₀ out guesses last k =
     ((k ≤ row.n) × (length guesses ≡ 9))
-    × Left (faceCount (tree_of image) faces.zone) (useEntries (tree_of image) s (usesIn (tree_of image) faces.zone s) 0 out₀) out₀
-    (useEntries (tree_of image) s (row.n - k) k out) out
+    × Left (face_count (tree_of image) faces.zone) (use_entries (tree_of image) s (uses_in (tree_of image) faces.zone s) 0 out₀) out₀
+    (use_entries (tree_of image) s (row.n - k) k out) out
 
 abbrev decreases-loop : tie.decreases-loop
 decreases-loop image index faces s firsts reach places levels out₀ row guesses₀ last₀ k₀ out guesses last k = row.n - k
@@ -27,7 +27,7 @@ references-of-requires : tie.Need-references-of-requires invariant-loop decrease
 references-of-requires c κs = let p = c.before.before.before.before.before.before.before.requires in (p.1.accepted, p.0.0)
 
 loop-holds : tie.Need-loop-init invariant-loop decreases-loop
-loop-holds c = ((omega arith, refl), entries-start _ _ _ c.references-of.ensures.long _ _)
+loop-holds c = ((omega arith, refl), entries_start _ _ _ c.references-of.ensures.long _ _)
 
 slice-aggregate-entry-of : tie.Need-slice-aggregate-entry-of invariant-loop decreases-loop
 slice-aggregate-entry-of c = sym c.before.before.before.loop.invariant.0.1
@@ -50,7 +50,7 @@ use-entry-requires c κs =
       (
         entry-face (r.each l.loop.k h),
         (
-          tables-kept l.before.before.before.before.before.before.before.before.before.requires.1 l.loop.invariant.1.long,
+          tables_kept l.before.before.before.before.before.before.before.before.before.requires.1 l.loop.invariant.1.long,
           c.before.before.entry_of.ensures,
         ),
       ),
@@ -64,7 +64,7 @@ element-holding-requires c κs =
 same_length : tie.Need-same-length invariant-loop decreases-loop
 same_length c =
     let u = c.before.before.before.before.before in
-    u.use-entry.auto.1.1.1.1.1.1.1.1.0 ∙ u.before.before.before.before.before.before.before.loop.invariant.1.long
+    u.use_entry_lem.auto.1.1.1.1.1.1.1.1.0 ∙ u.before.before.before.before.before.before.before.loop.invariant.1.long
 
 returns : tie.Need-returns invariant-loop decreases-loop
 returns c =
@@ -75,9 +75,9 @@ returns c =
     let a = d.args in
     let n = l.before.references-of in
     let h = t.if1.true in
-    left-stop l.loop.invariant.1 (λ later. useEntries (tree_of a.image.now) a.s (n.result.n - (l.loop.k + 1)) (l.loop.k + 1) later)
-    (entries-step _ _ _ _ _ h)
-    (entry-repeated (n.ensures.each l.loop.k h) l.loop.out u.use-entry.ensures d.requires.1.accepted (not-true _ c.before.before.if2.true)
+    left_stop l.loop.invariant.1 (λ later. use_entries (tree_of a.image.now) a.s (n.result.n - (l.loop.k + 1)) (l.loop.k + 1) later)
+    (entries_step _ _ _ _ _ h)
+    (entry_repeated (n.ensures.each l.loop.k h) l.loop.out u.use_entry_lem.ensures d.requires.1.accepted (not-true _ c.before.before.if2.true)
     (c.repeated.ensures ∙ ap (repetition a.s) c.before.element-holding.ensures)) refl
 
 loop-again : tie.Need-loop-preserved invariant-loop decreases-loop
@@ -90,10 +90,10 @@ loop-again c =
     let n = l.before.references-of in
     let h = t.if1.true in (
       (omega arith, u.before.before.before.entry_of.auto.1.1.1.1.1.1.1.0 ∙ l.loop.invariant.0.1),
-      left-more l.loop.invariant.1 (λ later. useEntries (tree_of a.image.now) a.s (n.result.n - (l.loop.k + 1)) (l.loop.k + 1) later)
-          (entries-step _ _ _ _ _ h)
-          (entry-used (n.ensures.each l.loop.k h) l.loop.out u.use-entry.ensures d.requires.1.accepted (not-false _ c.if2.false))
-          refl u.use-entry.auto.1.1.1.1.1.1.1.1.0,
+      left_more l.loop.invariant.1 (λ later. use_entries (tree_of a.image.now) a.s (n.result.n - (l.loop.k + 1)) (l.loop.k + 1) later)
+          (entries_step _ _ _ _ _ h)
+          (entry-used (n.ensures.each l.loop.k h) l.loop.out u.use_entry_lem.ensures d.requires.1.accepted (not-false _ c.if2.false))
+          refl u.use_entry_lem.auto.1.1.1.1.1.1.1.1.0,
     )
 
 same-length-2 : tie.Need-same-length-2 invariant-loop decreases-loop

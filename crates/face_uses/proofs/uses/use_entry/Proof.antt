@@ -3,7 +3,7 @@ use mathlib.Core.Path.{sym, ◌∙◌}
 use native.Mathlib.Omega.{arith}
 use borrow.Author.Rules.{rules}
 use Rattle.face_places.proofs.Gathering.{At, face-found}
-use Rattle.face_uses.proofs.Runs.{use-is}
+use Rattle.face_uses.proofs.Runs.{use_is}
 use Rattle.face_uses.proofs.uses.use_entry.Statement.{statement}
 use Rattle.face_uses.proofs.uses.use_entry.Tie as tie
 
@@ -18,7 +18,7 @@ place-of-requires : tie.Need-place-of-requires
 place-of-requires c κs =
     let g = c.before.before.before.before.before.before.requires.1.1.0.ranges in
     let w = found c in
-    ((omega (arith, w.inside, g.gathered.ordered.firsts-rise.rise.room), omega (arith, w.inside, g.room)), (w.from, w.small))
+    ((omega (arith, w.inside, g.gathered.ordered.firsts_rise.rise.room), omega (arith, w.inside, g.room)), (w.from, w.small))
 
 use-face-requires : tie.Need-use-face-requires
 use-face-requires c κs =
@@ -30,7 +30,7 @@ returns : tie.Need-returns
 returns c =
     let s = c.before.before in
     let p = s.before.before.before in
-    use-is _ _ _ _ _ p.before.magnitude-at.ensures (p.place_of.ensures ∙ sym (found p.before).place) s.before.is_negative.ensures
+    use_is _ _ _ _ _ p.before.magnitude-at.ensures (p.place_of.ensures ∙ sym (found p.before).place) s.before.is_negative.ensures
     s.use-face.ensures
 
 pub use-entry-spec : {M : Type 1} → statement M

@@ -3,43 +3,43 @@ use Prim.Native.Nat.{◌+◌, ◌-◌, ◌≤◌}
 use mathlib.Core.Path.{◌≡◌, ◌∙◌}
 use native.Mathlib.Omega.{arith}
 use borrow.Author.Rules.{rules}
-use Rattle.model.specs.Image.{tree_of, nodeCount}
-use Rattle.model.specs.FaceUsage.{faceCount, useNodes}
-use Rattle.face_uses.proofs.Runs.{tables-kept, Left, left-more, left-stop, left-done, nodes-start, nodes-step, nodes-end}
+use Rattle.model.specs.Image.{tree_of, node_count}
+use Rattle.model.specs.FaceUsage.{face_count, use_nodes}
+use Rattle.face_uses.proofs.Runs.{tables_kept, Left, left_more, left_stop, left-done, nodes_start, nodes_step, nodes-end}
 use Rattle.face_uses.proofs.uses.use_nodes.Statement.{statement}
 use Rattle.face_uses.proofs.uses.use_nodes.Tie as tie
 
 abbrev invariant-loop : tie.invariant-loop
 invariant-loop image index faces firsts reach places levels out₀ nodes i₀ out i =
-    ((nodes ≡ nodeCount image) × (i ≤ nodes))
-    × Left (faceCount (tree_of image) faces.zone) (useNodes (tree_of image) faces.zone (nodeCount image) 0 out₀) out₀
-    (useNodes (tree_of image) faces.zone (nodeCount image - i) i out) out
+    ((nodes ≡ node_count image) × (i ≤ nodes))
+    × Left (face_count (tree_of image) faces.zone) (use_nodes (tree_of image) faces.zone (node_count image) 0 out₀) out₀
+    (use_nodes (tree_of image) faces.zone (node_count image - i) i out) out
 
 abbrev decreases-loop : tie.decreases-loop
 decreases-loop image index faces firsts reach places levels out₀ nodes i₀ out i = nodes - i
 
 loop-holds : tie.Need-loop-init invariant-loop decreases-loop
-loop-holds c = ((c.node-count.ensures.0, omega arith), nodes-start _ _ _ _ _)
+loop-holds c = ((c.node-count.ensures.0, omega arith), nodes_start _ _ _ _ _)
 
 use-entries-requires : tie.Need-use-entries-requires invariant-loop decreases-loop
 use-entries-requires c κs =
     let l = c.before.before in
     let p = l.before.before.before.before.before.before.before.before.before.requires in
-    (((p.0.0, omega (arith, l.loop.invariant.0)), p.0.1), tables-kept p.1 l.loop.invariant.1.long)
+    (((p.0.0, omega (arith, l.loop.invariant.0)), p.0.1), tables_kept p.1 l.loop.invariant.1.long)
 
 same_length : tie.Need-same-length invariant-loop decreases-loop
 same_length c =
     let u = c.before.before.before.before in
-    u.use-entries.auto.1.1.1.1.1.1.1.1.0 ∙ u.before.before.before.loop.invariant.1.long
+    u.use_entries_lem.auto.1.1.1.1.1.1.1.1.0 ∙ u.before.before.before.loop.invariant.1.long
 
 returns : tie.Need-returns invariant-loop decreases-loop
 returns c =
     let u = c.before.before.before.before in
     let l = u.before.before.before in
     let a = l.before.before.before.before.before.before.before.before.before.args in
-    left-stop l.loop.invariant.1
-    (λ later. useNodes (tree_of a.image.now) a.faces.zone (nodeCount a.image.now - (l.loop.i + 1)) (l.loop.i + 1) later)
-    (nodes-step _ _ _ _ _ (omega (arith, l.loop.invariant.0))) u.use-entries.ensures c.enum-told2.given.1
+    left_stop l.loop.invariant.1
+    (λ later. use_nodes (tree_of a.image.now) a.faces.zone (node_count a.image.now - (l.loop.i + 1)) (l.loop.i + 1) later)
+    (nodes_step _ _ _ _ _ (omega (arith, l.loop.invariant.0))) u.use_entries_lem.ensures c.enum-told2.given.1
 
 loop-again : tie.Need-loop-preserved invariant-loop decreases-loop
 loop-again c =
@@ -47,10 +47,10 @@ loop-again c =
     let l = u.before.before.before in
     let a = l.before.before.before.before.before.before.before.before.before.args in (
       (l.loop.invariant.0.0, omega arith),
-      left-more l.loop.invariant.1
-          (λ later. useNodes (tree_of a.image.now) a.faces.zone (nodeCount a.image.now - (l.loop.i + 1)) (l.loop.i + 1) later)
-          (nodes-step _ _ _ _ _ (omega (arith, l.loop.invariant.0))) u.use-entries.ensures c.enum_told.given.1
-          u.use-entries.auto.1.1.1.1.1.1.1.1.0,
+      left_more l.loop.invariant.1
+          (λ later. use_nodes (tree_of a.image.now) a.faces.zone (node_count a.image.now - (l.loop.i + 1)) (l.loop.i + 1) later)
+          (nodes_step _ _ _ _ _ (omega (arith, l.loop.invariant.0))) u.use_entries_lem.ensures c.enum_told.given.1
+          u.use_entries_lem.auto.1.1.1.1.1.1.1.1.0,
     )
 
 same-length-2 : tie.Need-same-length-2 invariant-loop decreases-loop

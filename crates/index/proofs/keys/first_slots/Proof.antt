@@ -2,14 +2,14 @@
 use mathlib.Core.Path.{refl}
 use mathlib.Core.List.{[], ◌∷◌}
 use native.Mathlib.Omega.{arith}
-use Rattle.model.specs.Lists.{everyFrom, among, row, seekFrom}
+use Rattle.model.specs.Lists.{every_from, among, row, seek_from}
 use Rattle.labels.proofs.Arms.{row_of, row-rest}
-use Rattle.index.specs.Keys.{slotKeys, keyRoles, key_at, keyRole, hasRole, first_slot}
+use Rattle.index.specs.Keys.{slot_keys, key_roles, key_at, key_role, has_role, first_slot}
 use Rattle.index.proofs.keys.first_slots.Statement.{statement}
 use Rattle.index.proofs.keys.first_slots.Tie as tie
 
 pub first-slots-spec : {M : Type 1} → statement M
-unfolding everyFrom among row slotKeys key_at keyRoles keyRole hasRole seekFrom first_slot
+unfolding every_from among row slot_keys key_at key_roles key_role has_role seek_from first_slot
 first-slots-spec =
     tie.close (tie.spec (λ c. row_of first_slot 16 3 _ refl c.match.keys1) (λ c. row_of first_slot 16 5 _ refl c.match.keys2)
     (λ c. row_of first_slot 16 6 _ refl c.match.keys3) (λ c. row_of first_slot 16 7 _ refl c.match.keys4)

@@ -2,14 +2,14 @@
 use mathlib.Core.Path.{refl}
 use mathlib.Core.List.{[], ◌∷◌}
 use native.Mathlib.Omega.{arith}
-use Rattle.model.specs.Lists.{everyFrom, among, row}
+use Rattle.model.specs.Lists.{every_from, among, row}
 use Rattle.labels.proofs.Arms.{row_of, row-rest}
-use Rattle.index.specs.Keys.{slotKeys, key_at}
+use Rattle.index.specs.Keys.{slot_keys, key_at}
 use Rattle.index.proofs.keys.slot_keys.Statement.{statement}
 use Rattle.index.proofs.keys.slot_keys.Tie as tie
 
 pub slot-keys-spec : {M : Type 1} → statement M
-unfolding everyFrom among row slotKeys key_at
+unfolding every_from among row slot_keys key_at
 slot-keys-spec =
     tie.close (tie.spec (λ c. row_of key_at 4 3 _ refl c.match.keys1) (λ c. row_of key_at 4 5 _ refl c.match.keys2)
     (λ c. row_of key_at 4 6 _ refl c.match.keys3) (λ c. row_of key_at 4 7 _ refl c.match.keys4)

@@ -3,14 +3,14 @@ use Prim.Native.Nat.{ℕ, ◌+◌, ◌*◌}
 use mathlib.Core.Path.{◌≡◌, ◌∙◌}
 use mathlib.Core.List.{List}
 use lib.ListN.{length, set, length-set}
-use Rattle.index.proofs.Marking.{row-begun}
+use Rattle.index.proofs.Marking.{row_begun}
 use native.Mathlib.Omega.{arith}
 use borrow.Author.Rules.{rules}
 use Rattle.index.proofs.tables.begin_row.Statement.{statement}
 use Rattle.index.proofs.tables.begin_row.Tie as tie
 
 returns : tie.Need-returns
-returns c = row-begun c.args.index.now c.args.j c.args.kind c.requires.0.1
+returns c = row_begun c.args.index.now c.args.j c.args.kind c.requires.0.1
 
 -- the lengths of the index after each write
 module _ (s : List ℕ) (a v : ℕ) where

@@ -4,7 +4,7 @@ use mathlib.Core.Path.{◌≡◌, ◌∙◌}
 use mathlib.Core.List.{List}
 use Rattle.model.specs.Image.{tree_of}
 use Rattle.index.specs.Index.{kind, Rows}
-use Rattle.index.proofs.Marking.{kind-by, lower, begin-row, no-mark, mark-room, mark}
+use Rattle.index.proofs.Marking.{kind_by, lower, begin_row, no_mark, mark_room, mark}
 use native.Mathlib.Omega.{arith}
 use borrow.Author.Rules.{rules}
 use Rattle.index.proofs.tables.mark_node.Statement.{statement}
@@ -30,13 +30,13 @@ module _ (c : tie.After-slot-of) where
   above-is : c.before.before.before.before.before.before.before.row-kind.result ≡ kind (tree_of b) parent-known.parent_of.result
   above-is = c.before.before.before.before.before.before.before.row-kind.ensures ∙ start.pre.1.kinds _ up-lower
 
-  begun : Rows b c.before.before.before.begin-row.new.0 (start.args.j + 1) start.args.j
+  begun : Rows b c.before.before.before.begin_row.new.0 (start.args.j + 1) start.args.j
   begun =
       let p = start.pre.0 in
       let k = c.before.before.before.before.kind-below.ensures in
       let r = c.before.before.before.before.before.before.role-of.ensures.0 in
-      begin-row p.0 start.pre.1 c.before.before.before.begin-row.ensures p.1.1
-      (kind-by b p.0 _ p.1.1 p.1.0 parent-known.parent_of.ensures.0 above-is r k.0) k.1
+      begin_row p.0 start.pre.1 c.before.before.before.begin_row.ensures p.1.1
+      (kind_by b p.0 _ p.1.1 p.1.0 parent-known.parent_of.ensures.0 above-is r k.0) k.1
 
 row-kind-requires : tie.Need-row-kind-requires
 row-kind-requires c κs =
@@ -61,7 +61,7 @@ put-requires c κs =
     let d = c.before.before in
     let p = (start d).requires.0 in
     let f = p.0.laid.few in
-    let m = mark-room p.0 (begun d) p.1.0 p.1.1 (parent-known d).parent_of.ensures.0 (above-is d) d.slot_of.ensures (omega arith) in
+    let m = mark_room p.0 (begun d) p.1.0 p.1.1 (parent-known d).parent_of.ensures.0 (above-is d) d.slot_of.ensures (omega arith) in
     (m, omega (arith, p.1))
 
 returns : tie.Need-returns
@@ -75,7 +75,7 @@ returns-2 : tie.Need-returns-2
 returns-2 c =
     let d = c.before in
     let p = (start d).requires.0 in
-    no-mark p.0 (begun d) p.1.0 p.1.1 (parent-known d).parent_of.ensures.0 (above-is d) d.slot_of.ensures (omega arith)
+    no_mark p.0 (begun d) p.1.0 p.1.1 (parent-known d).parent_of.ensures.0 (above-is d) d.slot_of.ensures (omega arith)
 
 pub mark-node-spec : {M : Type 1} → statement M
 mark-node-spec =

@@ -2,16 +2,16 @@
 use mathlib.Core.Path.{◌∙◌}
 use Rattle.model.specs.Lists.{row}
 use Rattle.model.specs.Bytes.{text}
-use Rattle.labels.specs.Padded.{knownNames}
-use Rattle.index.specs.Keys.{keyRoles, slotKeys, key_at, keyRole, keyName}
-use Rattle.index.proofs.Marking.{slot-child}
+use Rattle.labels.specs.Padded.{known_names}
+use Rattle.index.specs.Keys.{key_roles, slot_keys, key_at, key_role, key_name}
+use Rattle.index.proofs.Marking.{slot_child_lem}
 use borrow.Author.Rules.{rules}
 use Rattle.index.proofs.tables.parents.Statement.{statement}
 use Rattle.index.proofs.tables.parents.Tie as tie
 
 returns : tie.Need-returns
-unfolding keyRole keyName key_at keyRoles knownNames slotKeys row text
-returns c = let k = c.look_up.ensures in (k.0 ∙ slot-child _ _ _ c.before.before.before.requires.1, k.1)
+unfolding key_role key_name key_at key_roles known_names slot_keys row text
+returns c = let k = c.look_up.ensures in (k.0 ∙ slot_child_lem _ _ _ c.before.before.before.requires.1, k.1)
 
 pub parents-spec : {M : Type 1} → statement M
 parents-spec = tie.close (tie.spec (λ c κs. search rules) returns)

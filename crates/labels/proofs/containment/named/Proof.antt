@@ -2,7 +2,7 @@
 use mathlib.Core.Path.{◌∙◌}
 use mathlib.Core.List.{[]}
 use Rattle.model.specs.Image.{tree_of, name}
-use Rattle.labels.proofs.Grid.{named-is, name_free, name-place, name-fixed}
+use Rattle.labels.proofs.Grid.{named-is, name_free, name-place, name_fixed}
 use native.Mathlib.Omega.{arith}
 use borrow.Author.Rules.{rules}
 use Rattle.labels.proofs.containment.named.Statement.{statement}
@@ -28,7 +28,7 @@ returns-2 c =
     let a = d.before.before in
     let p = a.requires.1 in
     c.name-is.ensures
-    ∙ name-fixed _ _ d.cell.ensures p.1.0 p.1.1 (name (tree_of a.args.image.now) a.args.i) (omega arith) ∙ named-is _ _ p.0.0 p.0.1
+    ∙ name_fixed _ _ d.cell.ensures p.1.0 p.1.1 (name (tree_of a.args.image.now) a.args.i) (omega arith) ∙ named-is _ _ p.0.0 p.0.1
 
 pub named-spec : {M : Type 1} → statement M
 named-spec = tie.close (tie.spec (λ c κs. search rules) returns (search rules) (search rules) name-is-requires returns-2)

@@ -4,21 +4,21 @@ use mathlib.Core.Path.{◌≡◌, refl, ap, sym}
 use mathlib.Core.List.{[], ◌∷◌}
 use lib.Dec.{eqb}
 use borrow.Author.Tests.{eqb-true}
-use Rattle.model.specs.Lists.{everyFrom, among}
+use Rattle.model.specs.Lists.{every_from, among}
 use native.Mathlib.Omega.{arith}
 use Rattle.model.specs.Bytes.{le, text}
-use Rattle.model.specs.Containment.{knownLabels}
-use Rattle.labels.specs.Padded.{fieldWord, knownNames, knownTexts}
+use Rattle.model.specs.Containment.{known_labels}
+use Rattle.labels.specs.Padded.{field_word, known_names, known_texts}
 use Rattle.labels.proofs.Arms.{last_of}
-use Rattle.labels.proofs.KnownTexts.{textWord}
+use Rattle.labels.proofs.KnownTexts.{text_word}
 use Rattle.labels.proofs.known.third_of_name.Statement.{statement}
 use Rattle.labels.proofs.known.third_of_name.Tie as tie
 
-arm : {k n : ℕ} → k ≡ n → textWord 2 (14 + n) ≡ textWord 2 (14 + k)
-arm e = ap (λ (j : ℕ). textWord 2 (14 + j)) (sym e)
+arm : {k n : ℕ} → k ≡ n → text_word 2 (14 + n) ≡ text_word 2 (14 + k)
+arm e = ap (λ (j : ℕ). text_word 2 (14 + j)) (sym e)
 
 pub third-of-name-spec : {M : Type 1} → statement M
-unfolding everyFrom among fieldWord le knownTexts knownNames knownLabels text
+unfolding every_from among field_word le known_texts known_names known_labels text
 third-of-name-spec =
     tie.close (tie.spec (λ c. arm c.match.keys1) (λ c. arm c.match.keys2) (λ c. arm c.match.keys3)
-    (λ c. eqb-true _ _ (last_of (6 ∷ 5 ∷ 0 ∷ []) (λ (k : ℕ). eqb 0x2020202020202020 (textWord 2 (14 + k))) 10 refl (omega arith) c.match.rest)))
+    (λ c. eqb-true _ _ (last_of (6 ∷ 5 ∷ 0 ∷ []) (λ (k : ℕ). eqb 0x2020202020202020 (text_word 2 (14 + k))) 10 refl (omega arith) c.match.rest)))

@@ -4,19 +4,19 @@ use mathlib.Core.Path.{◌≡◌, sym, ◌∙◌}
 use mathlib.Core.Bool.{false}
 use mathlib.Core.List.{List, []}
 use lib.ListN.{length, get_or, take, drop}
-use Rattle.model.specs.Bytes.{le, spells, placeFrom}
+use Rattle.model.specs.Bytes.{le, spells, place_from}
 use Rattle.model.specs.Image.{tree_of}
-use Rattle.model.specs.Containment.{role, knownLabels}
+use Rattle.model.specs.Containment.{role, known_labels}
 use Rattle.words.proofs.Same.{Bytes}
-use Rattle.labels.specs.Padded.{knownTexts, Begins}
-use Rattle.labels.proofs.KnownTexts.{role-root, role-by-label, rest-spells, is-candidate, no-candidate}
+use Rattle.labels.specs.Padded.{known_texts, Begins}
+use Rattle.labels.proofs.KnownTexts.{role_root, role_by_label, rest-spells, is_candidate, no_candidate}
 use native.Mathlib.Omega.{arith}
 use borrow.Author.Rules.{rules}
 use Rattle.labels.proofs.roles.role_of.Statement.{statement}
 use Rattle.labels.proofs.roles.role_of.Tie as tie
 
 returns : tie.Need-returns
-returns c = (role-root _ _ c.if1.true, omega arith)
+returns c = (role_root _ _ c.if1.true, omega arith)
 
 -- the first word is read, and the label that may begin with it is known
 module _ (k : tie.After-candidate) where
@@ -38,19 +38,19 @@ module _ (k : tie.After-candidate) where
   begins : Begins (le 8 (drop p b)) k.candidate.result
   begins = rw k.before.u64-at.ensures at k.candidate.ensures
 
-  by-label : placeFrom 1 (take 32 (drop p b)) knownLabels ≡ role (tree_of b) start.args.i
-  by-label = role-by-label _ _ k.before.before.at.ensures (omega arith) k.before.before.before.if1.left
+  by-label : place_from 1 (take 32 (drop p b)) known_labels ≡ role (tree_of b) start.args.i
+  by-label = role_by_label _ _ k.before.before.at.ensures (omega arith) k.before.before.before.if1.left
 
-  absent : (k.candidate.result < 14 → spells (take 32 (drop p b)) (get_or knownTexts k.candidate.result []) ≡ false)
+  absent : (k.candidate.result < 14 → spells (take 32 (drop p b)) (get_or known_texts k.candidate.result []) ≡ false)
       → (0 ≡ role (tree_of b) start.args.i) × (0 < 16)
-  absent e = (no-candidate b p k.candidate.result inside bytes begins e ∙ by-label, omega arith)
+  absent e = (no_candidate b p k.candidate.result inside bytes begins e ∙ by-label, omega arith)
 
 -- the other words are read
 module _ (c : tie.After-rest-of-label) where
   abbrev known : tie.After-candidate
   known = c.before.before.before.before.before
 
-  spelled : c.rest-of-label.result ≡ spells (take 32 (drop (p known) (b known))) (get_or knownTexts known.candidate.result [])
+  spelled : c.rest-of-label.result ≡ spells (take 32 (drop (p known) (b known))) (get_or known_texts known.candidate.result [])
   spelled =
       let k = known.candidate.result in
       let h : k < 14 = omega arith in
@@ -61,7 +61,7 @@ returns-2 : tie.Need-returns-2
 returns-2 c =
     let d = c.before in
     let k = known d in
-    let e = is-candidate (b k) (p k) k.candidate.result (inside k) (bytes k) (begins k) (omega arith) (sym (spelled d) ∙ c.if3.true) in
+    let e = is_candidate (b k) (p k) k.candidate.result (inside k) (bytes k) (begins k) (omega arith) (sym (spelled d) ∙ c.if3.true) in
     (e ∙ by-label k, omega arith)
 
 pub role-of-spec : {M : Type 1} → statement M

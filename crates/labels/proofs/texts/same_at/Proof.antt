@@ -4,7 +4,7 @@ use Prim.Native.Nat.{ℕ, ◌-◌, ◌+◌}
 use mathlib.Core.Path.{◌≡◌, sym, ap, ◌∙◌}
 use lib.ListN.{drop}
 use Rattle.model.specs.Bytes.{le}
-use Rattle.words.proofs.Same.{Same, same_start, same_more, same_stop, same-more-word, same-stop-word, same-done}
+use Rattle.words.proofs.Same.{Same, same_start, same_more, same_stop, same_more_word, same_stop_word, same-done}
 use Rattle.labels.proofs.Fields.{same-long, same_text}
 use native.Mathlib.Omega.{arith}
 use borrow.Author.Rules.{rules}
@@ -30,7 +30,7 @@ returns-2 : tie.Need-returns-2 invariant-loop decreases-loop invariant-loop2 dec
 returns-2 c =
     let l = c.before.before.before.before in
     let s = l.before.before in
-    same-stop-word l.loop.invariant (omega arith) (omega arith) 8 (omega arith) (λ i. omega (arith, s.before.shared-slice-known.given i))
+    same_stop_word l.loop.invariant (omega arith) (omega arith) 8 (omega arith) (λ i. omega (arith, s.before.shared-slice-known.given i))
     (λ i. omega (arith, s.shared-slice-known2.given i)) (rw zero-add (λ e. c.if2.true
     (c.before.before.u64-at.ensures ∙ e ∙ sym c.before.u64-at2.ensures)))
     ∙ same_text _ _ l.before.if1.false
@@ -39,7 +39,7 @@ loop-again : tie.Need-loop-preserved invariant-loop decreases-loop invariant-loo
 loop-again c =
     let l = c.before.before.before.before in
     let s = l.before.before in
-    same-more-word l.loop.invariant (omega arith) (omega arith) 8 (omega arith) (λ i. omega (arith, s.before.shared-slice-known.given i))
+    same_more_word l.loop.invariant (omega arith) (omega arith) 8 (omega arith) (λ i. omega (arith, s.before.shared-slice-known.given i))
     (λ i. omega (arith, s.shared-slice-known2.given i)) (rw zero-add (sym c.before.before.u64-at.ensures ∙ c.if2.false ∙ c.before.u64-at2.ensures))
 
 returns-3 : tie.Need-returns-3 invariant-loop decreases-loop invariant-loop2 decreases-loop2

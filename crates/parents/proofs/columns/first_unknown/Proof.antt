@@ -3,7 +3,7 @@ use Prim.Native.Nat.{◌-◌}
 use mathlib.Core.Path.{sym, ◌∙◌}
 use borrow.Author.Tests.{not-true, not-false}
 use Rattle.section_data.specs.Passing.{Passed}
-use Rattle.section_data.proofs.Passing.{passed_none, passed-more}
+use Rattle.section_data.proofs.Passing.{passed_none, passed_more}
 use Rattle.parents.specs.Parents.{known_at}
 use native.Mathlib.Omega.{arith}
 use borrow.Author.Rules.{rules}
@@ -26,7 +26,7 @@ loop-again : tie.Need-loop-preserved invariant-loop decreases-loop
 unfolding known_at
 loop-again c =
     let m = c.before.before in
-    passed-more m.before.before.loop.invariant (omega arith) (rw (← m.number-at.ensures) (sym c.before.is_Known.ensures ∙ not-false _ c.if1.false))
+    passed_more m.before.before.loop.invariant (omega arith) (rw (← m.number-at.ensures) (sym c.before.is_Known.ensures ∙ not-false _ c.if1.false))
 
 returns-2 : tie.Need-returns-2 invariant-loop decreases-loop
 returns-2 c = (c.before.loop.invariant, λ h. absurd (omega arith))

@@ -4,12 +4,12 @@ use native.Mathlib.Omega.{arith}
 use borrow.Author.Rules.{rules}
 use borrow.Author.Tests.{not-true, not-false}
 use Rattle.section_data.proofs.RangeLaws.{ranged, zone-inside}
-use Rattle.parents.proofs.ParentLaws.{faces-kind, not-typed, not-shaped, columns-decide, stores-columns}
+use Rattle.parents.proofs.ParentLaws.{faces_kind, not-typed, not-shaped, columns_decide, stores_columns}
 use Rattle.parents.proofs.rule.is_lawful.Statement.{statement}
 use Rattle.parents.proofs.rule.is_lawful.Tie as tie
 
 range-of-requires : tie.Need-range-of-requires
-range-of-requires c κs = let p = c.before.before.before.before.requires.0 in (p.0, faces-kind p.0.0.sound _ p.1)
+range-of-requires c κs = let p = c.before.before.before.before.requires.0 in (p.0, faces_kind p.0.0.sound _ p.1)
 
 element-count-requires : tie.Need-element-count-requires
 element-count-requires c κs =
@@ -39,7 +39,7 @@ columns-lawful-requires c κs =
       (
         (
           g,
-          stores-columns g _ _ p.1.0.1 (sym i.before.typed-either.ensures ∙ not-false _ i.if1.false)
+          stores_columns g _ _ p.1.0.1 (sym i.before.typed-either.ensures ∙ not-false _ i.if1.false)
               (sym d.before.shaped.ensures ∙ not-false _ d.if2.false),
         ),
         omega (arith, c.parent_of.ensures.0, z, g.laid.few),
@@ -53,7 +53,7 @@ returns-3 c =
     let i = d.before.before in
     let n = i.before.before in
     c.columns-lawful.ensures
-    ∙ columns-decide _ _ n.before.before.before.before.before.before.requires.1.0.0 n.element-count.ensures.0
+    ∙ columns_decide _ _ n.before.before.before.before.before.before.requires.1.0.0 n.element-count.ensures.0
     (sym i.before.typed-either.ensures ∙ not-false _ i.if1.false)
     (sym d.before.shaped.ensures ∙ not-false _ d.if2.false) c.before.parent_of.ensures.0
 

@@ -1,7 +1,7 @@
 -- The entries of the zone begin after those of zones before it; each level lies in the table.
 use Rattle.std.proofs.Common.{◌≡◌, ◌-◌, ◌≤◌, length, arith, rules}
 use Rattle.ranges.specs.Tables.{key}
-use Rattle.ranges.proofs.Halving.{begun-up}
+use Rattle.ranges.proofs.Halving.{begun_up}
 use Rattle.ranges.proofs.search_tree.build.Statement.{statement}
 use Rattle.ranges.proofs.search_tree.build.Tie as tie
 
@@ -15,7 +15,7 @@ decreases-loop firsts n zone levels₀ from to lowest step₀ first₀ levels st
 sub-lowest-for : tie.Need-overflow-sub-lowest-for invariant-loop decreases-loop
 unfolding key
 sub-lowest-for c =
-    let b = c.before.before in begun-up b.begun.ensures c.begun2.ensures (omega (arith, b.before.key.ensures.0, c.before.key2.ensures.0))
+    let b = c.before.before in begun_up b.begun.ensures c.begun2.ensures (omega (arith, b.before.key.ensures.0, c.before.key2.ensures.0))
 
 loop-again : tie.Need-loop-preserved invariant-loop decreases-loop
 loop-again c = search rules

@@ -1,11 +1,11 @@
 -- Each number is a word of the header.
 use borrow.Author.Rules.{rules}
-use Rattle.model.specs.Image.{headerWord, nodeCount, wordCount, dataLength}
+use Rattle.model.specs.Image.{header_word, node_count, word_count, data_length}
 use Rattle.records.proofs.TableSize.read.Statement.{statement}
 use Rattle.records.proofs.TableSize.read.Tie as tie
 
 returns : tie.Need-returns
-unfolding headerWord nodeCount wordCount dataLength
+unfolding header_word node_count word_count data_length
 returns c = cc
 
 pub read_spec : {M : Type 1} → statement M

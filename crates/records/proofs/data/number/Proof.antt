@@ -4,7 +4,7 @@ use mathlib.Core.Path.{◌≡◌}
 use borrow.Author.Rules.{rules}
 use Rattle.model.proofs.Reading.{number-at}
 use Rattle.words.proofs.Signed.{eight}
-use Rattle.records.proofs.Places.{area-at}
+use Rattle.records.proofs.Places.{area_at_lem}
 use Rattle.records.proofs.data.number.Statement.{statement}
 use Rattle.records.proofs.data.number.Tie as tie
 
@@ -17,7 +17,7 @@ returns c =
     let b = d.args.image.now in
     let e : d.args.wide ≡ 4 = c.before.if1.true in
     let n = number-at b d.args.i d.args.k (rw (← d.requires.1.0.1) d.requires.1.1) in
-    let r = area-at b in
+    let r = area_at_lem b in
     let w = d.requires.1.0.1 in
     (cc, rw e c.word_at.ensures.1)
 
@@ -27,7 +27,7 @@ returns-2 c =
     let b = d.args.image.now in
     let e : d.args.wide ≡ 8 = eight _ d.requires.1.0.0 c.before.if1.false in
     let n = number-at b d.args.i d.args.k (rw (← d.requires.1.0.1) d.requires.1.1) in
-    let r = area-at b in
+    let r = area_at_lem b in
     let w = d.requires.1.0.1 in
     (cc, rw e c.word-at2.ensures.1)
 

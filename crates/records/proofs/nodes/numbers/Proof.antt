@@ -14,10 +14,10 @@ returns c =
     let at = field d.args.table.now 4096 d.args.i d.requires.0 in
     cc (
       at (λ (x : Node). x.rank) (le 2) 66 (λ r. refl),
-      at (λ (x : Node). x.firstWord) (le 4) 68 (λ r. refl),
+      at (λ (x : Node). x.first_word) (le 4) 68 (λ r. refl),
       at (λ (x : Node). x.parent) (le 4) 72 (λ r. refl),
-      at (λ (x : Node). x.dataAt) (le 4) 76 (λ r. refl),
-      at (λ (x : Node). x.dataSize) (le 4) 80 (λ r. refl),
+      at (λ (x : Node). x.data_at) (le 4) 76 (λ r. refl),
+      at (λ (x : Node). x.data_size) (le 4) 80 (λ r. refl),
     )
 
 pub numbers-spec : {M : Type 1} → statement M

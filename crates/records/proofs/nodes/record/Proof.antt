@@ -20,7 +20,7 @@ returns c =
       c.numbers.ensures,
       at (λ (x : Node). x.name) (take 32) 0 (λ r. refl),
       at (λ (x : Node). x.label) (take 32) 32 (λ r. refl),
-      at (λ (x : Node). x.dataType) (take 2) 64 (λ r. refl),
+      at (λ (x : Node). x.data_type) (take 2) 64 (λ r. refl),
     )
 
 pub record-spec : {M : Type 1} → statement M

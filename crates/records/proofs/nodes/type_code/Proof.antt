@@ -17,7 +17,7 @@ returns c =
     let s = d.args.table.now in
     let low = c.before.byte_at in
     let e = two_bytes s (84 * d.args.i + 64) _ _ (omega arith) low.ensures.0 low.ensures.1 c.byte-at2.ensures.0 in
-    (field s _ _ d.requires.0 (λ (x : Node). x.dataType) (take 2) 64 (λ r. refl) ∙ e, omega arith)
+    (field s _ _ d.requires.0 (λ (x : Node). x.data_type) (take 2) 64 (λ r. refl) ∙ e, omega arith)
 
 pub type-code-spec : {M : Type 1} → statement M
 type-code-spec = tie.close (tie.spec (search rules) (search rules) (search rules) (search rules) (search rules) (search rules) (search rules) returns)

@@ -5,15 +5,15 @@ use borrow.Author.Tests.{not-false}
 use Rattle.model.specs.Image.{tree_of}
 use Rattle.model.proofs.Logic.{untrue}
 use Rattle.section_data.specs.Passing.{Passed}
-use Rattle.references.specs.Arrays.{refersFace}
-use Rattle.section_data.proofs.Passing.{passed_none, passed-more}
+use Rattle.references.specs.Arrays.{refers_face}
+use Rattle.section_data.proofs.Passing.{passed_none, passed_more}
 use native.Mathlib.Omega.{arith}
 use borrow.Author.Rules.{rules}
 use Rattle.references.proofs.face_references.eight_refer.Statement.{statement}
 use Rattle.references.proofs.face_references.eight_refer.Tie as tie
 
 abbrev invariant-loop : tie.invariant-loop
-invariant-loop image z row k firsts reach count entries end j₀ j = Passed (refersFace (tree_of image) z image row.at row.width) row.n k j × (j ≤ end)
+invariant-loop image z row k firsts reach count entries end j₀ j = Passed (refers_face (tree_of image) z image row.at row.width) row.n k j × (j ≤ end)
 
 abbrev decreases-loop : tie.decreases-loop
 decreases-loop image z row k firsts reach count entries end j₀ j = end - j
@@ -30,7 +30,7 @@ returns c e = untrue e
 loop-again : tie.Need-loop-preserved invariant-loop decreases-loop
 loop-again c =
     let l = c.before.before.before.before.loop in
-    (passed-more l.invariant.0 (omega arith) (c.before.entry-refers.ensures (not-false _ c.if1.false)), omega arith)
+    (passed_more l.invariant.0 (omega arith) (c.before.entry-refers.ensures (not-false _ c.if1.false)), omega arith)
 
 returns-2 : tie.Need-returns-2 invariant-loop decreases-loop
 returns-2 c e =

@@ -4,7 +4,7 @@ use native.Mathlib.Omega.{arith}
 use borrow.Author.Rules.{rules}
 use Rattle.model.specs.Rules.{rejected}
 use Rattle.section_data.proofs.ArrayLaws.{row-numbers}
-use Rattle.references.proofs.RuleLaws.{long-is, number_is, faces-kept, faces-broken}
+use Rattle.references.proofs.RuleLaws.{long-is, number_is, faces_kept, faces_broken}
 use Rattle.references.proofs.face_references.face_stage.Statement.{statement}
 use Rattle.references.proofs.face_references.face_stage.Tie as tie
 
@@ -12,7 +12,7 @@ returns : tie.Need-returns
 returns c =
     let f = c.before.before.before.before in
     let p = f.before.before.before.before.before.before.before.requires in
-    faces-kept _ _ p.1.0.1 (long-is p.0.0.sound _ p.1.0.0) f.first-broken.ensures (omega (arith, c.if1.true))
+    faces_kept _ _ p.1.0.1 (long-is p.0.0.sound _ p.1.0.0) f.first-broken.ensures (omega (arith, c.if1.true))
 
 magnitude-at-requires : tie.Need-magnitude-at-requires
 magnitude-at-requires c κs =
@@ -33,7 +33,7 @@ returns-2 c =
       m.magnitude-at.ensures,
       ← number_is p.0.0.sound _ p.1.0.0 _ h,
     )
-    (faces-broken _ _ p.1.0.1 (long-is p.0.0.sound _ p.1.0.0) f.first-broken.ensures h)
+    (faces_broken _ _ p.1.0.1 (long-is p.0.0.sound _ p.1.0.0) f.first-broken.ensures h)
 
 pub face-stage-spec : {M : Type 1} → statement M
 face-stage-spec = tie.close (tie.spec (λ c κs. search rules) (search rules) returns magnitude-at-requires (λ c κs. search rules) (λ c κs. search rules) (search rules)

@@ -22,7 +22,7 @@ build-requires : tie.Need-build-requires
 build-requires c κs =
     let p = c.before.before.before.before.before.before.before.before.requires in
     let e = c.before.before.before.parent_of.ensures.0 in
-    ((p.1.1.0.ordered.firsts-rise, p.1.1.0.few), (omega (arith, e, p.0.1.zone.inside, p.0.0.laid.few), p.1.1.1))
+    ((p.1.1.0.ordered.firsts_rise, p.1.1.0.few), (omega (arith, e, p.0.1.zone.inside, p.0.0.laid.few), p.1.1.1))
 
 first-no-face-requires-2 : tie.Need-first-no-face-requires-2
 first-no-face-requires-2 c κs =

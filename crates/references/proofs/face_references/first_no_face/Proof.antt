@@ -4,11 +4,11 @@ use Rattle.model.specs.Image.{tree_of}
 use Rattle.ranges.specs.Tables.{Covered}
 use Rattle.ranges.proofs.Intervals.{none-covered}
 use Rattle.section_data.specs.Passing.{Passed}
-use Rattle.references.specs.Arrays.{refersFace}
-use Rattle.section_data.proofs.TableLaws.{found-is, missed-is}
-use Rattle.section_data.proofs.Passing.{passed_none, passed-more, passed_on}
-use Rattle.references.proofs.Failing.{failing-here, failing-none}
-use Rattle.references.proofs.FaceLaws.{refers-by, known-faces}
+use Rattle.references.specs.Arrays.{refers_face}
+use Rattle.section_data.proofs.TableLaws.{found-is, missed_is}
+use Rattle.section_data.proofs.Passing.{passed_none, passed_more, passed_on}
+use Rattle.references.proofs.Failing.{failing_here, failing_none}
+use Rattle.references.proofs.FaceLaws.{refers_by, known_faces}
 use native.Mathlib.Omega.{arith}
 use borrow.Author.Rules.{rules}
 use Rattle.references.proofs.face_references.first_no_face.Statement.{statement}
@@ -16,7 +16,7 @@ use Rattle.references.proofs.face_references.first_no_face.Tie as tie
 
 abbrev invariant-loop : tie.invariant-loop
 invariant-loop image z row firsts reach count levels tree n last₀ k₀ last k =
-    Covered firsts reach count z last × Passed (refersFace (tree_of image) z image row.at row.width) n 0 k
+    Covered firsts reach count z last × Passed (refers_face (tree_of image) z image row.at row.width) n 0 k
 
 abbrev decreases-loop : tie.decreases-loop
 decreases-loop image z row firsts reach count levels tree n last₀ k₀ last k = n - k
@@ -27,8 +27,8 @@ loop-holds c = (none-covered _ _ _ _, passed_none _ _ _ (omega arith))
 returns : tie.Need-returns invariant-loop decreases-loop
 returns c =
     let l = c.before.before.before in
-    failing-here l.loop.invariant.1
-    (refers-by _ _ _ _ _ _ c.before.magnitude-at.ensures (l.before.before.before.before.before.requires.1.0.1.small _ _ c.if1.true))
+    failing_here l.loop.invariant.1
+    (refers_by _ _ _ _ _ _ c.before.magnitude-at.ensures (l.before.before.before.before.before.requires.1.0.1.small _ _ c.if1.true))
 
 interval-around-requires : tie.Need-interval-around-requires invariant-loop decreases-loop
 interval-around-requires c κs =
@@ -40,8 +40,8 @@ returns-2 c =
     let a = c.before.before in
     let m = a.before.before in
     let l = m.before.before in
-    failing-here l.loop.invariant.1
-    (refers-by _ _ _ _ _ _ m.magnitude-at.ensures (missed-is l.before.before.before.before.before.requires.1.0.1 _ (omega (arith, a.before.if1.false))
+    failing_here l.loop.invariant.1
+    (refers_by _ _ _ _ _ _ m.magnitude-at.ensures (missed_is l.before.before.before.before.before.requires.1.0.1 _ (omega (arith, a.before.if1.false))
     a.interval-around.ensures.1 c.if2.true))
 
 first-outside-requires : tie.Need-first-outside-requires invariant-loop decreases-loop
@@ -74,12 +74,12 @@ loop-again c =
     let g = l.before.before.before.before.before.requires.1.0.1 in
     let i = l.loop.invariant in (
       a.interval-around.ensures.0,
-      passed_on (passed_on (passed-more i.1 (omega (arith, m.before.loop-test.true)) (refers-by _ _ _ _ _ _ m.magnitude-at.ensures
+      passed_on (passed_on (passed_more i.1 (omega (arith, m.before.loop-test.true)) (refers_by _ _ _ _ _ _ m.magnitude-at.ensures
           (found-is g _ (omega (arith, a.before.if1.false)) a.interval-around.ensures.1 c.before.before.before.if2.false)))
-          (known-faces _ g _ _ _ c.before.before.first-outside.ensures a.interval-around.ensures.0 i.0)) c.guessed-to.ensures,
+          (known_faces _ g _ _ _ c.before.before.first-outside.ensures a.interval-around.ensures.0 i.0)) c.guessed-to.ensures,
     )
 
 pub first-no-face-spec : {M : Type 1} → statement M
 first-no-face-spec = tie.close (tie.spec invariant-loop decreases-loop loop-holds (λ c κs. search rules) returns interval-around-requires returns-2 add-first-outside
     first-outside-requires (λ c κs. (omega (arith, c.first-outside.ensures.from), c.first-outside.ensures.to)) guessed-to-requires loop-less loop-again
-    (λ c. failing-none c.before.loop.invariant.1 (omega arith)))
+    (λ c. failing_none c.before.loop.invariant.1 (omega arith)))

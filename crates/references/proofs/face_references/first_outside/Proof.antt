@@ -4,7 +4,7 @@ use mathlib.Core.Path.{sym, ◌∙◌}
 use borrow.Author.Tests.{not-false}
 use Rattle.section_data.specs.Passing.{Passed}
 use Rattle.references.specs.Arrays.{known_at}
-use Rattle.section_data.proofs.Passing.{passed_none, passed-more}
+use Rattle.section_data.proofs.Passing.{passed_none, passed_more}
 use native.Mathlib.Omega.{arith}
 use borrow.Author.Rules.{rules}
 use Rattle.references.proofs.face_references.first_outside.Statement.{statement}
@@ -20,7 +20,7 @@ loop-again : tie.Need-loop-preserved invariant-loop decreases-loop
 loop-again c =
     let l = c.before.before.before.before.loop in
     let m = c.before.before in
-    passed-more l.invariant (omega arith) (rw (← m.magnitude-at.ensures) (sym c.before.is_Known.ensures ∙ not-false _ c.if1.false))
+    passed_more l.invariant (omega arith) (rw (← m.magnitude-at.ensures) (sym c.before.is_Known.ensures ∙ not-false _ c.if1.false))
 
 pub first-outside-spec : {M : Type 1} → statement M
 first-outside-spec = tie.close

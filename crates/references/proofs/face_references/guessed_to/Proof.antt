@@ -5,7 +5,7 @@ use lib.ListN.{length}
 use borrow.Author.Tests.{not-false}
 use Rattle.model.specs.Image.{tree_of}
 use Rattle.section_data.specs.Passing.{Passed}
-use Rattle.references.specs.Arrays.{refersFace}
+use Rattle.references.specs.Arrays.{refers_face}
 use Rattle.section_data.proofs.Passing.{passed_none, passed_on}
 use native.Mathlib.Omega.{arith}
 use borrow.Author.Rules.{rules}
@@ -14,7 +14,7 @@ use Rattle.references.proofs.face_references.guessed_to.Tie as tie
 
 abbrev invariant-loop : tie.invariant-loop
 invariant-loop image z row k end firsts reach count levels tree entries₀ j₀ entries j =
-    (Passed (refersFace (tree_of image) z image row.at row.width) row.n k j × (j ≤ end)) × (length entries ≡ 8)
+    (Passed (refers_face (tree_of image) z image row.at row.width) row.n k j × (j ≤ end)) × (length entries ≡ 8)
 
 abbrev decreases-loop : tie.decreases-loop
 decreases-loop image z row k end firsts reach count levels tree entries₀ j₀ entries j = end - j

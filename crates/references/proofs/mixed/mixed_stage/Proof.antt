@@ -4,18 +4,18 @@ use Rattle.model.specs.Image.{tree_of}
 use Rattle.model.specs.Values.{size}
 use borrow.Author.Rules.{rules}
 use Rattle.section_data.proofs.ArrayLaws.{row_is}
-use Rattle.section_data.proofs.ArrayLaws.{offsets-there, offsets-found}
-use Rattle.references.proofs.MixedLaws.{offsets-counted}
+use Rattle.section_data.proofs.ArrayLaws.{offsets_there, offsets-found}
+use Rattle.references.proofs.MixedLaws.{offsets_counted}
 use Rattle.references.proofs.mixed.mixed_stage.Statement.{statement}
 use Rattle.references.proofs.mixed.mixed_stage.Tie as tie
 
 row-of-requires : tie.Need-row-of-requires
 row-of-requires c κs =
     let p = c.before.before.before.requires in
-    let f = c.offsets-of.ensures.0 in (
+    let f = c.offsets_of_lem.ensures.0 in (
       p.0.0.sound,
-      offsets-there p.0.1 f (offsets-found _ _ _ _ refl (ap (size (tree_of c.before.before.before.args.image.now)) f
-          ∙ offsets-counted _ _ p.1.0.1 p.1.1)),
+      offsets_there p.0.1 f (offsets-found _ _ _ _ refl (ap (size (tree_of c.before.before.before.args.image.now)) f
+          ∙ offsets_counted _ _ p.1.0.1 p.1.1)),
     )
 
 rows-stage-requires : tie.Need-rows-stage-requires
@@ -26,7 +26,7 @@ rows-stage-requires c κs =
       sound = p.0.0.sound;
       mixed = p.1.0.1;
       shaped = p.1.1;
-      offsets = row_is r.before.offsets-of.ensures.0 r.row_of.ensures;
+      offsets = row_is r.before.offsets_of_lem.ensures.0 r.row_of.ensures;
       connectivity = p.1.0.0;
       vertices = c.vertex-size.ensures;
     }

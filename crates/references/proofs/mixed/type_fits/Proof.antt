@@ -1,11 +1,11 @@
 -- The stored type has as many nodes as follow it.
 use borrow.Author.Rules.{rules}
-use Rattle.references.specs.Mixed.{fitsIn}
+use Rattle.references.specs.Mixed.{fits_in}
 use Rattle.references.proofs.mixed.type_fits.Statement.{statement}
 use Rattle.references.proofs.mixed.type_fits.Tie as tie
 
 returns : tie.Need-returns
-unfolding fitsIn
+unfolding fits_in
 returns c = rw (← c.before.number-at.ensures) c.fits-length.ensures
 
 pub type-fits-spec : {M : Type 1} → statement M

@@ -4,7 +4,7 @@ use native.Mathlib.Omega.{arith}
 use borrow.Author.Rules.{rules}
 use Rattle.model.specs.Rules.{rejected}
 use Rattle.section_data.proofs.ArrayLaws.{row-numbers}
-use Rattle.references.proofs.RuleLaws.{long-is, first-node, nodes-kept, nodes-broken}
+use Rattle.references.proofs.RuleLaws.{long-is, first-node, nodes-kept, nodes_broken}
 use Rattle.references.proofs.nodes.node_stage.Statement.{statement}
 use Rattle.references.proofs.nodes.node_stage.Tie as tie
 
@@ -20,7 +20,7 @@ returns-2 c =
     let f = c.before.before.before in
     let p = f.before.before.before.requires in
     ap rejected c.at_entry_lem.ensures
-    ∙ nodes-broken _ _ (long-is p.0.0 _ p.1.0) p.1.1.1
+    ∙ nodes_broken _ _ (long-is p.0.0 _ p.1.0) p.1.1.1
     (first-node p.0.0 _ p.1.0 _ f.before.vertex-size.ensures p.1.1.0 f.first-no-node.ensures) (omega arith)
 
 pub node-stage-spec : {M : Type 1} → statement M

@@ -2,7 +2,7 @@
 use mathlib.Core.Path.{◌∙◌, ap}
 use Prim.Native.Nat.{ℕ}
 use Rattle.model.specs.Image.{tree_of, number}
-use Rattle.model.specs.Values.{vertexSize}
+use Rattle.model.specs.Values.{vertex_size}
 use borrow.Author.Rules.{rules}
 use Rattle.references.proofs.nodes.vertex_size.Statement.{statement}
 use Rattle.references.proofs.nodes.vertex_size.Tie as tie
@@ -11,7 +11,7 @@ whole-requires : tie.Need-whole-requires
 whole-requires c κs = let p = c.before.before.requires in (p.0, rw c.parent_of.ensures.0 p.1.zone)
 
 returns : tie.Need-returns
-unfolding vertexSize
+unfolding vertex_size
 returns c =
     c.whole.ensures
     ∙ ap (λ (z : ℕ). number (tree_of c.before.before.before.args.image.now) z 0) c.before.parent_of.ensures.0

@@ -1,6 +1,6 @@
 -- The type decides which of the rules is asked.
 use mathlib.Core.Path.{sym, ◌∙◌}
-use Rattle.references.proofs.RuleLaws.{types-fit}
+use Rattle.references.proofs.RuleLaws.{types_fit}
 use borrow.Author.Rules.{rules}
 use Rattle.references.proofs.stage.reference_stage.Statement.{statement}
 use Rattle.references.proofs.stage.reference_stage.Tie as tie
@@ -19,7 +19,7 @@ returns-2 : tie.Need-returns-2
 returns-2 c =
     let d = c.before.before.before.before in
     let e = d.before.before.before.before.before.before.before.requires.1.0.1 in
-    types-fit _ _ (λ q. d.before.if1.false (e ∙ q)) c.before.before.face-stage.ensures
+    types_fit _ _ (λ q. d.before.if1.false (e ∙ q)) c.before.before.face-stage.ensures
 
 node-stage-requires : tie.Need-node-stage-requires
 node-stage-requires c κs =
@@ -31,7 +31,7 @@ returns-3 : tie.Need-returns-3
 returns-3 c =
     let d = c.before in
     let e = d.before.before.before.before.before.before.before.requires.1.0.1 in
-    types-fit _ _ (λ q. d.before.if1.false (e ∙ q)) c.node-stage.ensures
+    types_fit _ _ (λ q. d.before.if1.false (e ∙ q)) c.node-stage.ensures
 
 pub reference-stage-spec : {M : Type 1} → statement M
 reference-stage-spec = tie.close (tie.spec mixed-stage-requires (λ c. search rules) face-stage-requires (search rules) returns-2 node-stage-requires returns-3)

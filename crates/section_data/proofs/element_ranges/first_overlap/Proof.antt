@@ -2,12 +2,12 @@
 use Prim.Native.Nat.{◌-◌}
 use mathlib.Core.Path.{◌≡◌, refl, sym, ◌∙◌}
 use lib.ListN.{length}
-use Rattle.model.specs.Lists.{seekFrom}
+use Rattle.model.specs.Lists.{seek_from}
 use Rattle.model.specs.Image.{tree_of}
-use Rattle.model.proofs.Loops.{SeekLeft, seek-start, seek-more, seek_stop, seek-done}
+use Rattle.model.proofs.Loops.{SeekLeft, seek_start, seek_more, seek_stop, seek_done}
 use Rattle.ranges.specs.Tables.{Gathered}
-use Rattle.ranges.proofs.Gathering.{gathered-start}
-use Rattle.section_data.specs.Ranges.{isRanged, firstKey, lastKey, overlapAt}
+use Rattle.ranges.proofs.Gathering.{gathered_start}
+use Rattle.section_data.specs.Ranges.{is_ranged, first_key, last_key, overlap_at}
 use native.Mathlib.Omega.{arith}
 use borrow.Author.Rules.{rules}
 use Rattle.section_data.proofs.element_ranges.first_overlap.Statement.{statement}
@@ -15,14 +15,14 @@ use Rattle.section_data.proofs.element_ranges.first_overlap.Tie as tie
 
 abbrev invariant-loop : tie.invariant-loop
 invariant-loop image index firsts₀ reach₀ nodes n₀ i₀ firsts reach n i = ((length firsts ≡ length firsts₀) × (length reach ≡ length reach₀))
-    × (SeekLeft (overlapAt (tree_of image)) nodes i (seekFrom (overlapAt (tree_of image)) nodes 0)
-    × Gathered (isRanged (tree_of image) 0) (firstKey (tree_of image)) (lastKey (tree_of image)) firsts reach n i)
+    × (SeekLeft (overlap_at (tree_of image)) nodes i (seek_from (overlap_at (tree_of image)) nodes 0)
+    × Gathered (is_ranged (tree_of image) 0) (first_key (tree_of image)) (last_key (tree_of image)) firsts reach n i)
 
 abbrev decreases-loop : tie.decreases-loop
 decreases-loop image index firsts₀ reach₀ nodes n₀ i₀ firsts reach n i = nodes - i
 
 loop-holds : tie.Need-loop-init invariant-loop decreases-loop
-loop-holds c = ((refl, refl), (seek-start _ _ 0 (search rules) (λ j h. absurd (omega arith)), gathered-start _ _ _ _ _))
+loop-holds c = ((refl, refl), (seek_start _ _ 0 (search rules) (λ j h. absurd (omega arith)), gathered_start _ _ _ _ _))
 
 meets-earlier-requires : tie.Need-meets-earlier-requires invariant-loop decreases-loop
 meets-earlier-requires c κs = let l = c.before.before.before in let i = l.loop.invariant.1 in
@@ -47,7 +47,7 @@ loop-again c =
     let i = l.loop.invariant in (
       (m.auto.1.1.1.1.0 ∙ i.0.0, m.auto.1.1.1.1.1.0 ∙ i.0.1),
       (
-        seek-more i.1.0 (omega (arith, c.before.before.before.before.before.before.before.before.before.before.before.loop-test.true))
+        seek_more i.1.0 (omega (arith, c.before.before.before.before.before.before.before.before.before.before.before.loop-test.true))
             (sym c.before.before.before.before.before.before.before.before.meets-earlier.ensures
             ∙ c.before.before.before.before.before.before.before.if1.false),
         m.ensures,
@@ -55,7 +55,7 @@ loop-again c =
     )
 
 returns-2 : tie.Need-returns-2 invariant-loop decreases-loop
-returns-2 c = let l = c.before in rw (← l.before.node-count.ensures.0) (seek-done l.loop.invariant.1.0 (omega arith))
+returns-2 c = let l = c.before in rw (← l.before.node-count.ensures.0) (seek_done l.loop.invariant.1.0 (omega arith))
 
 pub first-overlap-spec : {M : Type 1} → statement M
 first-overlap-spec = tie.close

@@ -4,9 +4,9 @@ use mathlib.Core.Path.{◌≡◌, refl, ◌∙◌}
 use lib.ListN.{length}
 use Rattle.model.specs.Image.{tree_of}
 use Rattle.ranges.specs.Tables.{Gathered}
-use Rattle.ranges.proofs.Gathering.{gathered-start}
-use Rattle.section_data.specs.Ranges.{isRanged, firstKey, lastKey}
-use Rattle.section_data.proofs.TableLaws.{table-by}
+use Rattle.ranges.proofs.Gathering.{gathered_start}
+use Rattle.section_data.specs.Ranges.{is_ranged, first_key, last_key}
+use Rattle.section_data.proofs.TableLaws.{table_by}
 use native.Mathlib.Omega.{arith}
 use borrow.Author.Rules.{rules}
 use Rattle.section_data.proofs.element_ranges.gather.Statement.{statement}
@@ -14,13 +14,13 @@ use Rattle.section_data.proofs.element_ranges.gather.Tie as tie
 
 abbrev invariant-loop : tie.invariant-loop
 invariant-loop image index e firsts₀ reach₀ nodes n₀ i₀ firsts reach n i = ((length firsts ≡ length firsts₀) × (length reach ≡ length reach₀))
-    × ((i ≤ nodes) × Gathered (isRanged (tree_of image) e) (firstKey (tree_of image)) (lastKey (tree_of image)) firsts reach n i)
+    × ((i ≤ nodes) × Gathered (is_ranged (tree_of image) e) (first_key (tree_of image)) (last_key (tree_of image)) firsts reach n i)
 
 abbrev decreases-loop : tie.decreases-loop
 decreases-loop image index e firsts₀ reach₀ nodes n₀ i₀ firsts reach n i = nodes - i
 
 loop-holds : tie.Need-loop-init invariant-loop decreases-loop
-loop-holds c = ((refl, refl), (omega arith, gathered-start _ _ _ _ _))
+loop-holds c = ((refl, refl), (omega arith, gathered_start _ _ _ _ _))
 
 gather-node-requires : tie.Need-gather-node-requires invariant-loop decreases-loop
 gather-node-requires c κs =
@@ -39,7 +39,7 @@ returns : tie.Need-returns invariant-loop decreases-loop
 returns c =
     let l = c.before in
     let p = c.before.before.before.before.before.before.before.requires.0 in
-    table-by p.0.sound _ p.1 l.loop.invariant.1.1
+    table_by p.0.sound _ p.1 l.loop.invariant.1.1
     (omega (arith, l.before.node-count.ensures.0, l.loop.invariant))
 
 pub gather-spec : {M : Type 1} → statement M

@@ -2,9 +2,9 @@
 use mathlib.Core.Path.{◌≡◌}
 use mathlib.Core.Bool.{true}
 use Rattle.model.specs.Image.{tree_of}
-use Rattle.ranges.proofs.Gathering.{gathered-skip, gathered-more}
-use Rattle.section_data.specs.Ranges.{isRanged}
-use Rattle.section_data.proofs.RangeLaws.{has-range, no-range, ranged, zone-inside, room}
+use Rattle.ranges.proofs.Gathering.{gathered_skip, gathered_more}
+use Rattle.section_data.specs.Ranges.{is_ranged}
+use Rattle.section_data.proofs.RangeLaws.{has-range, no_range, ranged, zone-inside, room}
 use native.Mathlib.Omega.{arith}
 use borrow.Author.Rules.{rules}
 use Rattle.section_data.proofs.element_ranges.gather_node.Statement.{statement}
@@ -13,11 +13,11 @@ use Rattle.section_data.proofs.element_ranges.gather_node.Tie as tie
 returns : tie.Need-returns
 returns c =
     let r = c.before.before.range-if.ensures in
-    gathered-skip c.before.before.before.before.before.before.before.pre.1.0
-    (no-range r (omega (arith, c.if1.taken, c.before.node-count.ensures.0)))
+    gathered_skip c.before.before.before.before.before.before.before.pre.1.0
+    (no_range r (omega (arith, c.if1.taken, c.before.node-count.ensures.0)))
 
 module _ (c : tie.Else1) where
-  is-ranged : isRanged (tree_of c.before.before.before.before.before.before.before.args.image.now)
+  is-ranged : is_ranged (tree_of c.before.before.before.before.before.before.before.args.image.now)
       c.before.before.before.before.before.before.before.args.element-type c.before.before.before.before.before.before.before.args.i ≡ true
   is-ranged = has-range c.before.before.range-if.ensures (omega (arith, c.if1.left, c.before.node-count.ensures.0))
 
@@ -40,7 +40,7 @@ returns-2 : tie.Need-returns-2
 returns-2 c =
     let d = c.before.before.before.before.before.before.before.before in
     let k = c.before.before.before.before.before.before.before.keys_of.ensures in
-    gathered-more d.before.before.before.before.before.before.before.pre.1.0 (is-ranged d) k.0.0 k.0.1
+    gathered_more d.before.before.before.before.before.before.before.pre.1.0 (is-ranged d) k.0.0 k.0.1
     c.before.before.before.before.insert.ensures
 
 pub gather-node-spec : {M : Type 1} → statement M

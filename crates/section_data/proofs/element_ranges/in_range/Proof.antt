@@ -3,7 +3,7 @@ use native.Mathlib.Omega.{arith}
 use borrow.Author.Tests.{le-leb, lt-leb}
 use Rattle.model.specs.Elements.{in_range}
 use Rattle.section_data.proofs.Stored.{stores-has}
-use Rattle.section_data.proofs.ArrayLaws.{first_by, last-by}
+use Rattle.section_data.proofs.ArrayLaws.{first_by, last_by}
 use Rattle.section_data.proofs.element_ranges.in_range.Statement.{statement}
 use Rattle.section_data.proofs.element_ranges.in_range.Tie as tie
 
@@ -19,7 +19,7 @@ returns c =
     let p = c.before.before.before.before.requires in
     rw (
       ← first_by _ _ _ _ p.1.0 c.before.before.whole.ensures,
-      ← last-by _ _ _ _ p.1.0 c.before.whole2.ensures,
+      ← last_by _ _ _ _ p.1.0 c.before.whole2.ensures,
       le-leb _ _ c.if1.true,
     )
 

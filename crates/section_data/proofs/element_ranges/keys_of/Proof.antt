@@ -1,7 +1,7 @@
 -- The range stores its two numbers.
 use Rattle.section_data.proofs.Stored.{stores-has}
-use Rattle.section_data.proofs.ArrayLaws.{first_by, last-by}
-use Rattle.section_data.proofs.RangeLaws.{first_key, last-key}
+use Rattle.section_data.proofs.ArrayLaws.{first_by, last_by}
+use Rattle.section_data.proofs.RangeLaws.{first_key_lem, last-key}
 use native.Mathlib.Omega.{arith}
 use borrow.Author.Rules.{rules}
 use Rattle.section_data.proofs.element_ranges.keys_of.Statement.{statement}
@@ -24,7 +24,7 @@ key-requires-2 : tie.Need-key-requires-2
 key-requires-2 c κs =
     let p = c.before.before.before.before.before.requires in
     let few = p.0.0.0.laid.few in
-    (omega (arith, c.before.before.before.parent_of.ensures.0, p.0.1), omega (arith, last-by _ _ _ _ p.1.0 c.whole2.ensures, p.1.1.most))
+    (omega (arith, c.before.before.before.parent_of.ensures.0, p.0.1), omega (arith, last_by _ _ _ _ p.1.0 c.whole2.ensures, p.1.1.most))
 
 returns : tie.Need-returns
 returns c =
@@ -33,8 +33,8 @@ returns c =
     let f = c.before.before.key.ensures in
     let l = c.key2.ensures in (
       (
-        first_key _ _ z (first_by _ _ _ _ p.1.0 c.before.before.before.whole.ensures) f.0,
-        last-key _ _ z (last-by _ _ _ _ p.1.0 c.before.whole2.ensures) l.0,
+        first_key_lem _ _ z (first_by _ _ _ _ p.1.0 c.before.before.before.whole.ensures) f.0,
+        last-key _ _ z (last_by _ _ _ _ p.1.0 c.before.whole2.ensures) l.0,
       ),
       (f.1, l.1),
     )

@@ -1,7 +1,7 @@
 -- Validation's rejection is the answer; else the zone decides.
 use mathlib.Core.Path.{ap, ◌∙◌}
 use Rattle.model.specs.Rules.{rejected}
-use Rattle.model.specs.Answers.{stageTells}
+use Rattle.model.specs.Answers.{stage_tells}
 use Rattle.model.proofs.Staging as stage
 use Rattle.sections.proofs.Room.{image-off, image-on}
 use borrow.Author.Rules.{rules}
@@ -14,7 +14,7 @@ returns c =
     ap rejected c.rejection.ensures ∙ image-off _ _ _ (stage.rejects d.requires.0 c.before.enum-told2.given.1)
 
 zone-answer-requires : tie.Need-zone-answer-requires
-zone-answer-requires c κs = c.before.before.before.before.requires.1 (ap stageTells c.enum_told.given.1)
+zone-answer-requires c κs = c.before.before.before.before.requires.1 (ap stage_tells c.enum_told.given.1)
 
 returns-2 : tie.Need-returns-2
 returns-2 c =

@@ -39,7 +39,7 @@ use Rattle.sections.proofs.Steps.{o_int, t_use, t_op2, reads_Sc, Holds-Sc, t-arr
 use Rattle.sections.proofs.Steps.{reads_mslice, reads_mslice_len, reads_mslice_ptr, msptr, ssptr, t_sl_aggregate, len_v, reads_sslice, by_size, Yields}
 use Rattle.sections.proofs.Steps.{Yields-copy, Makes-mem, Spares-sslice, v_at, want_q, sub_id, t_call_plain, tys_p, EnvOf, Γin, Δret, init, GoodsP, Dens}
 use Rattle.sections.proofs.Steps.{ty_r, ended_of, stays}
-use Rattle.sections.proofs.Answered.{due, answered-memory}
+use Rattle.sections.proofs.Answered.{due, answered_memory}
 use Rattle.sections.proofs.Filling.{Filled, none-stored, onward, one-stored}
 use Rattle.sections.proofs.Listed.{byte, ps, r, requires, ensures, pre_read, post_read, Pre, Post}
 use Rattle.sections.proofs.answers.sections_answer.Kinds as an
@@ -239,7 +239,7 @@ module _ (κs : Lfts 2) (qs : Shares 2) where
         (refl, refl, omega (arith, f.same)) and (record { fits = omega (arith, good.0.0) }) and
         (t.1 - (vs.1.1 + 1), omega arith, ((_, (_, _)), refl, one-stored d f h k.5, refl))) and
         (λ no. ((fix_len a.0.ref_ptr a.0.ghost_name vs.0 a.0.now f.same, (refl, (tt, tt))) and
-        (c.5.0, answered-memory f (ltb-false vs.1.1 t.1 no) c.1 c.5.0 t.5)))
+        (c.5.0, answered_memory f (ltb-false vs.1.1 t.1 no) c.1 c.5.0 t.5)))
 
 pub list-sections-spec : {M : Type 1} → statement M
 unfolding code.routine tables_of

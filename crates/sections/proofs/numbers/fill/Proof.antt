@@ -4,8 +4,8 @@ use mathlib.Core.Path.{◌≡◌, refl, ◌∙◌}
 use lib.ListN.{length}
 use Rattle.model.specs.Lists.{over}
 use Rattle.model.specs.Image.{tree_of}
-use Rattle.model.specs.Sections.{sectionNodes, entries, allNumbers}
-use Rattle.sections.proofs.Filling.{firstEntries, Visited, none-visited, some_left, next-entry, one-visited, store-numbers, all-taken}
+use Rattle.model.specs.Sections.{section_nodes, entries, all_numbers}
+use Rattle.sections.proofs.Filling.{first_entries, Visited, none_visited, some_left, next-entry, one_visited, store_numbers, all_taken}
 use native.Mathlib.Omega.{arith}
 use borrow.Author.Rules.{rules}
 use Rattle.sections.proofs.numbers.fill.Statement.{statement}
@@ -13,14 +13,14 @@ use Rattle.sections.proofs.numbers.fill.Tie as tie
 
 abbrev invariant-loop : tie.invariant-loop
 invariant-loop image index zone n out₀ at₀ k₀ out at k =
-    ((k ≤ n) × Visited image zone at k) × ((length out ≡ length out₀) × (out ≡ over out₀ (allNumbers (firstEntries (tree_of image) zone k))))
+    ((k ≤ n) × Visited image zone at k) × ((length out ≡ length out₀) × (out ≡ over out₀ (all_numbers (first_entries (tree_of image) zone k))))
 
 abbrev decreases-loop : tie.decreases-loop
 decreases-loop image index zone n out₀ at₀ k₀ out at k = n - k
 
 loop-holds : tie.Need-loop-init invariant-loop decreases-loop
-unfolding over entries allNumbers
-loop-holds c = let p = c.before.before.before.requires.1 in ((omega arith, none-visited _ p.0.0.sound _ p.0.1), (refl, refl))
+unfolding over entries all_numbers
+loop-holds c = let p = c.before.before.before.requires.1 in ((omega arith, none_visited _ p.0.0.sound _ p.0.1), (refl, refl))
 
 entry-after-requires : tie.Need-entry-after-requires invariant-loop decreases-loop
 entry-after-requires c κs =
@@ -34,10 +34,10 @@ loop-again c =
     let i = w.before.before.loop.invariant in
     let p = w.before.before.before.before.before.before.requires.1 in
     let e = w.entry-after.ensures in (
-      (omega arith, one-visited i.0.1 (omega arith) p.0.0 e),
+      (omega arith, one_visited i.0.1 (omega arith) p.0.0 e),
       (
         c.before.before.put-entry.auto.0 ∙ i.1.0,
-        c.before.before.put-entry.ensures ∙ store-numbers _ _ _ (omega arith) _ _ _ i.1.1 (next-entry i.0.1 (omega arith) e) (omega arith),
+        c.before.before.put-entry.ensures ∙ store_numbers _ _ _ (omega arith) _ _ _ i.1.1 (next-entry i.0.1 (omega arith) e) (omega arith),
       ),
     )
 
@@ -48,8 +48,8 @@ returns : tie.Need-returns invariant-loop decreases-loop
 returns c =
     let d = c.before in
     let a = d.before.before.before.before.args in
-    let e : d.loop.k ≡ length (sectionNodes (tree_of a.image.now) a.zone) = omega arith in
-    rw (e, all-taken) at d.loop.invariant.1.1
+    let e : d.loop.k ≡ length (section_nodes (tree_of a.image.now) a.zone) = omega arith in
+    rw (e, all_taken) at d.loop.invariant.1.1
 
 pub fill_spec : {M : Type 1} → statement M
 fill_spec =

@@ -1,8 +1,8 @@
 -- What a flow solution looks up has a known label: it can be judged.
 use mathlib.Core.Path.{refl}
 use Rattle.model.specs.Bytes.{text}
-use Rattle.model.specs.Values.{pointListOf}
-use Rattle.sids.proofs.Found.{found-ready, conforming-by}
+use Rattle.model.specs.Values.{point_list_of}
+use Rattle.sids.proofs.Found.{found_ready, conforming_by}
 use Rattle.sids.proofs.children.point_list_of.Statement.{statement}
 use Rattle.sids.proofs.children.point_list_of.Tie as tie
 
@@ -10,11 +10,11 @@ conforming-requires : tie.Need-conforming-requires
 conforming-requires c κs =
     let p = c.before.before.before.requires in
     let e = c.point-list.ensures in
-    ((p.0.0, e.1), λ h. found-ready _ p.0.0.sound _ 14 (text "PointList") p.1 refl (λ z. p.0.1.zone.based) e.0 h)
+    ((p.0.0, e.1), λ h. found_ready _ p.0.0.sound _ 14 (text "PointList") p.1 refl (λ z. p.0.1.zone.based) e.0 h)
 
 returns : tie.Need-returns
-unfolding pointListOf
-returns c = let k = c.conforming.ensures in (conforming-by _ _ 14 (text "PointList") c.before.point-list.ensures.0 k.0, k.1)
+unfolding point_list_of
+returns c = let k = c.conforming.ensures in (conforming_by _ _ 14 (text "PointList") c.before.point-list.ensures.0 k.0, k.1)
 
 pub point-list-of-spec : {M : Type 1} → statement M
 point-list-of-spec = tie.close (tie.spec (λ c κs. let p = c.before.before.requires in ((p.0.0, p.0.1.inside), p.1)) conforming-requires returns)

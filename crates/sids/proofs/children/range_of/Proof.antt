@@ -4,7 +4,7 @@ use borrow.Author.Rules.{rules}
 use Rattle.model.specs.Bytes.{text}
 use Rattle.model.specs.Values.{range_of}
 use Rattle.model.proofs.Logic.{untrue}
-use Rattle.sids.proofs.Found.{found-ready, conforming-by}
+use Rattle.sids.proofs.Found.{found_ready, conforming_by}
 use Rattle.sids.proofs.children.range_of.Statement.{statement}
 use Rattle.sids.proofs.children.range_of.Tie as tie
 
@@ -12,11 +12,11 @@ conforming-requires : tie.Need-conforming-requires
 conforming-requires c κs =
     let p = c.before.before.before.requires in
     let e = c.range.ensures in
-    ((p.0.0, e.1), λ h. found-ready _ p.0.0.sound _ 8 (text "ElementRange") p.1 refl untrue e.0 h)
+    ((p.0.0, e.1), λ h. found_ready _ p.0.0.sound _ 8 (text "ElementRange") p.1 refl untrue e.0 h)
 
 returns : tie.Need-returns
 unfolding range_of
-returns c = let k = c.conforming.ensures in (conforming-by _ _ 8 (text "ElementRange") c.before.range.ensures.0 k.0, k.1)
+returns c = let k = c.conforming.ensures in (conforming_by _ _ 8 (text "ElementRange") c.before.range.ensures.0 k.0, k.1)
 
 pub range-of-spec : {M : Type 1} → statement M
 range-of-spec = tie.close (tie.spec (λ c κs. search rules) conforming-requires returns)

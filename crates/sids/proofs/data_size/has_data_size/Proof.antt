@@ -5,8 +5,8 @@ use native.Mathlib.Omega.{arith}
 use borrow.Author.Rules.{rules}
 use Rattle.model.specs.Image.{tree_of}
 use Rattle.model.specs.Values.{shaped}
-use Rattle.index.proofs.Marking.{kind-parts}
-use Rattle.sids.proofs.DataSizes.{coordinate-sizes}
+use Rattle.index.proofs.Marking.{kind_parts}
+use Rattle.sids.proofs.DataSizes.{coordinate_sizes}
 use Rattle.sids.proofs.data_size.has_data_size.Statement.{statement}
 use Rattle.sids.proofs.data_size.has_data_size.Tie as tie
 
@@ -19,7 +19,7 @@ returns-2 c =
     let s = d.before.before.before.before in
     let t = tree_of s.args.image.now in
     c.zone-sized.ensures
-    ∙ ap (shaped t s.args.i) (⊎_elim (λ q. sym (coordinate-sizes t s.args.p (kind-parts t s.args.p q (omega arith)).1))
+    ∙ ap (shaped t s.args.i) (⊎_elim (λ q. sym (coordinate_sizes t s.args.p (kind_parts t s.args.p q (omega arith)).1))
     (λ q. absurd (d.if1.false (d.before.kind-of.ensures.0 ∙ q))) s.requires.0.1.kind-is)
 
 pub has-data-size-spec : {M : Type 1} → statement M

@@ -2,7 +2,7 @@
 use mathlib.Core.Path.{sym, ◌∙◌}
 use native.Mathlib.Omega.{arith}
 use borrow.Author.Rules.{rules}
-use Rattle.sids.proofs.Zones.{inner-vertex, inner-cell}
+use Rattle.sids.proofs.Zones.{inner_vertex, inner_cell}
 use Rattle.sids.proofs.data_size.inner_sizes.Statement.{statement}
 use Rattle.sids.proofs.data_size.inner_sizes.Tie as tie
 
@@ -14,7 +14,7 @@ sizes-from-requires c κs =
 
 returns : tie.Need-returns
 returns c =
-    inner-cell _ _ c.before.before.before.parent_of.ensures.0 c.before.before.before.before.before.before.requires.1.0
+    inner_cell _ _ c.before.before.before.parent_of.ensures.0 c.before.before.before.before.before.before.requires.1.0
     (sym c.before.before.cell-centred.ensures ∙ c.before.if1.true) c.sizes-from.ensures
 
 sizes-from-requires-2 : tie.Need-sizes-from-requires-2
@@ -25,7 +25,7 @@ sizes-from-requires-2 c κs =
 
 returns-2 : tie.Need-returns-2
 returns-2 c =
-    inner-vertex _ _ c.before.before.before.parent_of.ensures.0 c.before.before.before.before.before.before.requires.1.0
+    inner_vertex _ _ c.before.before.before.parent_of.ensures.0 c.before.before.before.before.before.before.requires.1.0
     (sym c.before.before.cell-centred.ensures ∙ c.before.if1.false) c.sizes-from2.ensures
 
 pub inner-sizes-spec : {M : Type 1} → statement M

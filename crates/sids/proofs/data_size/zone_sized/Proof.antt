@@ -2,8 +2,8 @@
 use mathlib.Core.Path.{ap, ◌∙◌}
 use borrow.Author.Rules.{rules}
 use Rattle.model.specs.Image.{tree_of}
-use Rattle.model.specs.Values.{shaped, indexDimension}
-use Rattle.sids.proofs.Zones.{data-sizes-are}
+use Rattle.model.specs.Values.{shaped, index_dimension}
+use Rattle.sids.proofs.Zones.{data_sizes_are}
 use Rattle.sids.proofs.data_size.zone_sized.Statement.{statement}
 use Rattle.sids.proofs.data_size.zone_sized.Tie as tie
 
@@ -13,16 +13,16 @@ index-dimension-requires c κs = let p = c.before.before.before.requires.0 in (p
 data-sizes-requires : tie.Need-data-sizes-requires
 data-sizes-requires c κs =
     let n = c.index-dimension.ensures in
-    (c.before.before.before.before.requires.0, (n.0 ∙ ap (indexDimension _) c.before.parent_of.ensures.0, n.2))
+    (c.before.before.before.before.requires.0, (n.0 ∙ ap (index_dimension _) c.before.parent_of.ensures.0, n.2))
 
 returns : tie.Need-returns
 returns c =
     let n = c.before.before in
     let a = n.before.before.before.before.args in
     let t = tree_of a.image.now in
-    let e = n.index-dimension.ensures.0 ∙ ap (indexDimension t) n.before.parent_of.ensures.0 in
+    let e = n.index-dimension.ensures.0 ∙ ap (index_dimension t) n.before.parent_of.ensures.0 in
     let f = rw (c.before.data-sizes.ensures, e) at c.shaped.ensures in
-    f ∙ ap (shaped t a.i) (data-sizes-are t a.p (rw (← e) n.index-dimension.ensures.2))
+    f ∙ ap (shaped t a.i) (data_sizes_are t a.p (rw (← e) n.index-dimension.ensures.2))
 
 pub zone-sized-spec : {M : Type 1} → statement M
 zone-sized-spec =

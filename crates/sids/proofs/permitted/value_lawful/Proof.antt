@@ -6,9 +6,9 @@ use borrow.Author.Tests.{ne_eqb}
 use Rattle.model.specs.Lists.{row}
 use Rattle.model.specs.Image.{tree_of}
 use Rattle.model.specs.Containment.{role}
-use Rattle.model.specs.Values.{valueLawful, baseValue}
+use Rattle.model.specs.Values.{value_lawful, base_value}
 use Rattle.index.proofs.Marking.{kind-role}
-use Rattle.types.proofs.Roles.{base-has, elements-has, rind-four, rind-flat}
+use Rattle.types.proofs.Roles.{base-has, elements-has, rind_four, rind-flat}
 use Rattle.sids.proofs.permitted.value_lawful.Statement.{statement}
 use Rattle.sids.proofs.permitted.value_lawful.Tie as tie
 
@@ -48,17 +48,17 @@ rind-value-requires c κs =
     let d = c.before.before.before.before in
     let t = tree_of d.args.image.now in
     let e = role-is c.before c.match.keys7 in
-    ((d.requires.0.0.sound, d.requires.0.1.inside), (rind-four t d.args.i e d.requires.1, rind-flat t d.args.i e d.requires.1))
+    ((d.requires.0.0.sound, d.requires.0.1.inside), (rind_four t d.args.i e d.requires.1, rind-flat t d.args.i e d.requires.1))
 
 returns-9 : tie.Need-returns-9
-unfolding valueLawful row
+unfolding value_lawful row
 returns-9 c =
     let m = c.match.rest in
     rw (← c.before.role-of.ensures.0, ne_eqb _ 2 m.0.0.0.0.0.0.0.1, ne_eqb _ 3 m.0.0.0.0.0.0.1, ne_eqb _ 4 m.0.0.0.0.0.1)
     (rw (ne_eqb _ 6 m.0.0.0.0.1, ne_eqb _ 7 m.0.0.0.1, ne_eqb _ 8 m.0.0.1, ne_eqb _ 9 m.0.1, ne_eqb _ 10 m.1))
 
 pub value-lawful-spec : {M : Type 1} → statement M
-unfolding valueLawful row baseValue
+unfolding value_lawful row base_value
 value-lawful-spec =
     tie.close (tie.spec (λ c κs. let p = c.before.before.requires.0 in ((p.0, p.1.inside), p.1.is-validated)) pair-within-requires zone-value-requires
     (λ c κs. search rules) not-both-requires not-negative-requires index-range-value-requires rind-value-requires (λ c κs. search rules)

@@ -4,25 +4,25 @@ use Prim.Native.Nat.{◌-◌}
 use mathlib.Core.Path.{sym, ◌∙◌}
 use borrow.Author.Rules.{rules}
 use Rattle.model.specs.Image.{tree_of}
-use Rattle.model.specs.Lists.{someFrom}
-use Rattle.model.specs.Values.{baseChild}
-use Rattle.model.proofs.Loops.{SomeLeft, some-start, some_more, some-stop, some-done}
+use Rattle.model.specs.Lists.{some_from}
+use Rattle.model.specs.Values.{base_child}
+use Rattle.model.proofs.Loops.{SomeLeft, some_start, some_more, some_stop, some-done}
 use Rattle.sids.proofs.required.has_base.Statement.{statement}
 use Rattle.sids.proofs.required.has_base.Tie as tie
 
 abbrev invariant-loop : tie.invariant-loop
-invariant-loop image n j₀ j = SomeLeft (baseChild (tree_of image)) n j (someFrom (baseChild (tree_of image)) n 0)
+invariant-loop image n j₀ j = SomeLeft (base_child (tree_of image)) n j (some_from (base_child (tree_of image)) n 0)
 
 abbrev decreases-loop : tie.decreases-loop
 decreases-loop image n j₀ j = n - j
 
 loop-holds : tie.Need-loop-init invariant-loop decreases-loop
-loop-holds c = some-start _ _ 0 (search rules) (λ j h. absurd (omega arith))
+loop-holds c = some_start _ _ 0 (search rules) (λ j h. absurd (omega arith))
 
 returns : tie.Need-returns invariant-loop decreases-loop
 returns c =
     let l = c.before.before.before in
-    rw (← l.before.node-count.ensures.0) (some-stop l.loop.invariant c.before.before.loop-test.true
+    rw (← l.before.node-count.ensures.0) (some_stop l.loop.invariant c.before.before.loop-test.true
     (sym c.before.base-child.ensures ∙ c.if1.true))
 
 loop-again : tie.Need-loop-preserved invariant-loop decreases-loop

@@ -5,15 +5,15 @@ use borrow.Author.Rules.{rules}
 use borrow.Author.Tests.{eq-eqb, ne_eqb}
 use Rattle.model.specs.Lists.{row}
 use Rattle.model.specs.Bytes.{text}
-use Rattle.model.specs.Image.{tree_of, nodeCount}
+use Rattle.model.specs.Image.{tree_of, node_count}
 use Rattle.index.specs.Index.{kind, Index}
 use Rattle.labels.proofs.Nodes.{parent-inside}
-use Rattle.sids.specs.Groups.{requiredUnder, isRequired}
+use Rattle.sids.specs.Groups.{required_under, is_required}
 use Rattle.sids.proofs.required.is_required.Statement.{statement}
 use Rattle.sids.proofs.required.is_required.Tie as tie
 
 returns : tie.Need-returns
-unfolding isRequired
+unfolding is_required
 returns c = rw (eq-eqb _ 0 c.if1.true)
 
 kind-of-requires : tie.Need-kind-of-requires
@@ -27,13 +27,13 @@ module _ (c : tie.After-kind-of) where
   start = c.before.before.before.before.before
 
   up-known : {k : ℕ} → c.kind-of.result ≡ k
-      → (Index start.args.image.now start.args.index.now × (c.before.parent_of.result < nodeCount start.args.image.now))
+      → (Index start.args.image.now start.args.index.now × (c.before.parent_of.result < node_count start.args.image.now))
       × (kind (tree_of start.args.image.now) c.before.parent_of.result ≡ k)
   up-known e = (kind-of-requires c.before start.lifetimes, sym c.kind-of.ensures.0 ∙ e)
 
   under : {k : ℕ} → c.kind-of.result ≡ k
-      → isRequired (tree_of start.args.image.now) start.args.i ≡ requiredUnder (tree_of start.args.image.now) k start.args.i
-  unfolding isRequired
+      → is_required (tree_of start.args.image.now) start.args.i ≡ required_under (tree_of start.args.image.now) k start.args.i
+  unfolding is_required
   under e = rw (ne_eqb _ 0 c.before.before.if1.false, ← c.before.parent_of.ensures.0, sym c.kind-of.ensures.0 ∙ e)
 
 returns-2 : tie.Need-returns-2

@@ -9,24 +9,24 @@ use lib.Dec.{eqb}
 use Rattle.model.specs.Lists.{◌⊃◌}
 use Rattle.model.specs.Rules.{check, passed}
 use Rattle.model.specs.Image.{Tree, tree_of, parent}
-use Rattle.model.specs.Containment.{role, mayHold, Elements}
+use Rattle.model.specs.Containment.{role, may_hold, Elements}
 use Rattle.model.specs.Values.{unstructured, placed}
-use Rattle.model.proofs.Staging.{broken, kept, no-rule}
+use Rattle.model.proofs.Staging.{broken, kept, no_rule}
 use Rattle.model.proofs.Above.{validated-above}
 use Rattle.labels.proofs.Nodes.{parent-inside}
-use Rattle.labels.proofs.Grid.{named-root}
-use Rattle.sids.specs.Groups.{placeRules}
+use Rattle.labels.proofs.Grid.{named_root}
+use Rattle.sids.specs.Groups.{place_rules}
 use Rattle.sids.proofs.stages.place_stage.Statement.{statement}
 use Rattle.sids.proofs.stages.place_stage.Tie as tie
 
 -- the root stands in its place, and has no fixed name
-root-place : (b : List ℕ) (i : ℕ) → i ≡ 0 → passed ≡ check i (placeRules (tree_of b) i)
+root-place : (b : List ℕ) (i : ℕ) → i ≡ 0 → passed ≡ check i (place_rules (tree_of b) i)
 unfolding placed
-root-place b i z = rw z (sym (kept 0 20 _ refl ∙ kept 0 21 _ (sym (named-root b 0 refl)) ∙ no-rule 0))
+root-place b i z = rw z (sym (kept 0 20 _ refl ∙ kept 0 21 _ (sym (named_root b 0 refl)) ∙ no_rule 0))
 
 -- what the test of rule 20 tells
 placed-is : (t : Tree) (i : ℕ) {up above below : ℕ} {r : Bool} → (i ≡ 0 → ⊥) → up ≡ parent t i → above ≡ role t up → below ≡ role t i
-    → r ≡ (mayHold above below && (eqb below Elements ⊃ unstructured t up)) → placed t i ≡ r
+    → r ≡ (may_hold above below && (eqb below Elements ⊃ unstructured t up)) → placed t i ≡ r
 unfolding placed
 placed-is t i z e f g h = rw (ne_eqb i 0 z, ← e, ← f, ← g) (sym h)
 
@@ -83,7 +83,7 @@ returns-4 c =
     let d = c.before.before.before in
     let p = place_is d ∙ not-false _ c.before.before.if2.false in
     let q = sym c.before.named.ensures ∙ not-false _ c.if3.false in
-    sym (kept _ 20 _ p ∙ kept _ 21 _ q ∙ no-rule _)
+    sym (kept _ 20 _ p ∙ kept _ 21 _ q ∙ no_rule _)
 
 pub place-stage-spec : {M : Type 1} → statement M
 place-stage-spec =

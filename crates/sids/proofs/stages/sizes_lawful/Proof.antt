@@ -6,14 +6,14 @@ use borrow.Author.Rules.{rules}
 use borrow.Author.Tests.{not-true, not-false}
 use Rattle.model.specs.Lists.{◌⊃◌}
 use Rattle.model.specs.Image.{tree_of, parent}
-use Rattle.model.specs.Values.{sizesLawful, sizedArray, shaped}
+use Rattle.model.specs.Values.{sizes_lawful, sized_array, shaped}
 use Rattle.sids.specs.Given.{Sized}
-use Rattle.sids.proofs.Siblings.{array-after, sibling-sizes}
+use Rattle.sids.proofs.Siblings.{array_after, sibling-sizes}
 use Rattle.sids.proofs.stages.sizes_lawful.Statement.{statement}
 use Rattle.sids.proofs.stages.sizes_lawful.Tie as tie
 
 returns : tie.Need-returns
-unfolding sizesLawful ◌⊃◌
+unfolding sizes_lawful ◌⊃◌
 returns c = rw (sym c.before.sized-array.ensures ∙ not-true _ c.if1.true)
 
 -- an array
@@ -21,23 +21,23 @@ module _ (c : tie.After-parent-of) where
   abbrev start : tie.Start
   start = c.before.before.before.before.before
 
-  is-array : sizedArray (tree_of start.args.image.now) start.args.i ≡ true
+  is-array : sized_array (tree_of start.args.image.now) start.args.i ≡ true
   is-array = sym c.before.before.sized-array.ensures ∙ not-false _ c.before.if1.false
 
   size-known : Sized start.args.image.now (parent (tree_of start.args.image.now) start.args.i)
   size-known = start.pre.1.1 is-array
 
 follows-array-requires : tie.Need-follows-array-requires
-follows-array-requires c κs = ((start c).requires.0.1, (array-after _ _ (is-array c), (start c).requires.0.0.inside))
+follows-array-requires c κs = ((start c).requires.0.1, (array_after _ _ (is-array c), (start c).requires.0.0.inside))
 
 sub-same-shape : tie.Need-overflow-sub-same-shape
-sub-same-shape c = array-after _ _ (is-array c.before.before)
+sub-same-shape c = array_after _ _ (is-array c.before.before)
 
 same-shape-requires : tie.Need-same-shape-requires
 same-shape-requires c κs = let g = (start c.before.before).pre.0.0 in (g.sound, (g.inside, omega arith))
 
 returns-2 : tie.Need-returns-2
-unfolding sizesLawful ◌⊃◌
+unfolding sizes_lawful ◌⊃◌
 returns-2 c =
     let d = c.before.before.before in
     let a = (start d).args in
@@ -51,7 +51,7 @@ has-data-size-requires c κs =
     (((start d).requires.0.1, rw d.parent_of.ensures.0 (size-known d)), (start d).requires.0.0.inside)
 
 returns-3 : tie.Need-returns-3
-unfolding sizesLawful ◌⊃◌
+unfolding sizes_lawful ◌⊃◌
 returns-3 c =
     let d = c.before.before.before in
     rw (is-array d) (rw d.parent_of.ensures.0 at c.has-data-size.ensures)

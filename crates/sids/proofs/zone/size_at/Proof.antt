@@ -5,7 +5,7 @@ use mathlib.Core.Path.{refl}
 use borrow.Author.Rules.{rules}
 use borrow.Author.Tests.{lt-ltb, le-ltb}
 use Rattle.model.specs.Image.{tree_of}
-use Rattle.model.specs.Values.{indexDimension}
+use Rattle.model.specs.Values.{index_dimension}
 use Rattle.sids.proofs.Zones.{zone-has}
 use Rattle.sids.proofs.zone.size_at.Statement.{statement}
 use Rattle.sids.proofs.zone.size_at.Tie as tie
@@ -14,7 +14,7 @@ number-requires : tie.Need-number-requires
 number-requires c κs =
     let d = c.before.before in
     let a = d.args in
-    let h : a.from + a.d < 3 * indexDimension (tree_of a.image.now) a.z = omega arith in
+    let h : a.from + a.d < 3 * index_dimension (tree_of a.image.now) a.z = omega arith in
     let n = zone-has a.image.now d.requires.0.0 a.z d.requires.0.1 (a.from + a.d) h in
     rw d.requires.1.1 ((d.requires.0.0, n.inside), ((n.wide, refl), n.room))
 

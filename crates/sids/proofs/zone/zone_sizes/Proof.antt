@@ -1,11 +1,11 @@
 -- One row after the other.
 use borrow.Author.Rules.{rules}
-use Rattle.model.specs.Values.{vertexSize, cellSize, boundarySize}
+use Rattle.model.specs.Values.{vertex_size, cell_size, boundary_size}
 use Rattle.sids.proofs.zone.zone_sizes.Statement.{statement}
 use Rattle.sids.proofs.zone.zone_sizes.Tie as tie
 
 returns : tie.Need-returns
-unfolding vertexSize cellSize boundarySize
+unfolding vertex_size cell_size boundary_size
 returns c =
     let e = c.before.before.before.before.requires.1.0 in
     rw (c.before.before.sizes-from.ensures, c.before.sizes-from2.ensures, c.sizes-from3.ensures, e)

@@ -6,8 +6,8 @@ use lib.Dec.{leb}
 use borrow.Author.Rules.{rules}
 use borrow.Author.Tests.{le-leb, lt-leb, leb-true, not-true, not-false}
 use Rattle.model.proofs.Logic.{and_second}
-use Rattle.model.proofs.Staging.{holds, fails, no-rule}
-use Rattle.table.specs.Groups.{isWithin}
+use Rattle.model.proofs.Staging.{holds, fails, no_rule}
+use Rattle.table.specs.Groups.{is_within}
 use Rattle.table.proofs.header.layout_stage.Statement.{statement}
 use Rattle.table.proofs.header.layout_stage.Tie as tie
 
@@ -15,7 +15,7 @@ returns : tie.Need-returns
 returns c = fails 0 4 _ (sym c.before.before.is_Within.ensures ∙ not-true _ c.before.if1.true) c.reject.ensures
 
 -- rule 4 holds
-some : (g : tie.Else1) → isWithin g.before.before.args.h.node_count 1 4096 ≡ true
+some : (g : tie.Else1) → is_within g.before.before.args.h.node_count 1 4096 ≡ true
 some g = sym g.before.is_Within.ensures ∙ not-false _ g.if1.false
 
 returns-2 : tie.Need-returns-2
@@ -37,7 +37,7 @@ returns-4 : tie.Need-returns-4
 returns-4 c =
     let g = c.before in
     let words = le-leb _ _ g.before.if2.false in
-    holds 0 4 _ (some g.before.before.before) (holds 0 5 _ words (holds 0 6 _ (sym g.laid_out.ensures ∙ not-false _ c.if3.false) (sym (no-rule 0))))
+    holds 0 4 _ (some g.before.before.before) (holds 0 5 _ words (holds 0 6 _ (sym g.laid_out.ensures ∙ not-false _ c.if3.false) (sym (no_rule 0))))
 
 pub layout-stage-spec : {M : Type 1} → statement M
 layout-stage-spec = tie.close (tie.spec (search rules) (search rules) returns (search rules) returns-2 laid-out-requires (search rules) returns-3 returns-4)

@@ -4,21 +4,21 @@ use Prim.Native.Nat.{◌+◌, ◌-◌}
 use lib.ListN.{get_or}
 use borrow.Author.Rules.{rules}
 use Rattle.model.specs.Records.{sibling}
-use Rattle.records.specs.Table.{allRecords}
+use Rattle.records.specs.Table.{all_records}
 use Rattle.texts.specs.Links.{LastOf}
-use Rattle.table.proofs.Pairs.{Left, left-start, left-on, left_end}
+use Rattle.table.proofs.Pairs.{Left, left_start, left-on, left_end}
 use Rattle.table.proofs.names.bytes_with_earlier.Statement.{statement}
 use Rattle.table.proofs.names.bytes_with_earlier.Tie as tie
 
 abbrev invariant-loop : tie.invariant-loop
-invariant-loop table links i sum₀ j₀ sum j = Left (allRecords table) i j sum
+invariant-loop table links i sum₀ j₀ sum j = Left (all_records table) i j sum
 
 abbrev decreases-loop : tie.decreases-loop
 decreases-loop table links i sum₀ j₀ sum j = j
 
 loop-holds : tie.Need-loop-init invariant-loop decreases-loop
 unfolding sibling
-loop-holds c = let d = c.before.before.before in left-start _ _ (d.requires.1.before d.args.i (omega arith))
+loop-holds c = let d = c.before.before.before in left_start _ _ (d.requires.1.before d.args.i (omega arith))
 
 name-difference-requires : tie.Need-name-difference-requires invariant-loop decreases-loop
 name-difference-requires c κs = let b = c.before.loop.invariant.below in ((omega arith, omega arith), (omega arith, omega arith))
@@ -28,7 +28,7 @@ add-sum c = omega (arith, c.before.before.loop.invariant.few, c.name-difference.
 
 -- the sibling before the one that is looked at
 earlier : (l : tie.In-loop invariant-loop decreases-loop) → let j = l.before.loop.j in let d = l.before.before.before.before.before in
-    LastOf (sibling (allRecords d.args.table.now) (j - 1)) (j - 1) (get_or d.args.siblings.now (4096 + (j - 1)) 0)
+    LastOf (sibling (all_records d.args.table.now) (j - 1)) (j - 1) (get_or d.args.siblings.now (4096 + (j - 1)) 0)
 unfolding sibling
 earlier l =
     let j = l.before.loop.j in

@@ -4,24 +4,24 @@ use Prim.Native.Nat.{◌≤◌, ◌<◌}
 use Rattle.model.specs.Image.{parent}
 use borrow.Author.Rules.{rules}
 use Rattle.model.proofs.Parents.{parent-lower, parent-none}
-use Rattle.records.specs.Table.{allRecords}
-use Rattle.texts.proofs.Linking.{linked-apart, linked_on}
+use Rattle.records.specs.Table.{all_records}
+use Rattle.texts.proofs.Linking.{linked_apart, linked_on}
 use Rattle.table.proofs.names.link.Statement.{statement}
 use Rattle.table.proofs.names.link.Tie as tie
 
 returns : tie.Need-returns
 returns c =
     let d = c.before.before.before in
-    let t = allRecords d.args.table.now in
+    let t = all_records d.args.table.now in
     let e = c.if1.true in
     let n : 4096 ≤ parent t d.args.i = rw e (omega (arith, parent-none t (d.requires.0.0.1 0 (omega arith)))) in
-    linked-apart d.requires.1 d.requires.0.1 e n
+    linked_apart d.requires.1 d.requires.0.1 e n
 
 -- a parent has a lower number
 lower : (p : tie.After-parent-of) → let d = p.before.before.before.before.before in p.parent_of.result < d.args.i
 lower p =
     let d = p.before.before.before.before.before in
-    let u = parent-lower (allRecords d.args.table.now) d.args.i (d.requires.0.0.1 d.args.i (omega arith)) p.before.before.if1.false in
+    let u = parent-lower (all_records d.args.table.now) d.args.i (d.requires.0.0.1 d.args.i (omega arith)) p.before.before.if1.false in
     omega (arith, u, p.parent_of.ensures.0)
 
 add-requires : tie.Need-add-requires

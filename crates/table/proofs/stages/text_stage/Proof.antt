@@ -5,10 +5,10 @@ use mathlib.Core.List.{[], ◌∷◌}
 use borrow.Author.Rules.{rules}
 use borrow.Author.Tests.{not-true, not-false}
 use Rattle.model.specs.Rules.{Check, check, ◌unless◌}
-use Rattle.model.specs.Records.{nameTaken}
-use Rattle.model.proofs.Staging.{holds, fails, no-rule}
-use Rattle.records.specs.Table.{allRecords}
-use Rattle.table.specs.Groups.{textRules}
+use Rattle.model.specs.Records.{name_taken}
+use Rattle.model.proofs.Staging.{holds, fails, no_rule}
+use Rattle.records.specs.Table.{all_records}
+use Rattle.table.specs.Groups.{text_rules}
 use Rattle.table.proofs.stages.text_stage.Statement.{statement}
 use Rattle.table.proofs.stages.text_stage.Tie as tie
 
@@ -22,8 +22,8 @@ returns-2 c =
     holds _ 9 _ n (fails _ 10 _ (sym g.label-lawful.ensures ∙ not-true _ c.before.if2.true) c.reject2.ensures)
 
 -- rule 11 is left
-left : {x : Check} (g : tie.Else2) → let a = g.before.before.before.before.before.before.args in let t = allRecords a.table.now in
-    x ≡ check a.i (11 unless not (nameTaken t a.i) ∷ []) → x ≡ check a.i (textRules t a.i)
+left : {x : Check} (g : tie.Else2) → let a = g.before.before.before.before.before.before.args in let t = all_records a.table.now in
+    x ≡ check a.i (11 unless not (name_taken t a.i) ∷ []) → x ≡ check a.i (text_rules t a.i)
 left g e =
     let f = g.before.before in
     holds _ 9 _ (sym f.before.name-lawful.ensures ∙ not-false _ f.if1.false)
@@ -35,7 +35,7 @@ returns-3 c =
     left f.before (fails _ 11 _ (ap not (sym f.is-taken.ensures ∙ c.before.if3.true)) c.reject3.ensures)
 
 returns-4 : tie.Need-returns-4
-returns-4 c = left c.before.before (holds _ 11 _ (ap not (sym c.before.is-taken.ensures ∙ c.if3.false)) (sym (no-rule _)))
+returns-4 c = left c.before.before (holds _ 11 _ (ap not (sym c.before.is-taken.ensures ∙ c.if3.false)) (sym (no_rule _)))
 
 pub text-stage-spec : {M : Type 1} → statement M
 text-stage-spec =

@@ -3,13 +3,13 @@ use native.Mathlib.Omega.{arith}
 use lib.ListN.{drop}
 use borrow.Author.Rules.{rules}
 use Rattle.model.proofs.Reading.{le-take}
-use Rattle.texts.specs.Keys.{textSum}
+use Rattle.texts.specs.Keys.{text_sum}
 use Rattle.texts.proofs.Laws.{word_of}
 use Rattle.texts.proofs.keys.text_sum.Statement.{statement}
 use Rattle.texts.proofs.keys.text_sum.Tie as tie
 
 returns : tie.Need-returns
-unfolding textSum
+unfolding text_sum
 returns c =
     let d = c.before.before.before in
     let a = d.before.before.args in

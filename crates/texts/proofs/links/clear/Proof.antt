@@ -4,7 +4,7 @@ use Prim.Native.Nat.{ℕ, ◌-◌, ◌≤◌, ◌<◌}
 use mathlib.Core.Path.{◌≡◌, refl}
 use lib.ListN.{length, get_or, length-set}
 use borrow.Author.Rules.{rules}
-use Rattle.texts.proofs.Linking.{zeros-on}
+use Rattle.texts.proofs.Linking.{zeros_on}
 use Rattle.texts.proofs.links.clear.Statement.{statement}
 use Rattle.texts.proofs.links.clear.Tie as tie
 
@@ -21,7 +21,7 @@ loop-again : tie.Need-loop-preserved invariant-loop decreases-loop
 loop-again c =
     let l = c.before.loop in
     let n = l.invariant.0.1 in
-    ((omega arith, rw length-set n), zeros-on l.links l.k (omega (arith, n)) l.invariant.1)
+    ((omega arith, rw length-set n), zeros_on l.links l.k (omega (arith, n)) l.invariant.1)
 
 returns : tie.Need-returns invariant-loop decreases-loop
 returns c = λ u h. c.before.loop.invariant.1 u (omega arith)

@@ -8,7 +8,7 @@ use borrow.Author.Rules.{rules}
 use borrow.Author.Tests.{ne_eqb}
 use Rattle.model.specs.Image.{tree_of, parent, node, dimensions, I4, I8}
 use Rattle.model.specs.Containment.{role}
-use Rattle.model.specs.Values.{typed, shaped, indexDimension, zoneAbove, listShape, listCount}
+use Rattle.model.specs.Values.{typed, shaped, index_dimension, zone_above, list_shape, list_count}
 use Rattle.model.proofs.Bounds.{node-placed}
 use Rattle.model.proofs.Reading.{rank_is}
 use Rattle.labels.proofs.Fields.{same_not}
@@ -29,19 +29,19 @@ role-of-requires c κs =
     rw c.parent_of.ensures.0 ((p.0.0, p.1.above), p.1.above-validated)
 
 returns : tie.Need-returns
-unfolding listShape
+unfolding list_shape
 returns c =
     let a = (start c.before).args in
     rw (← above-is c.before, ne_eqb c.before.role-of.result 6 c.if1.true) (sym (and-false (typed (tree_of a.image.now) a.i (I4 ∷ I8 ∷ []))))
 
 returns-2 : tie.Need-returns-2
-unfolding listShape shaped
+unfolding list_shape shaped
 returns-2 c =
     let d = c.before.before in
     let a = (start d.before.before).args in
     let t = tree_of a.image.now in
     let e : d.read.result.rank ≡ (node t a.i).rank = ap (λ r. r.rank) d.read.ensures in
-    let n : shaped t a.i (indexDimension t (zoneAbove t a.i) ∷ listCount t a.i ∷ []) ≡ false =
+    let n : shaped t a.i (index_dimension t (zone_above t a.i) ∷ list_count t a.i ∷ []) ≡ false =
     same_not (dimensions t a.i) _ (λ f. c.if2.true (e ∙ sym (rank_is t a.i) ∙ f)) in
     rw (n, and-false (eqb (role t (parent t a.i)) 6)) (sym (and-false (typed t a.i (I4 ∷ I8 ∷ []))))
 
@@ -57,7 +57,7 @@ dimension-requires : tie.Need-dimension-requires
 dimension-requires c κs =
     let s = start (known c) in
     let p = node-placed s.args.image.now s.pre.0.0.sound.table s.args.i s.pre.0.1 in
-    ((s.pre.0.0.sound.laid, s.pre.0.1), (rw (two c) (omega arith), p.words-in))
+    ((s.pre.0.0.sound.laid, s.pre.0.1), (rw (two c) (omega arith), p.words_in))
 
 dimension-above-requires : tie.Need-dimension-above-requires
 dimension-above-requires c κs =
@@ -66,7 +66,7 @@ dimension-above-requires c κs =
     ((p.0.0, p.1.above), (p.0.1, p.1.flow (sym (above-is k) ∙ c.before.before.before.before.if1.false)))
 
 returns-3 : tie.Need-returns-3
-unfolding listShape listCount
+unfolding list_shape list_count
 returns-3 c =
     let d = c.before.before in
     let k = known d.before in

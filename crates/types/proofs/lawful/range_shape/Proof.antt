@@ -8,7 +8,7 @@ use borrow.Author.Tests.{ne_eqb}
 use Rattle.model.specs.Lists.{row}
 use Rattle.model.specs.Image.{tree_of, parent, I4, I8}
 use Rattle.model.specs.Containment.{role}
-use Rattle.model.specs.Values.{typed, rangeShape}
+use Rattle.model.specs.Values.{typed, range_shape}
 use Rattle.types.proofs.lawful.range_shape.Statement.{statement}
 use Rattle.types.proofs.lawful.range_shape.Tie as tie
 
@@ -34,17 +34,17 @@ dimension-above-requires c κs =
     ((p.0.0, p.1.above), (p.0.1, p.1.flow (above-role c.before c.match.keys2)))
 
 returns : tie.Need-returns
-unfolding rangeShape row
+unfolding range_shape row
 returns c = rw (above-role c.before.before c.before.match.keys1) c.whole-shaped.ensures
 
 returns-2 : tie.Need-returns-2
-unfolding rangeShape row
+unfolding range_shape row
 returns-2 c =
     let d = c.before in
     rw (above-role d.before.before d.before.match.keys2) (rw d.dimension-above.ensures.0 at c.whole-shaped2.ensures)
 
 returns-3 : tie.Need-returns-3
-unfolding rangeShape row
+unfolding range_shape row
 returns-3 c =
     let r = c.before.role-of.result in
     let a = (start c.before).args in

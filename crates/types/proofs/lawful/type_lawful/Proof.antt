@@ -9,9 +9,9 @@ use borrow.Author.Tests.{ne_eqb}
 use Rattle.model.specs.Lists.{row}
 use Rattle.model.specs.Image.{tree_of}
 use Rattle.model.specs.Containment.{role, Root}
-use Rattle.model.specs.Values.{typeLawful, zoneTypeShape}
+use Rattle.model.specs.Values.{type_lawful, zone_type_shape}
 use Rattle.types.specs.Given.{HeldContext}
-use Rattle.types.proofs.Roles.{held-inside, held-context}
+use Rattle.types.proofs.Roles.{held-inside, held_context}
 use Rattle.types.proofs.lawful.type_lawful.Statement.{statement}
 use Rattle.types.proofs.lawful.type_lawful.Tie as tie
 
@@ -33,7 +33,7 @@ rind-shape-requires c κs =
 -- under which node it stands
 module _ (c : tie.After-role-of) where
   under : {k : ℕ} → c.role-of.result ≡ k → eqb k Root ≡ false → HeldContext c.before.before.before.args.image.now c.before.before.before.args.i
-  under {k} e n = let d = c.before.before.before in held-context _ d.requires.0.sound d.args.i d.requires.1 k (role-is c e) n
+  under {k} e n = let d = c.before.before.before in held_context _ d.requires.0.sound d.args.i d.requires.1 k (role-is c e) n
 
 range-shape-requires : tie.Need-range-shape-requires
 range-shape-requires c κs = let p = c.before.before.before.before.requires in ((p.0, p.1.inside), under c.before c.match.keys7 refl)
@@ -48,7 +48,7 @@ array-type-requires c κs =
     ((p.0, p.1.inside), (u.above, u.above-validated))
 
 returns-11 : tie.Need-returns-11
-unfolding typeLawful row
+unfolding type_lawful row
 returns-11 c =
     let d = c.before in
     let r = d.role-of.result in
@@ -72,7 +72,7 @@ returns-11 c =
     (rw (ne_eqb r 7 n7, ne_eqb r 8 n8, ne_eqb r 9 n9, ne_eqb r 10 n10, ne_eqb r 11 n11, ne_eqb r 12 n12, ne_eqb r 13 n13, ne_eqb r 14 n14))
 
 pub type-lawful-spec : {M : Type 1} → statement M
-unfolding typeLawful row zoneTypeShape
+unfolding type_lawful row zone_type_shape
 type-lawful-spec =
     tie.close (tie.spec (λ c κs. let p = c.before.before.requires in ((p.0, p.1.inside), p.1.is-validated)) (λ c κs. search rules) (λ c κs. search rules)
     zone-shape-requires (search rules) (search rules) (search rules) range-shape-requires rind-shape-requires array-type-requires list-shape-requires

@@ -1,11 +1,11 @@
 -- Numbers from half of the patterns on are negative.
 use borrow.Author.Rules.{rules}
-use Rattle.model.specs.Values.{notNegative}
+use Rattle.model.specs.Values.{not_negative}
 use Rattle.types.proofs.stored_numbers.not_negative.Statement.{statement}
 use Rattle.types.proofs.stored_numbers.not_negative.Tie as tie
 
 returns : tie.Need-returns
-unfolding notNegative
+unfolding not_negative
 returns c = rw c.whole.ensures
 
 pub not-negative-spec : {M : Type 1} → statement M

@@ -1,12 +1,12 @@
 -- Three tests, one after the other.
 use borrow.Author.Rules.{rules}
 use borrow.Author.Tests.{lt-leb, le-leb}
-use Rattle.types.proofs.StoredNumbers.{has-less}
+use Rattle.types.proofs.StoredNumbers.{has_less}
 use Rattle.types.proofs.stored_numbers.pair_within.Statement.{statement}
 use Rattle.types.proofs.stored_numbers.pair_within.Tie as tie
 
 whole-requires : tie.Need-whole-requires
-whole-requires c κs = (search rules, has-less _ _ 1 0 c.before.requires.1 (search rules))
+whole-requires c κs = (search rules, has_less _ _ 1 0 c.before.requires.1 (search rules))
 
 returns : tie.Need-returns
 returns c = rw (← c.before.before.whole.ensures, lt-leb _ _ c.if1.true)

@@ -5,16 +5,16 @@ use lib.ListN.{length}
 use borrow.Author.Rules.{rules}
 use borrow.Author.Tests.{not-true, not-false}
 use Rattle.model.specs.Image.{tree_of, node}
-use Rattle.model.specs.Values.{rindValue, notNegative, size}
+use Rattle.model.specs.Values.{rind_value, not_negative, size}
 use Rattle.model.proofs.Bounds.{node-placed}
 use Rattle.types.proofs.StoredNumbers.{flat-is, whole_four, has_flat}
-use Rattle.model.proofs.Loops.{EveryLeft, every-start, every_more, every-stop, every-done}
+use Rattle.model.proofs.Loops.{EveryLeft, every_start, every_more, every_stop, every_done}
 use Rattle.model.proofs.Reading.{rank_is}
 use Rattle.types.proofs.stored_numbers.rind_value.Statement.{statement}
 use Rattle.types.proofs.stored_numbers.rind_value.Tie as tie
 
 abbrev invariant-loop : tie.invariant-loop
-invariant-loop image i n k₀ k = (n ≡ size (tree_of image) i) × EveryLeft (notNegative (tree_of image) i) n k (rindValue (tree_of image) i)
+invariant-loop image i n k₀ k = (n ≡ size (tree_of image) i) × EveryLeft (not_negative (tree_of image) i) n k (rind_value (tree_of image) i)
 
 abbrev decreases-loop : tie.decreases-loop
 decreases-loop image i n k₀ k = n - k
@@ -27,8 +27,8 @@ dimension-requires c κs =
     ((search rules, search rules), search rules)
 
 loop-holds : tie.Need-loop-init invariant-loop decreases-loop
-unfolding rindValue size
-loop-holds c = (c.dimension.ensures, rw (← c.dimension.ensures) (every-start _ _))
+unfolding rind_value size
+loop-holds c = (c.dimension.ensures, rw (← c.dimension.ensures) (every_start _ _))
 
 not-negative-requires : tie.Need-not-negative-requires invariant-loop decreases-loop
 not-negative-requires c κs =
@@ -41,7 +41,7 @@ not-negative-requires c κs =
 
 returns : tie.Need-returns invariant-loop decreases-loop
 returns c =
-    every-stop c.before.before.before.loop.invariant.1 c.before.before.loop-test.true
+    every_stop c.before.before.before.loop.invariant.1 c.before.before.loop-test.true
     (sym c.before.not_negative.ensures ∙ not-true _ c.if1.true)
 
 loop-again : tie.Need-loop-preserved invariant-loop decreases-loop
@@ -50,7 +50,7 @@ loop-again c =
     (l.loop.invariant.0, every_more l.loop.invariant.1 c.before.before.loop-test.true (sym c.before.not_negative.ensures ∙ not-false _ c.if1.false))
 
 returns-2 : tie.Need-returns-2 invariant-loop decreases-loop
-returns-2 c = every-done c.before.loop.invariant.1 c.loop-test.false
+returns-2 c = every_done c.before.loop.invariant.1 c.loop-test.false
 
 pub rind-value-spec : {M : Type 1} → statement M
 rind-value-spec =

@@ -1,12 +1,12 @@
 -- One of the two texts.
 use borrow.Author.Rules.{rules}
 use Rattle.model.specs.Bytes.{text}
-use Rattle.model.specs.Values.{locationValue}
+use Rattle.model.specs.Values.{location_value}
 use Rattle.types.proofs.stored_texts.location_value.Statement.{statement}
 use Rattle.types.proofs.stored_texts.location_value.Tie as tie
 
 returns : tie.Need-returns
-unfolding locationValue text
+unfolding location_value text
 returns c = c.reads-either.ensures
 
 pub location-value-spec : {M : Type 1} → statement M

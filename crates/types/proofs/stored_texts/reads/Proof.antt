@@ -11,7 +11,7 @@ use Rattle.types.proofs.stored_texts.reads.Tie as tie
 same-at-requires : tie.Need-same-at-requires
 same-at-requires c κs =
     let a = c.before.before.before.before.args in
-    let e : c.read.result.data_size ≡ (node (tree_of a.image.now) a.i).dataSize = ap (λ r. r.data_size) c.read.ensures in
+    let e : c.read.result.data_size ≡ (node (tree_of a.image.now) a.i).data_size = ap (λ r. r.data_size) c.read.ensures in
     omega arith
 
 returns : tie.Need-returns

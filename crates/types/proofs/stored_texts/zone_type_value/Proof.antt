@@ -1,12 +1,12 @@
 -- One of the two texts.
 use borrow.Author.Rules.{rules}
 use Rattle.model.specs.Bytes.{text}
-use Rattle.model.specs.Values.{zoneTypeValue}
+use Rattle.model.specs.Values.{zone_type_value}
 use Rattle.types.proofs.stored_texts.zone_type_value.Statement.{statement}
 use Rattle.types.proofs.stored_texts.zone_type_value.Tie as tie
 
 returns : tie.Need-returns
-unfolding zoneTypeValue text
+unfolding zone_type_value text
 returns c = c.reads-either.ensures
 
 pub zone-type-value-spec : {M : Type 1} → statement M

@@ -23,7 +23,7 @@ dimension-requires c κs =
     let a = s.args in
     let e : c.before.before.read.result.rank ≡ (node (tree_of a.image.now) a.i).rank = ap (λ r. r.rank) c.before.before.read.ensures in
     let p = node-placed a.image.now s.requires.0.table a.i s.requires.1 in
-    ((s.requires.0.laid, s.requires.1), (rw (← e) c.if1.false, p.words-in))
+    ((s.requires.0.laid, s.requires.1), (rw (← e) c.if1.false, p.words_in))
 
 pub size-in-spec : {M : Type 1} → statement M
 size-in-spec = tie.close (tie.spec (search rules) returns dimension-requires (λ c. c.dimension.ensures))

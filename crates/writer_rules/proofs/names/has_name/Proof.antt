@@ -8,7 +8,7 @@ use lib.ListN.{length, take, drop}
 use lib.Seq.{take_all}
 use borrow.Author.Rules.{rules}
 use Rattle.model.specs.Bytes.{same}
-use Rattle.words.proofs.Same.{Same, same_start, same-more-word, same-stop-word, same-done}
+use Rattle.words.proofs.Same.{Same, same_start, same_more_word, same_stop_word, same-done}
 use Rattle.writer_rules.proofs.names.has_name.Statement.{statement}
 use Rattle.writer_rules.proofs.names.has_name.Tie as tie
 
@@ -30,7 +30,7 @@ returns c =
     let l = c.before.before.before.before in
     let s = l.before in
     let d = s.before.before in
-    same-stop-word l.loop.invariant (omega arith) (omega (arith, d.requires.1)) 8 (omega arith) (λ i. omega (arith, s.before.shared-slice-known.given i))
+    same_stop_word l.loop.invariant (omega arith) (omega (arith, d.requires.1)) 8 (omega arith) (λ i. omega (arith, s.before.shared-slice-known.given i))
     (λ i. omega (arith, s.shared-slice-known2.given i)) (rw zero-add (λ e. c.if1.true (c.before.before.u64-at.ensures ∙ e ∙ sym c.before.u64-at2.ensures)))
     ∙ whole d.args.room.now d.args.at d.args.name.now d.requires.1
 
@@ -39,7 +39,7 @@ loop-again c =
     let l = c.before.before.before.before in
     let s = l.before in
     let e : 8 * l.loop.j + 8 ≡ 8 * (l.loop.j + 1) = omega arith in
-    rw e at (same-more-word l.loop.invariant (omega arith) (omega (arith, s.before.before.requires.1)) 8 (omega arith) (λ i. omega (arith, s.before.shared-slice-known.given i))
+    rw e at (same_more_word l.loop.invariant (omega arith) (omega (arith, s.before.before.requires.1)) 8 (omega arith) (λ i. omega (arith, s.before.shared-slice-known.given i))
     (λ i. omega (arith, s.shared-slice-known2.given i)) (rw zero-add (sym c.before.before.u64-at.ensures ∙ c.if1.false ∙ c.before.u64-at2.ensures)))
 
 returns-2 : tie.Need-returns-2 invariant-loop decreases-loop

@@ -1,8 +1,8 @@
 -- The children are where the index has them; an accepted image has them conforming, so that their numbers are the entry's.
-use Rattle.zone_sections.proofs.Parts.{section-kind, own-has, first-has, last_has, found_inside, found-flat, entry-made}
+use Rattle.zone_sections.proofs.Parts.{section-kind, own-has, first-has, last_has, found_inside, found-flat, entry_made}
 use native.Mathlib.Omega.{arith}
 use borrow.Author.Rules.{rules}
-use Rattle.model.specs.Elements.{elementType}
+use Rattle.model.specs.Elements.{element_type_of}
 use Rattle.zone_sections.proofs.entry.entry_of.Statement.{statement}
 use Rattle.zone_sections.proofs.entry.entry_of.Tie as tie
 
@@ -19,7 +19,7 @@ whole-requires : tie.Need-whole-requires
 whole-requires c κs = let p = c.before.before.before.before.before.requires.0 in (p.accepted.sound, own-has p)
 
 parents-of-requires : tie.Need-parents-of-requires
-unfolding elementType
+unfolding element_type_of
 parents-of-requires c κs =
     let p = c.before.before.before.before.before.before.requires in
     ((p.1, p.0.inside), (section-kind p.0, c.whole.ensures))
@@ -66,7 +66,7 @@ returns c =
       w.before.whole2.ensures,
       q.before.whole.ensures,
     )
-    (entry-made r.before.before.before.requires.0 r.range.ensures.0 d.before.offsets.ensures.0 d.connectivity.ensures.0
+    (entry_made r.before.before.before.requires.0 r.range.ensures.0 d.before.offsets.ensures.0 d.connectivity.ensures.0
     q.parents-of.ensures.0)
 
 pub entry-of-spec : {M : Type 1} → statement M
