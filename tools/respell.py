@@ -77,7 +77,7 @@ def turned(m, path):
     bare = word.replace('◌', '')
     if bare not in table: return word
     dotted = text[m.start() - 1:m.start()] == '.'
-    if not CAMEL.search(bare) and '-' not in bare and (dotted or path.endswith('.rt')): return word
+    if not CAMEL.search(bare) and '-' not in bare and (dotted or path.endswith(('.rt', '.edit'))): return word
     new = table[bare]
     if bare == 'dataType' and (dotted or re.match(r' (= |: List)', text[m.end():])): new = 'data_type'
     return word.replace(bare, new)

@@ -1,4 +1,6 @@
 // Little-endian words and two's-complement numbers at a place of a byte slice.
+#![tactic(auto)]
+
 ghost use Rattle.std.specs.Prelude.{◌≡◌, ◌+◌, ◌*◌, ◌^◌, ◌≤◌, ◌<◌, T, nat_abs, length, get_or, take, drop};
 ghost use Rattle.model.specs.Lists.{over_at};
 ghost use Rattle.model.specs.Bytes.{le, le_bytes, all_bytes, signed};

@@ -59,7 +59,7 @@ returns-3 c =
     let f = d.before.before.before in
     let v = value-whole (tree_of f.args.image.now) f.args.i f.args.data-type f.requires.0.1.1 f.args.k c.whole-at.ensures
     d.before.if1.false d.if2.false in
-    (rw (to_z-of_z (sfits_of {w = w64} {z = c.whole-at.result} c.whole-at.type-inv)) (ap answer v), tt)
+    (rw (to_z-of_z (sfits_of {w = w64} {z = c.whole-at.result} c.whole-at.type_inv)) (ap answer v), tt)
 
 pub value-at-spec : {M : Type 1} → statement M
 value-at-spec =

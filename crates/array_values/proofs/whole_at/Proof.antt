@@ -14,7 +14,7 @@ returns c =
     let w = f.requires.0.1.1 in
     let n = number-at b f.args.i f.args.k (rw (← w) f.requires.1) in
     let r = area_at_lem b in
-    rw (to_z-of_z (sfits_of {w = w64} {z = c.signed-at.result} c.signed-at.type-inv)) cc
+    rw (to_z-of_z (sfits_of {w = w64} {z = c.signed-at.result} c.signed-at.type_inv)) cc
 
 pub whole-at-spec : {M : Type 1} → statement M
 whole-at-spec = tie.close (tie.spec (λ c κs. search rules) (search rules) (search rules) (λ c κs. search rules) returns)

@@ -74,7 +74,7 @@ loop-again c =
       room-2 = v.room-2;
       numbers_are =
           written_more _ _ _ _ _ (omega arith) v.numbers_are
-          (to_z-of_z (sfits_of {w = w64} {z = z.result} z.type-inv) ∙ z.ensures ∙ ap number_of a.ensures);
+          (to_z-of_z (sfits_of {w = w64} {z = z.result} z.type_inv) ∙ z.ensures ∙ ap number_of a.ensures);
       rules_are = written_more _ _ _ _ _ (omega arith) v.rules_are (c.rule-of.ensures ∙ ap rule_of a.ensures);
       length-kept = simp length-set v.length-kept;
       length-kept-2 = simp length-set v.length-kept-2;

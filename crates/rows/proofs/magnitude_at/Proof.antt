@@ -25,7 +25,7 @@ returns c =
     let d = c.before.before in
     let e = d.before.before in
     rw (← magnitude-is _ _ (bits_bound e.requires.0 d.before.shared-slice-known.given e.args.k), d.if1.true)
-    (c.magnitude32.ensures ∙ ap nat_abs (to_z-of_z (sfits_of {w = w32} {z = c.before.i32-at.result} c.before.i32-at.type-inv) ∙ c.before.i32-at.ensures))
+    (c.magnitude32.ensures ∙ ap nat_abs (to_z-of_z (sfits_of {w = w32} {z = c.before.i32-at.result} c.before.i32-at.type_inv) ∙ c.before.i32-at.ensures))
 
 returns-2 : tie.Need-returns-2
 unfolding number_at
@@ -33,7 +33,7 @@ returns-2 c =
     let d = c.before.before in
     let e = d.before.before in
     rw (← magnitude-is _ _ (bits_bound e.requires.0 d.before.shared-slice-known.given e.args.k), eight _ e.requires.0.wide d.if1.false)
-    (c.magnitude64.ensures ∙ ap nat_abs (to_z-of_z (sfits_of {w = w64} {z = c.before.i64-at.result} c.before.i64-at.type-inv) ∙ c.before.i64-at.ensures))
+    (c.magnitude64.ensures ∙ ap nat_abs (to_z-of_z (sfits_of {w = w64} {z = c.before.i64-at.result} c.before.i64-at.type_inv) ∙ c.before.i64-at.ensures))
 
 pub magnitude-at-spec : {M : Type 1} → statement M
 magnitude-at-spec =

@@ -16,7 +16,7 @@ inside c = let d = c.before in room d.args.k d.requires.0 refl d.requires.1
 
 returns : tie.Need-returns
 unfolding number_at
-returns c = rw (to_z-of_z (sfits_of {w = w64} {z = c.signed-at.result} c.signed-at.type-inv)) c.signed-at.ensures
+returns c = rw (to_z-of_z (sfits_of {w = w64} {z = c.signed-at.result} c.signed-at.type_inv)) c.signed-at.ensures
 
 pub signed-number-at-spec : {M : Type 1} → statement M
 signed-number-at-spec =

@@ -26,7 +26,7 @@ loop-again c =
     let l = c.before.before in
     let z = c.signed-number-at in (
       omega arith,
-      written_more _ _ _ _ _ (omega arith) l.loop.invariant.1 (to_z-of_z (sfits_of {w = w64} {z = z.result} z.type-inv) ∙ z.ensures),
+      written_more _ _ _ _ _ (omega arith) l.loop.invariant.1 (to_z-of_z (sfits_of {w = w64} {z = z.result} z.type_inv) ∙ z.ensures),
       rw length-set l.loop.invariant.2,
     )
 

@@ -27,7 +27,7 @@ returns-3 : tie.Need-returns-3
 unfolding corner_in check ◌gives◌ ◌then◌
 returns-3 c =
     rw (
-      to_z-of_z (sfits_of {w = w64} {z = c.signed-number-at.result} c.signed-number-at.type-inv),
+      to_z-of_z (sfits_of {w = w64} {z = c.signed-number-at.result} c.signed-number-at.type_inv),
       le-leb _ _ c.before.before.if1.false,
       le-leb _ _ c.before.if2.false,
     )

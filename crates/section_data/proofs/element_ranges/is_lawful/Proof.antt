@@ -8,14 +8,14 @@ use Rattle.section_data.proofs.element_ranges.is_lawful.Statement.{statement}
 use Rattle.section_data.proofs.element_ranges.is_lawful.Tie as tie
 
 returns : tie.Need-returns
-returns c = rw (lawful_is _ _ c.before.before.before.requires.1, sym c.before.type-inv.ensures ∙ not-true _ c.if1.true)
+returns c = rw (lawful_is _ _ c.before.before.before.requires.1, sym c.before.type_inv.ensures ∙ not-true _ c.if1.true)
 
 returns-2 : tie.Need-returns-2
 returns-2 c =
     let y = c.before.before in
     rw (
       lawful_is _ _ y.before.before.before.requires.1,
-      sym y.before.type-inv.ensures ∙ not-false _ y.if1.false,
+      sym y.before.type_inv.ensures ∙ not-false _ y.if1.false,
       sym c.before.shaped.ensures
           ∙ not-true _ c.if2.true,
     )
@@ -25,7 +25,7 @@ not-negative-requires c κs =
     let y = c.before.before in
     let d = y.before.before.before in (
       d.requires.0.0,
-      has_pair _ d.requires.0.0 _ d.requires.0.1 (whole_four _ _ (sym y.before.type-inv.ensures ∙ not-false _ y.if1.false))
+      has_pair _ d.requires.0.0 _ d.requires.0.1 (whole_four _ _ (sym y.before.type_inv.ensures ∙ not-false _ y.if1.false))
           (sym c.before.shaped.ensures ∙ not-false _ c.if2.false),
     )
 
@@ -35,7 +35,7 @@ returns-3 c =
     let y = p.before.before in
     rw (
       lawful_is _ _ y.before.before.before.requires.1,
-      sym y.before.type-inv.ensures ∙ not-false _ y.if1.false,
+      sym y.before.type_inv.ensures ∙ not-false _ y.if1.false,
       sym p.before.shaped.ensures
           ∙ not-false _ p.if2.false,
     )

@@ -9,7 +9,7 @@ use Rattle.types.proofs.arrays.section_array_type.Tie as tie
 
 returns : tie.Need-returns
 unfolding section_array_type
-returns c = rw (sym c.before.before.element_array_lem.ensures ∙ not-true _ c.before.if1.true, ← c.type-inv.ensures)
+returns c = rw (sym c.before.before.element_array_lem.ensures ∙ not-true _ c.before.if1.true, ← c.type_inv.ensures)
 
 returns-2 : tie.Need-returns-2
 unfolding section_array_type

@@ -8,11 +8,11 @@ use Rattle.types.proofs.shapes.text_shape.Tie as tie
 
 returns : tie.Need-returns
 unfolding zone_type_shape
-returns c = and_on c.before.before.type-inv.ensures c.before.if1.true c.flat.ensures
+returns c = and_on c.before.before.type_inv.ensures c.before.if1.true c.flat.ensures
 
 returns-2 : tie.Need-returns-2
 unfolding zone_type_shape
-returns-2 c = c.if1.false ∙ and_done _ c.before.type-inv.ensures c.if1.false
+returns-2 c = c.if1.false ∙ and_done _ c.before.type_inv.ensures c.if1.false
 
 pub text-shape-spec : {M : Type 1} → statement M
 text-shape-spec = tie.close (tie.spec (search rules) (search rules) returns returns-2)

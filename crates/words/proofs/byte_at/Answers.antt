@@ -1,0 +1,10 @@
+-- A byte is below 256.
+use native.Mathlib.Omega.{arith}
+use borrow.Author.Rules.{rules}
+use Rattle.words.proofs.byte_at.Goals as goal
+
+pub overflow_cast-result : goal.overflow_cast-result
+overflow_cast-result c = omega (arith, c.type_inv.s c.args.at)
+
+pub returns : goal.returns
+returns c = omega (arith, c.type_inv.s c.args.at)

@@ -1,0 +1,13 @@
+-- What is left to write gives the whole (`Left`).
+use native.Mathlib.Omega.{arith}
+use borrow.Author.Rules.{rules}
+use Prim.Native.Nat.{◌-◌}
+use lib.ListN.{length, drop}
+use Rattle.words.proofs.Writes.{Left, start, bytes_more, done}
+use Rattle.words.proofs.put_bytes.Given as goal
+
+abbrev pub invariant-loop-k : goal.invariant-loop-k
+invariant-loop-k l = Left l.initial.out l.s l.at l.out l.k (drop l.k l.s)
+
+abbrev pub decreases-loop-k : goal.decreases-loop-k
+decreases-loop-k l = length l.s - l.k

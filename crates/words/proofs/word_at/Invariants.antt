@@ -1,0 +1,12 @@
+-- From the last byte down, what is read is the number of the bytes from here on.
+use native.Mathlib.Omega.{arith}
+use Prim.Native.Nat.{◌≤◌}
+use Rattle.words.proofs.Laws.{Tail, none, room, front, whole}
+use borrow.Author.Rules.{rules}
+use Rattle.words.proofs.word_at.Given as goal
+
+abbrev pub invariant-loop-k : goal.invariant-loop-k
+invariant-loop-k l = (l.k ≤ l.width) × Tail l.s l.at l.width l.k l.r
+
+abbrev pub decreases-loop-k : goal.decreases-loop-k
+decreases-loop-k l = l.k
