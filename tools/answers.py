@@ -98,60 +98,177 @@ def turn(path, d):
             if g is None: say('no goal for Need-%s' % m[2])
             goal_of[m[1]] = g
 
-    used_tie = [False]
+    parent = {plain(p[0]): plain(p[1]) for p in d['places'] if p[1]}
+    old_asked = {n: plain(a[0]) for (o, n), a in zip(d['needs'], d['asked_at'])} if len(d['needs']) == len(d['asked_at']) else {}
+    new_place = {plain(p[0]): newplaces[i] for i, p in enumerate(d['places']) if i < len(newplaces)}
+    arms, own_arms = {}, {}
+    for x in d.get('arms') or []:
+        for field, step, rest in (x[2] if x else []):
+            if field.endswith('-own'):
+                own_arms.setdefault(plain(step), {})[x[0]] = '%s.%s' % (x[0], field)
+                continue
+            arms.setdefault((plain(step),) + tuple(plain(r) for r in rest), '%s.%s' % (x[0], field))
+    pre_fields = (d.get('pre') or {}).get('fields') or []
+    ensures_fields = {}
+    for p, x in zip(d['places'], d.get('clauses') or []):
+        if x and p[2][0]: ensures_fields[plain(p[2][0])] = x['fields']
+    asked_fields = {}
+    for o, n in d['needs']:
+        if o in (d.get('asked') or {}): asked_fields[n] = d['asked'][o]
+    places_used = set()
 
-    def paths(body, top_place, goal):
-        """Steps by their new names; `c` is the record of the goal, one `before` above the one of the walk."""
-        ty = typed.get(top_place, {})
+    def by_clause(words, i, fields):
+        """Clauses by name: words[i:] is a path into pairs that nest to the right."""
+        k, at = i, 0
+        if len(fields) == 1: return words[:i] + fields + words[i:]
+        while at < len(fields) - 1:
+            if k >= len(words): return words
+            if words[k] == '0': return words[:i] + [fields[at]] + words[k + 1:]
+            if words[k] != '1': return words
+            at, k = at + 1, k + 1
+        return words[:i] + [fields[at]] + words[k:]
+
+    def split(last):
+        """The parts of a tuple's text, or None."""
+        last = re.sub(r',\s*\)$', ')', last.strip())
+        if not (last.startswith('(') and last.endswith(')')): return None
+        depth, cuts = 0, []
+        for i, ch in enumerate(last):
+            if ch in '([{': depth += 1
+            if ch in ')]}':
+                depth -= 1
+                if depth == 0 and i < len(last) - 1: return None
+            if ch == ',' and depth == 1: cuts.append(i)
+        if not cuts: return None
+        ends = [0] + cuts + [len(last) - 1]
+        return [last[p + 1:q].strip() for p, q in zip(ends, ends[1:])]
+
+    def as_record(body, g):
+        """A tuple of clauses as a record of them."""
+        fields = asked_fields.get(g)
+        if not fields: return body
+        text = body.rstrip()
+        end = max(text.rfind(' in\n'), text.rfind(' in ('))
+        last = text[end + 3:].lstrip() if end >= 0 else text.lstrip()
+        lead = text[:len(text) - len(last)]
+        items = []
+        while len(items) < len(fields) - 1:
+            parts = split(last)
+            if not parts or len(parts) != 2: break
+            items.append(parts[0])
+            last = parts[1]
+        if len(items) != len(fields) - 1:
+            say('clauses of %s by hand: %s' % (g, fields)); return body
+        items.append(last)
+        return lead + 'record { ' + ' '.join('%s = %s;' % (a, b) for a, b in zip(fields, items)) + ' }'
+
+    PATH = r"((?:\.(?!before\b)%s+)+)" % W
+
+    def ancestors(p):
+        while p:
+            yield p
+            p = parent.get(p)
+
+    def paths(body, goal, params):
+        """A body by today's names. `c` is the record of the goal; params are helpers' parameters with their places."""
+        place = dict(params)
+        if goal: place['c'] = old_asked.get(goal)
         for old, g in goal_of.items():
             if g and old != g: body = re.sub(r"(?<![\w.'-])%s(?![\w'-])" % re.escape(old), g, body)
-        if goal:
-            # a name for an earlier record, of which only fields are read, is the record of the goal
-            while True:
-                m = next((m for m in re.finditer(r"let (%s+) = c(?:\.before)* in\s*" % W, body)
-                    if not re.search(r"(?<![\w.'-])%s(?:\.before)*(?![\w.'-])" % re.escape(m[1]), body[m.end():])
-                    and not re.search(r"let %s =|λ [^.]*\b%s\b[^.]*\." % (re.escape(m[1]), re.escape(m[1])), body[:m.start()] + body[m.end():])), None)
-                if not m: break
-                body = body[:m.start()] + re.sub(r"(?<![\w.'-])%s(?=\.)" % re.escape(m[1]), 'c', body[m.end():])
-        vars_in = set(re.findall(r'let (%s+) = %s(?:\.before)*\s+in' % (W, r'(?:c|d|e|f|g|l|u|s|r|k|x|y|w|q|v|a|b|h|m|n|p|t)[0-9]?'), body))
+        # names for parts of a record, of which only fields are read: the parts themselves, the last first
+        for _ in range(40):
+            found = None
+            known = set(place)
+            for k in re.finditer(r"let (%s+) = (%s+)((?:\.%s+)*)\s+in\s*" % (W, W, W), body):
+                if k[2] not in known: continue
+                name, rest = k[1], body[k.end():]
+                last = k[3].split('.')[-1]
+                if last == 'before' or not k[3]: known.add(name)
+                whole = last == 'before' or not k[3] or last in ('given',) or (last in ('pre', 'requires') and len(pre_fields) > 1) or any(plain(q) in {s for s, *_ in arms} for q in k[3].split('.'))
+                if not whole: continue
+                if re.search(r"(?<![\w.'-])let %s =|λ [^.]*(?<![\w.'-])%s(?![\w'-])[^.]*\." % (re.escape(name), re.escape(name)), body[:k.start()] + rest): continue
+                if re.search(r"(?<![\w.'-])%s(?:\.before)*(?![\w.'-])" % re.escape(name), rest): continue
+                found = k
+            if not found: break
+            m = found
+            body = body[:m.start()] + re.sub(r"(?<![\w.'-])%s(?=\.)" % re.escape(m[1]), m[2] + m[3], body[m.end():])
 
-        def dotted(m):
-            var, rest, field = m[1], m[2], m[3]
-            after = body_ref[0][m.end():]
-            if field == 'before': return m[0]
-            base = var
-            step = lookup(steps, field)
-            if step and var == 'c' and goal:
-                g = re.match(r'\.given\b', after)
-                v = ty.get(plain(step)) or ty.get(plain(field))
-                if g and v: return 'c.type_inv.%s@@' % v
-            if step is None:
-                return '%s.%s' % (base, field)
-            return '%s.%s' % (base, step)
+        def field(m):
+            var, words = m[1], m[2].split('.')[1:]
+            if var not in place and not any(w == 'before' for w in words): return m[0]
+            words = [w for w in words if w != 'before']
+            if not words: return m[0]
+            key = [plain(w) for w in words]
+            step = lookup(steps, words[0])
+            oldstep = next((n for n in variants(words[0]) if n in steps), None)
+            if oldstep or key[0] == 'match':
+                for cut in range(len(key), 0, -1):
+                    hit = arms.get(tuple([oldstep or key[0]] + key[1:cut]))
+                    if hit: return '.'.join([var, hit] + words[cut:])
+            own = own_arms.get(oldstep or key[0])
+            if own and len(own) == 1 and key[0] != 'match': return '.'.join([var, list(own.values())[0]] + words[1:])
+            if key[0] == 'match' and own:
+                ins = [re.sub(r'-\d+$', '', new_place[p]) for p in ancestors(place.get(var)) if new_place.get(p, '').startswith('In')]
+                for i in ins:
+                    hit = own.get('in' + i[2:])
+                    if hit: return '.'.join([var, hit] + words[1:])
+            if key[0].startswith('enum_told') and key[1:3] == ['given', '1']:
+                ins = [new_place[p] for p in ancestors(place.get(var)) if new_place.get(p, '').startswith('In-')]
+                if ins: return '.'.join([var, 'in' + re.sub(r'-\d+$', '', ins[0])[2:], 'is'] + words[3:])
+            if step:
+                if words[1:2] == ['given'] and var == 'c' and goal:
+                    v = typed.get(new_place.get(place.get('c')), {}).get(oldstep)
+                    if v: return '.'.join([var, 'type_inv', v] + words[2:])
+                words[0] = step
+                if words[1:2] == ['taken']: words[1] = 'true'
+                if words[1:2] == ['left'] and not step.startswith('loop'): words[1] = 'false'
+                if words[1:2] == ['ensures'] and ensures_fields.get(oldstep): words = by_clause(words, 2, ensures_fields[oldstep])
+                if words[1:2] == ['kept']: words[1] = 'auto'
+                if words[1:2] == ['inv']: words[1] = 'invariant'
+            elif words[0] in ('pre', 'requires'):
+                words[0] = 'requires'
+                if len(pre_fields) > 1: words = by_clause(words, 1, pre_fields)
+            return '.'.join([var] + words)
 
-        body_ref = [body]
-        # a path that ends in a field
-        body = re.sub(r"(?<![\w.'-])(%s)((?:\.before)*)\.((?!before\b)%s+)" % (r'[a-z][0-9]?', W), lambda m: dotted(m) if (m[1] == 'c' or m[1] in vars_in or m[1] in extra or '.before' in m[2] or lookup(steps, m[3])) else m[0], body)
-        body = re.sub(r'@@\.given\b', '', body)
-        # steps behind a call of a helper
-        body = re.sub(r"\)((?:\.before)*)\.(%s+)" % W, lambda m: ').' + lookup(steps, m[2]) if lookup(steps, m[2]) else m[0], body)
+        body = re.sub(r"(?<![\w.'-])(%s+)((?:\.%s+)+)" % (r'[A-Za-z][\w₀-₉\']*', W), field, body)
+        body = re.sub(r"\)((?:\.before)*)\.(%s+)((?:\.%s+)*)" % (W, W), lambda m: field_behind(m), body) if steps else body
+
         # whole records handed on
-        if goal: body = re.sub(r"(?<![\w.'-])c((?:\.before)+)(?![\w.'-])", r'c.before\1', body)
-        if goal: body = re.sub(r"(?<![\w.'-])c(?![\w.'-])", 'c.before', body)
+        def whole(m):
+            var, hops = m[1], m[2].count('.before')
+            p = place.get(var)
+            if var not in place or not p: return m[0]
+            for _ in range(hops): p = parent.get(p)
+            if not p: return m[0]
+            if hops == 0: return var
+            places_used.add(new_place[p])
+            if goal and var == 'c': return '(goal.at.%s c).%s' % (goal, new_place[p])
+            return '%s.%s' % (var, new_place[p])
+
+        body = re.sub(r"(?<![\w.'-])([a-z][\w₀-₉']*)((?:\.before)*)(?![\w.'-])", whole, body)
         body = re.sub(r' κs\b', '', body)
+        # a test of `!x` says what it says of x
+        body = re.sub(r"not-(?:true|false) _ ([^\s()]*\.if-not-[^\s(),]+)", r'\1', body)
         return body
 
-    extra = set()
+    def field_behind(m):
+        step = lookup(steps, m[2])
+        if not step: return m[0]
+        rest = m[3].replace('.taken', '.true').replace('.left', '.false').replace('.kept', '.auto')
+        return ').' + step + rest
 
     def types(t):
         def one(m):
-            n = lookup(places, m[1])
+            n = lookup(new_place, m[1])
             if n is None: return m[0]
-            used_tie[0] = True
-            return 'tie.' + n
-        t = re.sub(r'tie\.((?:After|In|Then|Else|At|Start|Here|Joined|Join|Out|Past)%s*)' % W, one, t)
-        if 'tie.' in t: used_tie[0] = True
-        return t
+            places_used.add(n)
+            return n
+        t = re.sub(r'(tie\.%s+)((?: (?:invariant|decreases)-loop%s*)+)' % (W, W), r'\1', t)
+        return re.sub(r'tie\.((?:After|In|Then|Else|At|Start|Here|Joined|Join|Out|Past)%s*)' % W, one, t)
+
+    def typed_params(t):
+        return {v: next((n for n in variants(p) if n in parent or n in new_place), None)
+            for vs, p in re.findall(r'[({]((?:%s+ )+): tie\.(%s+)' % (W, W), t) for v in vs.split()}
 
     inv_out, ans_out, used_goals = [], [], set()
     for b in decls:
@@ -185,6 +302,8 @@ def turn(path, d):
             continue
         if re.match(r'pub \S+ : \{M : Type 1\} → statement M', body):
             args = spec_args(body)
+            opened = re.findall(r'(?m)^unfolding [^\n]*$', body)
+            opened = opened[0] + '\n' if opened else ''
             nl = 2 * len(loops)
             inv = sum(1 for a in args if re.match(r'(invariant|decreases)-', a))
             goals = args[inv:]
@@ -210,11 +329,10 @@ def turn(path, d):
                 mm = re.match(r'\(λ ([^.]*)\. (.*)\)$', a, flags=re.S)
                 if mm:
                     arg, bb = mm[1].split()[0], mm[2]
-                    extra.clear()
                     if arg != 'c': bb = re.sub(r"(?<![\w.'-])%s(?![\w'-])" % re.escape(arg), 'c', bb)
-                    ans_out.append('pub %s : goal.%s\n%s c = %s' % (g, g, g, types(paths(bb, asked.get(g), True))))
+                    ans_out.append('pub %s : goal.%s\n%s%s c = %s' % (g, g, opened, g, as_record(types(paths(bb, g, {})), g)))
                 else:
-                    ans_out.append('pub %s : goal.%s\n%s c = %s' % (g, g, g, types(paths(a, asked.get(g), True))))
+                    ans_out.append('pub %s : goal.%s\n%s%s c = %s' % (g, g, opened, g, as_record(types(paths(a, g, {})), g)))
                 used_goals.add(g)
             continue
         m = re.match(r'(?:pub )?(%s+) : tie\.Need-(%s+)([^\n]*)\n((?:unfolding [^\n]*\n)?)' % (W, W), body)
@@ -230,16 +348,13 @@ def turn(path, d):
             if not params: bb = ' λ c. ' + bb if False else bb
             if g is None:
                 say('lost: ' + m[1]); continue
-            extra.clear()
             if re.fullmatch(r'\s*search rules', bb): continue
             if g in used_goals: say('twice: ' + g); continue
             used_goals.add(g)
             lhs = '%s c =' % g if params else '%s =' % g
-            ans_out.append('\n'.join(comment + ['pub %s : goal.%s' % (g, g)] + ([m[4].rstrip('\n')] if m[4] else []) + [lhs + types(paths(bb, asked.get(g), True))]))
+            ans_out.append('\n'.join(comment + ['pub %s : goal.%s' % (g, g)] + ([m[4].rstrip('\n')] if m[4] else []) + [lhs + as_record(types(paths(bb, g, {})), g)]))
             continue
-        extra.clear()
-        extra.update(v for v in re.findall(r'[({](%s+) : tie\.' % W, body))
-        ans_out.append('\n'.join(comment + [types(paths(body, None, False))]))
+        ans_out.append('\n'.join(comment + [types(paths(body, None, typed_params(body)))]))
     out = '\n\n'.join(ans_out)
     for old, g in goal_of.items():
         if g and re.search(r"(?<![\w.'-])%s(?![\w'-])" % re.escape(g), re.sub(r'(?m)^(pub )?%s( c)?( :| =)' % re.escape(g), '', out).replace('goal.' + g, '')): say('an answer is cited: ' + g)
@@ -249,6 +364,8 @@ def turn(path, d):
             f.write('\n'.join(head + uses + ['use %s.Given as goal' % mod]) + '\n\n' + '\n\n'.join(inv_out) + '\n')
     if ans_out:
         extra_use = ['use %s.Tie as tie' % mod] if 'tie.' in out else []
+        names_used = [p for p in sorted(places_used) if re.search(r"(?<![\w'-])%s(?![\w'-])" % re.escape(p), out)]
+        if names_used: extra_use.append('use %s.Goals.{%s}' % (mod, ', '.join(names_used)))
         with open(os.path.join(folder, rel, 'Answers.antt'), 'w') as f:
             f.write('\n'.join(head + uses + ['use %s.Goals as goal' % mod] + extra_use) + '\n\n' + out + '\n')
     os.remove(file)

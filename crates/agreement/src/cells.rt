@@ -6,7 +6,7 @@ ghost use Rattle.agreement.specs.Arrays.{Filled, AtMost};
 use rows::Row;
 
 // A cell: its place among those of its section, and where its entries end.
-#[derive(Drop)]
+#[derive(Clone, Copy)]
 pub struct Cell {
     pub place: usize,
     pub end: u64,

@@ -1,4 +1,6 @@
 // Answers for C: a rule and words, and words into lent bytes.
+#![tactic(auto)]
+
 ghost use Rattle.std.specs.Prelude.{◌≡◌, [], ◌∷◌, ◌*◌, ◌≤◌, length, take};
 ghost use Rattle.std.specs.Int.{w64};
 ghost use Rattle.std.proofs.Common.{of_z};
@@ -13,7 +15,7 @@ use model::{
 };
 
 // A rule, 0 for none, and up to six words: the node, the entry, and the values.
-#[derive(Drop)]
+#[derive(Clone, Copy)]
 pub struct ExportAnswer {
     pub rule: u64,
     pub words: [u64; 6],

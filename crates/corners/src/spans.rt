@@ -9,7 +9,7 @@ use model::Section;
 use rows::{Row, half_of, inside, number_at};
 
 // Numbers of a connectivity: from `start` on and before `end`, counted from 0.
-#[derive(Drop)]
+#[derive(Clone, Copy)]
 pub enum Span {
     Range { start: u64, end: u64 },
     Unreadable,

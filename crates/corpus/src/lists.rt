@@ -5,7 +5,7 @@ use super::print;
 use model::{Count, Section};
 
 // What the call answers, and the list afterwards.
-#[derive(Drop)]
+#[derive(Clone, Copy)]
 struct Listed {
     answer: Count,
     list: [Section; 16],

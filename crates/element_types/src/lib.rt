@@ -1,4 +1,6 @@
 // Element types by their number: nodes per element, which types have start offsets, which are supported; the length of an element of a MIXED section.
+#![tactic(auto)]
+
 ghost use Rattle.std.specs.Prelude.{◌≡◌, ◌≤◌, ◌||◌, eqb};
 ghost use Rattle.model.specs.Elements.{NGON, NFACE, nodes_per, has_offsets, taken, fits_length};
 

@@ -1,4 +1,6 @@
 // Section entries as numbers and as bytes: written to a list of numbers, read from one, read from bytes.
+#![tactic(auto)]
+
 ghost use Rattle.std.specs.Prelude.{◌≡◌, ◌+◌, ◌≤◌, ◌<◌, length};
 ghost use Rattle.std.proofs.lemmas.List.Edits.{sets};
 ghost use Rattle.model.specs.Sections.{entry_length, entry_numbers};

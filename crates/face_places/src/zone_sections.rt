@@ -8,7 +8,7 @@ ghost use Rattle.index.specs.Index.{Index};
 ghost use Rattle.face_places.specs.ZoneSections.{Section, Spans};
 
 // The first and the last element of a section.
-#[derive(Drop)]
+#[derive(Clone, Copy)]
 pub struct Span {
     pub first: u64,
     pub last: u64,

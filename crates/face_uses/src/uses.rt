@@ -20,7 +20,7 @@ use rows::{Row, is_negative, magnitude_at};
 use usage_bytes::use_face;
 
 // The faces of a zone in the tables: how many entries there are, and the tree by which they are guessed.
-#[derive(Drop)]
+#[derive(Clone, Copy)]
 pub struct Faces {
     pub zone: usize,
     pub count: usize,

@@ -7,7 +7,7 @@ ghost use Rattle.model.specs.Answers.{rejection_of};
 
 // Why a call is refused: the rule's number, the node (0 where the rule names none), for rules 34 to 37 alone the place of the entry in the connectivity,
 // counted from 1, and for rule 45 alone the element.
-#[derive(Drop)]
+#[derive(Clone, Copy)]
 pub struct Rejection {
     pub rule: u64,
     pub node: u64,
@@ -54,7 +54,7 @@ impl Rejection {
 }
 
 // One stage of validation.
-#[derive(Drop)]
+#[derive(Clone, Copy)]
 pub enum Stage {
     Pass,
     Rejected(Rejection),
@@ -73,7 +73,7 @@ impl Stage {
 }
 
 // Rules 1 to 18: the table's counts.
-#[derive(Drop)]
+#[derive(Clone, Copy)]
 pub enum Table {
     Sound {
         nodes: u64,
@@ -84,7 +84,7 @@ pub enum Table {
 }
 
 // Validation of an image: the four counts of an acceptance.
-#[derive(Drop)]
+#[derive(Clone, Copy)]
 pub enum Validation {
     Accepted {
         validated: u64,
@@ -96,14 +96,14 @@ pub enum Validation {
 }
 
 // One number: a path's length in bytes, the section entries written, the corners of an element, an element's own type, the name bytes compared.
-#[derive(Drop)]
+#[derive(Clone, Copy)]
 pub enum Count {
     Of(u64),
     Rejected(Rejection),
 }
 
 // The DataSize of an array in the directions i, j, k; a direction that the array lacks is 0.
-#[derive(Drop)]
+#[derive(Clone, Copy)]
 pub enum DataSize {
     Sizes {
         directions: u64,
@@ -115,14 +115,14 @@ pub enum DataSize {
 }
 
 // The number stored at an element's corner: a node number, or a signed face number.
-#[derive(Drop)]
+#[derive(Clone, Copy)]
 pub enum Corner {
     Number(i64),
     Rejected(Rejection),
 }
 
 // A stored value, its bits unchanged. A NaN has cases of its own, which carry its bits.
-#[derive(Drop)]
+#[derive(Clone, Copy)]
 pub enum ArrayValue {
     Whole(i64),
     Single(f32),
@@ -133,21 +133,21 @@ pub enum ArrayValue {
 }
 
 // Face usage: how many faces the zone has.
-#[derive(Drop)]
+#[derive(Clone, Copy)]
 pub enum FaceUsage {
     Faces(u64),
     Rejected(Rejection),
 }
 
 // The two parents of a face, as its section stores them; the second is 0 where there is none.
-#[derive(Drop)]
+#[derive(Clone, Copy)]
 pub enum ParentPair {
     Of { first: u64, second: u64 },
     Rejected(Rejection),
 }
 
 // Whether the parents that a zone's face sections store agree with its cells.
-#[derive(Drop)]
+#[derive(Clone, Copy)]
 pub enum Agreement {
     Agrees(bool),
     Rejected(Rejection),
@@ -156,7 +156,7 @@ pub enum Agreement {
 // A section entry: where a section's elements stand in the image, and the parents of its faces. Places count from the image's start; 0 with width 0 where
 // absent, and for parents where the section is not of type 22.
 #[repr(C)]
-#[derive(Drop)]
+#[derive(Clone, Copy)]
 pub struct Section {
     pub node: u64,
     pub element_type: u64,

@@ -11,7 +11,7 @@ const HALF: usize = 4096;
 
 // Two runs of nodes, one after the other: the first ends before node `mid` of those after place `from`, the second before node `end`. What they
 // give is put after place `to`.
-#[derive(Drop)]
+#[derive(Clone, Copy)]
 struct Runs {
     from: usize,
     to: usize,

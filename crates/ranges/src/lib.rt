@@ -1,5 +1,7 @@
 // Ranges of numbers in two tables, in ascending order of their first numbers, found by halving; ranges may overlap.
 // Entry j begins with firsts[j]; reach[j] is the greatest last number of the entries up to j.
+#![tactic(auto)]
+
 ghost use Rattle.std.specs.Prelude.{◌≡◌, ℕ, suc, ◌+◌, ◌-◌, ◌<◌, ◌≤◌, min, max, ◌&&◌, ◌∷◌, length, if◌then◌else◌, nat_le, nat_lt, slice_index};
 ghost use Rattle.model.specs.Lists.{some_from};
 ghost use Rattle.ranges.specs.Tables.{key, meets_at, holds, in_ranges, Found, Firsts, Ordered, Begun, Raised, Placed, Inserted, is_within, Covered};
@@ -156,7 +158,7 @@ pub fn find(firsts: &[u64], reach: &[u64], n: usize, guess: usize, f: u64) -> us
 }
 
 // `size` numbers from `low` on.
-#[derive(Drop)]
+#[derive(Clone, Copy)]
 pub struct Interval {
     pub low: u64,
     pub size: u64,

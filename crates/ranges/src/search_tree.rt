@@ -9,14 +9,14 @@ use std::num::wrapping_add_u64;
 
 // A tree: the first entry of its ranges, and how many places its lowest level has, a power of two; 0 where there is no tree. Place 1 is the top, and
 // below place p stand places 2 p and 2 p + 1.
-#[derive(Drop)]
+#[derive(Clone, Copy)]
 pub struct SearchTree {
     pub from: usize,
     pub lowest: usize,
 }
 
 // Four numbers that are looked for.
-#[derive(Drop)]
+#[derive(Clone, Copy)]
 pub struct Four {
     pub a: u32,
     pub b: u32,
@@ -25,7 +25,7 @@ pub struct Four {
 }
 
 // A place of a tree for each of four numbers.
-#[derive(Drop)]
+#[derive(Clone, Copy)]
 pub struct Places {
     pub a: usize,
     pub b: usize,

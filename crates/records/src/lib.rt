@@ -1,5 +1,7 @@
 // The header, the node records, data types, dimension words and stored numbers, read from the image's bytes. A node is read from the bytes of a table
 // (`nodes`), which an image has after its header.
+#![tactic(auto)]
+
 ghost use Rattle.std.specs.Prelude.{◌≡◌, ◌+◌, ◌≤◌, ◌<◌, length, drop};
 ghost use Rattle.model.specs.Image.{tree_of, node_count, record_at, parent};
 ghost use Rattle.model.specs.Bounds.{Laid};
@@ -15,7 +17,7 @@ pub use data::{data_start, dimension, number};
 pub use data_types::{data_type_of, width_at, width_of};
 
 // The header's eight words.
-#[derive(Drop)]
+#[derive(Clone, Copy)]
 pub struct Header {
     pub form: u64,
     pub total_length: u64,
@@ -65,7 +67,7 @@ impl Header {
 }
 
 // How many nodes and dimension words a table has, and how many data bytes belong to it.
-#[derive(Drop)]
+#[derive(Clone, Copy)]
 pub struct TableSize {
     pub nodes: usize,
     pub words: u64,
@@ -96,7 +98,7 @@ pub fn node_table(image: &[u8]) -> &[u8]
 }
 
 // The numbers of a node record, for readers that leave its texts in place.
-#[derive(Drop)]
+#[derive(Clone, Copy)]
 pub struct RecordNumbers {
     pub rank: u64,
     pub first_word: u64,
@@ -116,7 +118,7 @@ impl RecordNumbers {
 }
 
 // A node record: name, label and data type as their bytes, and its numbers.
-#[derive(Drop)]
+#[derive(Clone, Copy)]
 pub struct Record {
     pub name: [u8; 32],
     pub label: [u8; 32],

@@ -1,4 +1,6 @@
 // Rows of numbers of 4 or 8 bytes each in an image: start offsets, connectivities.
+#![tactic(auto)]
+
 ghost use Rattle.std.specs.Prelude.{◌≡◌, ◌-◌, ◌<◌, T};
 ghost use Rattle.model.specs.Lists.{seek_from};
 ghost use Rattle.model.specs.Bytes.{half, negative, magnitude, signed};
@@ -7,7 +9,7 @@ ghost use Rattle.words.specs.Width.{is_width};
 ghost use Rattle.rows.specs.Rows.{Numbers, ends_after_at};
 
 // n numbers of `width` bytes each, from the byte `at` on.
-#[derive(Drop)]
+#[derive(Clone, Copy)]
 pub struct Row {
     pub at: usize,
     pub width: usize,

@@ -59,7 +59,7 @@ pub fn range_if(image: &[u8], index: &[u16], element_type: u64, i: usize) -> usi
 }
 
 // The keys of a section's first and last element.
-#[derive(Drop)]
+#[derive(Clone, Copy)]
 struct Keys {
     first: u64,
     last: u64,

@@ -13,7 +13,7 @@ pub const SEARCHES: usize = 32768;
 
 // What is known of names at a node: the first node with the name of an earlier sibling, where names are in order; and how many nodes
 // searches may still look at.
-#[derive(Drop)]
+#[derive(Clone, Copy)]
 pub struct Walked {
     pub taken: usize,
     pub left: usize,

@@ -1,4 +1,6 @@
 // The bytes of face usage: one for each face, 0 unused, 1 used forward, 2 reversed, 3 both.
+#![tactic(auto)]
+
 ghost use Rattle.std.specs.Prelude.{◌≡◌, ◌++◌, ◌≤◌, ◌<◌, length, get_or, drop, replicate};
 ghost use Rattle.model.specs.FaceUsage.{unused};
 ghost use Rattle.usage_bytes.specs.Marks.{sign_of, after_use};

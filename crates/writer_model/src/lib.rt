@@ -2,7 +2,7 @@
 use model::Rejection;
 
 // A writer's state: nodes, dimension words and data bytes as stated at the start; then how many of each were added so far.
-#[derive(Drop)]
+#[derive(Clone, Copy)]
 pub struct Writer {
     pub nodes: u32,
     pub words: u32,
@@ -13,7 +13,7 @@ pub struct Writer {
 }
 
 // A start or an addition: the state for the next call.
-#[derive(Drop)]
+#[derive(Clone, Copy)]
 pub enum Writing {
     State(Writer),
     Rejected(Rejection),
