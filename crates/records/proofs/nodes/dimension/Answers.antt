@@ -13,7 +13,7 @@ use Rattle.records.proofs.nodes.dimension.Goals.{After-u32_at-first}
 first-is : (c : After-u32_at-first) → let a = c.args in c.u32_at-first.result ≡ (node (records_of a.table.now a.nodes) a.i).first_word
 unfolding node_of
 first-is c =
-    c.u32_at-first.ensures.0 ∙ sym (field _ _ _ c.requires.k_bound.0 (λ (x : Node). x.first_word) (le 4) 68 (λ r. refl))
+    c.u32_at-first.ensures.0 ∙ sym (field _ _ _ c.requires.has_record.1.0 (λ (x : Node). x.first_word) (le 4) 68 (λ r. refl))
 
 pub u64_at-requires : goal.u64_at-requires
 u64_at-requires c = omega (arith, first-is c)
