@@ -184,7 +184,7 @@ def turn(path, d):
                 name, rest = k[1], body[k.end():]
                 last = k[3].split('.')[-1]
                 if last == 'before' or not k[3]: known.add(name)
-                whole = last == 'before' or not k[3] or last in ('given',) or (last in ('pre', 'requires') and len(pre_fields) > 1) or any(plain(q) in {s for s, *_ in arms} for q in k[3].split('.'))
+                whole = last == 'before' or not k[3] or last in ('given',) or (len(pre_fields) > 1 and any(w in ('pre', 'requires') for w in k[3].split('.'))) or any(plain(q) in {s for s, *_ in arms} for q in k[3].split('.'))
                 if not whole: continue
                 if re.search(r"(?<![\w.'-])let %s =|λ [^.]*(?<![\w.'-])%s(?![\w'-])[^.]*\." % (re.escape(name), re.escape(name)), body[:k.start()] + rest): continue
                 if re.search(r"(?<![\w.'-])%s(?:\.before)*(?![\w.'-])" % re.escape(name), rest): continue

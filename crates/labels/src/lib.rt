@@ -1,4 +1,6 @@
 // Labels and containment: the role of a node, which node holds which, the fixed names.
+#![tactic(auto)]
+
 ghost use Rattle.std.specs.Prelude.{◌≡◌, ◌≤◌};
 ghost use Rattle.model.specs.Image.{node_count};
 ghost use Rattle.model.specs.Bounds.{Laid};

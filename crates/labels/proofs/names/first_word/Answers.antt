@@ -1,0 +1,53 @@
+-- Each arm has its name's word.
+use Prim.Native.Nat.{ℕ}
+use mathlib.Core.Path.{◌≡◌, ap, sym}
+use mathlib.Core.List.{[]}
+use lib.ListN.{get_or}
+use native.Mathlib.Omega.{arith}
+use Rattle.model.specs.Bytes.{le, text}
+use Rattle.labels.specs.Padded.{field_word, known_names}
+use Rattle.model.proofs.Logic.{last_arm}
+use Rattle.labels.proofs.names.first_word.Goals as goal
+
+arm : {k n : ℕ} → k ≡ n → field_word (get_or known_names n []) 0 ≡ field_word (get_or known_names k []) 0
+arm e = ap (λ (j : ℕ). field_word (get_or known_names j []) 0) (sym e)
+
+pub returns-in-0 : goal.returns-in-0
+unfolding field_word le known_names text
+returns-in-0 c = arm c.in-0.is
+
+pub returns-in-1 : goal.returns-in-1
+unfolding field_word le known_names text
+returns-in-1 c = arm c.in-1.is
+
+pub returns-in-2 : goal.returns-in-2
+unfolding field_word le known_names text
+returns-in-2 c = arm c.in-2.is
+
+pub returns-in-3 : goal.returns-in-3
+unfolding field_word le known_names text
+returns-in-3 c = arm c.in-3.is
+
+pub returns-in-4 : goal.returns-in-4
+unfolding field_word le known_names text
+returns-in-4 c = arm c.in-4.is
+
+pub returns-in-5 : goal.returns-in-5
+unfolding field_word le known_names text
+returns-in-5 c = arm c.in-5.is
+
+pub returns-in-6 : goal.returns-in-6
+unfolding field_word le known_names text
+returns-in-6 c = arm c.in-6.is
+
+pub returns-in-7 : goal.returns-in-7
+unfolding field_word le known_names text
+returns-in-7 c = arm c.in-7.is
+
+pub returns-in-8 : goal.returns-in-8
+unfolding field_word le known_names text
+returns-in-8 c = arm c.in-8.is
+
+pub returns-in_default : goal.returns-in_default
+unfolding field_word le known_names text
+returns-in_default c = arm (last_arm 9 _ c.in_default.in_default-own.rest (omega arith))

@@ -1,0 +1,42 @@
+-- Word by word, then byte by byte; texts of different lengths differ.
+use native.Mathlib.Nat.{zero-add}
+use Prim.Native.Nat.{ℕ, ◌-◌, ◌+◌}
+use mathlib.Core.Path.{◌≡◌, sym, ap, ◌∙◌}
+use lib.ListN.{drop}
+use Rattle.model.specs.Bytes.{le}
+use Rattle.words.proofs.Same.{Same, same_start, same_more, same_stop, same_more_word, same_stop_word, same-done}
+use Rattle.labels.proofs.Fields.{same-long, same_text}
+use native.Mathlib.Omega.{arith}
+use borrow.Author.Rules.{rules}
+use Rattle.labels.proofs.texts.same_at.Goals as goal
+
+pub returns-then-n-text : goal.returns-then-n-text
+returns-then-n-text c = let a = c.args in same-long a.n a.image.now a.at a.text.now (omega arith) c.if-n-text.true
+
+pub returns-then-u64_at : goal.returns-then-u64_at
+returns-then-u64_at c =
+    same_stop_word c.loop-k.invariant (omega arith) (omega arith) 8 (omega arith) (λ i. omega (arith, c.type_inv.image i))
+    (λ i. omega (arith, c.type_inv.text i)) (rw zero-add (λ e. c.if-u64_at.true
+    (c.u64_at.ensures ∙ e ∙ sym c.u64_at-in-loop-k.ensures)))
+    ∙ same_text _ _ c.if-n-text.false
+
+pub loop-k-preserved : goal.loop-k-preserved
+loop-k-preserved c =
+    same_more_word c.loop-k.invariant (omega arith) (omega arith) 8 (omega arith) (λ i. omega (arith, c.type_inv.image i))
+    (λ i. omega (arith, c.type_inv.text i)) (rw zero-add (sym c.u64_at.ensures ∙ c.if-u64_at.false ∙ c.u64_at-in-loop-k.ensures))
+
+pub returns-then-image-at : goal.returns-then-image-at
+returns-then-image-at c =
+    same_stop c.loop-k-2.invariant (omega arith) (omega arith) (omega arith) (rw zero-add c.if-image-at.true) ∙ same_text _ _ c.if-n-text.false
+
+pub loop-k-2-preserved : goal.loop-k-2-preserved
+loop-k-2-preserved c = same_more c.loop-k-2.invariant (omega arith) (omega arith) (omega arith) (rw zero-add c.if-image-at.false)
+
+pub returns : goal.returns
+returns c = same-done c.loop-k-2.invariant (omega arith) (omega arith) (omega arith) ∙ same_text _ _ c.if-n-text.false
+
+pub loop-k-init : goal.loop-k-init
+loop-k-init c = same_start _ _ _ _ _
+
+pub loop-k-2-init : goal.loop-k-2-init
+loop-k-2-init c = c.loop-k.invariant
