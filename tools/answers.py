@@ -193,6 +193,12 @@ def turn(path, d):
             m = found
             body = body[:m.start()] + re.sub(r"(?<![\w.'-])%s(?=\.)" % re.escape(m[1]), m[2] + m[3], body[m.end():])
 
+        for k in re.finditer(r"let (%s+) = (%s+)((?:\.before)*)\s+in\s*" % (W, W), body):
+            if k[2] not in place: continue
+            p = place[k[2]]
+            for _ in range(k[3].count('.before')): p = parent.get(p) if p else None
+            place.setdefault(k[1], p)
+
         def field(m):
             var, words = m[1], m[2].split('.')[1:]
             if var not in place and not any(w == 'before' for w in words): return m[0]
@@ -270,6 +276,24 @@ def turn(path, d):
         return {v: next((n for n in variants(p) if n in parent or n in new_place), None)
             for vs, p in re.findall(r'[({]((?:%s+ )+): tie\.(%s+)' % (W, W), t) for v in vs.split()}
 
+    # a section's names for earlier records are its parameter itself
+    record_names = {}
+    for n, b in enumerate(decls):
+        m = re.search(r'(?m)^ *module _ \((%s+) : tie\.%s+' % (W, W), b)
+        if not m: continue
+        v = m[1]
+        for k in list(re.finditer(r'\n( *)abbrev (%s+) : tie\.(?!Need)[^\n]*\n *\2 = (%s+)((?:\.before)+)(?=\n)' % (W, W), b)):
+            record_names[k[2]] = (k[3], k[4])
+        for _ in range(4):
+            for a, (o, p) in record_names.items():
+                b = re.sub(r'\n *abbrev %s : tie\.[^\n]*\n *%s = [^\n]*\n?' % (re.escape(a), re.escape(a)), '\n', b)
+                b = re.sub(r"(?<![\w.'-])%s(?=\.)" % re.escape(a), o + p, b)
+        decls[n] = re.sub(r'\n{3,}', '\n\n', b)
+    for n, b in enumerate(decls):
+        for a in record_names:
+            b = re.sub(r"\(%s (%s+)\)(?=\.)" % (re.escape(a), W), r'\1', b)
+            b = re.sub(r"let (%s+) = %s (%s+) in" % (W, re.escape(a), W), r'let \1 = \2 in', b)
+        decls[n] = b
     inv_out, ans_out, used_goals = [], [], set()
     for b in decls:
         lines = b.split('\n')

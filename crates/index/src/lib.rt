@@ -1,4 +1,6 @@
 // The index of the tree: what each node is validated as, and each node's looked_up children.
+#![tactic(auto)]
+
 mod keys; // keys.rt: which slot of its parent a node is for
 mod tables; // tables.rt: the table filled, and asked
 

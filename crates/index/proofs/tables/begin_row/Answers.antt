@@ -6,10 +6,9 @@ use lib.ListN.{length, set, length-set}
 use Rattle.index.proofs.Marking.{row_begun}
 use native.Mathlib.Omega.{arith}
 use borrow.Author.Rules.{rules}
-use Rattle.index.proofs.tables.begin_row.Statement.{statement}
-use Rattle.index.proofs.tables.begin_row.Tie as tie
+use Rattle.index.proofs.tables.begin_row.Goals as goal
 
-returns : tie.Need-returns
+pub returns : goal.returns
 returns c = row_begun c.args.index.now c.args.j c.args.kind c.requires.0.1
 
 -- the lengths of the index after each write
@@ -23,9 +22,11 @@ module _ (s : List ℕ) (a v : ℕ) where
   three : length (set (set (set s a v) (a + 1) 0) (a + 2) 0) ≡ length s
   three = length-set (set (set s a v) (a + 1) 0) (a + 2) 0 ∙ two
 
-pub begin-row-spec : {M : Type 1} → statement M
-begin-row-spec =
-    tie.close (tie.spec (search rules) (search rules) (search rules) (search rules) (search rules) (search rules) (search rules) (search rules)
-    (λ c. rw (one c.args.index.now (4 * c.args.j) (4096 * c.args.kind)) (omega arith)) (search rules) (search rules) (search rules)
-    (λ c. rw (two c.args.index.now (4 * c.args.j) (4096 * c.args.kind)) (omega arith)) (search rules) (search rules) (search rules)
-    (λ c. rw (three c.args.index.now (4 * c.args.j) (4096 * c.args.kind)) (omega arith)) (search rules) returns)
+pub bounds-index-j-2 : goal.bounds-index-j-2
+bounds-index-j-2 c = rw (one c.args.index.now (4 * c.args.j) (4096 * c.args.kind)) (omega arith)
+
+pub bounds-index-j-3 : goal.bounds-index-j-3
+bounds-index-j-3 c = rw (two c.args.index.now (4 * c.args.j) (4096 * c.args.kind)) (omega arith)
+
+pub bounds-index-j-4 : goal.bounds-index-j-4
+bounds-index-j-4 c = rw (three c.args.index.now (4 * c.args.j) (4096 * c.args.kind)) (omega arith)

@@ -6,12 +6,8 @@ use Rattle.labels.specs.Padded.{known_names}
 use Rattle.index.specs.Keys.{key_roles, slot_keys, key_at, key_role, key_name}
 use Rattle.index.proofs.Marking.{slot_child_lem}
 use borrow.Author.Rules.{rules}
-use Rattle.index.proofs.tables.connectivity.Statement.{statement}
-use Rattle.index.proofs.tables.connectivity.Tie as tie
+use Rattle.index.proofs.tables.zone_type.Goals as goal
 
-returns : tie.Need-returns
+pub returns : goal.returns
 unfolding key_role key_name key_at key_roles known_names slot_keys row text
-returns c = let k = c.look_up.ensures in (k.0 ∙ slot_child_lem _ _ _ c.before.before.before.requires.1, k.1)
-
-pub connectivity-spec : {M : Type 1} → statement M
-connectivity-spec = tie.close (tie.spec (λ c κs. search rules) returns)
+returns c = let k = c.look_up.ensures in (k.0 ∙ slot_child_lem _ _ _ c.requires.p_value, k.1)

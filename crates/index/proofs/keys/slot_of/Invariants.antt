@@ -1,0 +1,16 @@
+-- No slot before the first of its role is for the node, and those after it were asked.
+use Prim.Native.Nat.{ℕ, ◌-◌, ◌<◌}
+use mathlib.Core.Path.{◌≡◌, sym, ◌∙◌}
+use mathlib.Core.Bool.{false}
+use Rattle.model.specs.Image.{tree_of}
+use Rattle.index.specs.Keys.{is_key}
+use Rattle.index.proofs.Keyed.{not-before, slot_found, no_slot, not-up-to}
+use native.Mathlib.Omega.{arith}
+use borrow.Author.Rules.{rules}
+use Rattle.index.proofs.keys.slot_of.Given as goal
+
+abbrev pub invariant-loop-k : goal.invariant-loop-k
+invariant-loop-k l = (i : ℕ) → i < 4 → i < l.k → is_key (tree_of l.image) l.above i l.j ≡ false
+
+abbrev pub decreases-loop-k : goal.decreases-loop-k
+decreases-loop-k l = 4 - l.k

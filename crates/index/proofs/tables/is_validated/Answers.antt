@@ -1,0 +1,11 @@
+-- The kind of a validated node is not 0.
+use mathlib.Core.Path.{ap, ◌∙◌}
+use lib.Dec.{ltb}
+use Rattle.index.proofs.Marking.{kind-validated}
+use borrow.Author.Rules.{rules}
+use Rattle.index.proofs.tables.is_validated.Goals as goal
+
+pub returns : goal.returns
+returns c =
+    let p = c.requires in
+    ap (ltb 0) c.kind_of.ensures.0 ∙ kind-validated _ p.0.sound _ p.1
