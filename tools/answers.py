@@ -7,7 +7,7 @@ import json, os, re, sys
 
 crate, names = sys.argv[1], json.load(open(sys.argv[2]))
 only = sys.argv[3:]
-top = os.path.dirname(os.path.dirname(os.path.abspath(__file__)))
+top = os.environ.get('ROOT') or os.path.dirname(os.path.dirname(os.path.abspath(__file__)))
 folder = os.path.join(top, 'crates', crate, 'proofs')
 W = r"[^\s(){}.;,@\"«»`\[\]]"
 
@@ -115,6 +115,10 @@ def turn(path, d):
     asked_fields = {}
     for o, n in d['needs']:
         if o in (d.get('asked') or {}): asked_fields[n] = d['asked'][o]
+    arg_names = {}
+    for o, n in d.get('args') or []:
+        o, n = o.split(), n.split()
+        if len(o) == 2 and len(n) == 2: arg_names[o[0][1:], o[1][1:]] = n[1][1:]
     places_used = set()
 
     def by_clause(words, i, fields):
@@ -157,6 +161,23 @@ def turn(path, d):
             if not parts or len(parts) != 2: break
             items.append(parts[0])
             last = parts[1]
+        if not items and last.startswith('rw ') and last.endswith(')'):
+            depth, i = 0, len(last) - 1
+            while i >= 0:
+                if last[i] in ')]}': depth += 1
+                if last[i] in '([{':
+                    depth -= 1
+                    if depth == 0: break
+                i -= 1
+            head, group = last[:i], last[i:]
+            while len(items) < len(fields) - 1:
+                parts = split(group)
+                if not parts or len(parts) != 2: break
+                items.append(parts[0])
+                group = parts[1]
+            if len(items) == len(fields) - 1:
+                items.append(group)
+                return lead + head + '(record { ' + ' '.join('%s = %s;' % (a, b) for a, b in zip(fields, items)) + ' })'
         if len(items) != len(fields) - 1:
             say('clauses of %s by hand: %s' % (g, fields)); return body
         items.append(last)
@@ -171,7 +192,7 @@ def turn(path, d):
 
     def paths(body, goal, params):
         """A body by today's names. `c` is the record of the goal; params are helpers' parameters with their places."""
-        place = dict(params)
+        place, from_c = dict(params), set()
         if goal: place['c'] = old_asked.get(goal)
         for old, g in goal_of.items():
             if g and old != g: body = re.sub(r"(?<![\w.'-])%s(?![\w'-])" % re.escape(old), g, body)
@@ -198,6 +219,7 @@ def turn(path, d):
             p = place[k[2]]
             for _ in range(k[3].count('.before')): p = parent.get(p) if p else None
             place.setdefault(k[1], p)
+            if k[2] == 'c' or k[2] in from_c: from_c.add(k[1])
 
         def field(m):
             var, words = m[1], m[2].split('.')[1:]
@@ -221,6 +243,8 @@ def turn(path, d):
             if key[0].startswith('enum_told') and key[1:3] == ['given', '1']:
                 ins = [new_place[p] for p in ancestors(place.get(var)) if new_place.get(p, '').startswith('In-')]
                 if ins: return '.'.join([var, 'in' + re.sub(r'-\d+$', '', ins[0])[2:], 'is'] + words[3:])
+            if words[0] == 'type_inv' and words[1:2] == ['ensures'] and 'typed' in steps: words[0], step, oldstep = 'typed', steps['typed'], 'typed'
+            if (words[0], '.'.join(words[1:2])) in arg_names: words[1] = arg_names[words[0], words[1]]
             if step:
                 if words[1:2] == ['given'] and var == 'c' and goal:
                     v = typed.get(new_place.get(place.get('c')), {}).get(oldstep)
@@ -248,10 +272,12 @@ def turn(path, d):
             if not p: return m[0]
             if hops == 0: return var
             places_used.add(new_place[p])
-            if goal and var == 'c': return '(goal.at.%s c).%s' % (goal, new_place[p])
+            if goal and (var == 'c' or var in from_c): return '(goal.at.%s c).%s' % (goal, new_place[p])
             return '%s.%s' % (var, new_place[p])
 
         body = re.sub(r"(?<![\w.'-])([a-z][\w₀-₉']*)((?:\.before)*)(?![\w.'-])", whole, body)
+        for (o, n), v in arg_names.items():
+            if o == 'args': body = re.sub(r'\.%s\b' % n, '.' + v, body)
         body = re.sub(r' κs\b', '', body)
         # a test of `!x` says what it says of x
         body = re.sub(r"not-(?:true|false) _ ([^\s()]*\.if-not-[^\s(),]+)", r'\1', body)
@@ -277,22 +303,26 @@ def turn(path, d):
             for vs, p in re.findall(r'[({]((?:%s+ )+): tie\.(%s+)' % (W, W), t) for v in vs.split()}
 
     # a section's names for earlier records are its parameter itself
-    record_names = {}
+    record_names, defined_in = {}, {}
     for n, b in enumerate(decls):
         m = re.search(r'(?m)^ *module _ \((%s+) : tie\.%s+' % (W, W), b)
         if not m: continue
         v = m[1]
         for k in list(re.finditer(r'\n( *)abbrev (%s+) : tie\.(?!Need)[^\n]*\n *\2 = (%s+)((?:\.before)+)(?=\n)' % (W, W), b)):
             record_names[k[2]] = (k[3], k[4])
+            defined_in[k[2]] = n
         for _ in range(4):
             for a, (o, p) in record_names.items():
                 b = re.sub(r'\n *abbrev %s : tie\.[^\n]*\n *%s = [^\n]*\n?' % (re.escape(a), re.escape(a)), '\n', b)
                 b = re.sub(r"(?<![\w.'-])%s(?=\.)" % re.escape(a), o + p, b)
         decls[n] = re.sub(r'\n{3,}', '\n\n', b)
     for n, b in enumerate(decls):
-        for a in record_names:
-            b = re.sub(r"\(%s (%s+)\)(?=\.)" % (re.escape(a), W), r'\1', b)
-            b = re.sub(r"let (%s+) = %s (%s+) in" % (W, re.escape(a), W), r'let \1 = \2 in', b)
+        for _ in range(4):
+            for a, (o, p) in record_names.items():
+                b = re.sub(r"(?<![\w.'-])%s (\((%s+(?:\.before)*)\)|%s+(?:\.before)*)(?![\w'-])" % (re.escape(a), W, W), lambda m: (m[2] or m[1]) + p if (m[2] or m[1]) not in (':', '=') else m[0], b)
+            b = re.sub(r"(?<=[ (\[])\((%s+(?:\.before)+)\)" % W, r'\1', b)
+            for a, (o, p) in record_names.items():
+                if defined_in[a] == n: b = re.sub(r"(?<![\w.'-])%s(?=\.)" % re.escape(a), o + p, b)
         decls[n] = b
     inv_out, ans_out, used_goals = [], [], set()
     for b in decls:

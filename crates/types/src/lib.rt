@@ -1,4 +1,6 @@
 // Data types, shapes and stored values of a node: what rules 24 and 25 look at.
+#![tactic(auto)]
+
 mod arrays;
 mod lawful;
 mod shapes;

@@ -1,0 +1,6 @@
+-- IndexDimension tells the first dimension.
+use borrow.Author.Rules.{rules}
+use Rattle.types.proofs.lawful.zone_shape.Goals as goal
+
+pub returns : goal.returns
+returns c = rw c.index_dimension.ensures.0 at c.whole_shaped.ensures

@@ -1,0 +1,9 @@
+-- One of the two texts.
+use borrow.Author.Rules.{rules}
+use Rattle.model.specs.Bytes.{text}
+use Rattle.model.specs.Values.{location_value}
+use Rattle.types.proofs.stored_texts.location_value.Goals as goal
+
+pub returns : goal.returns
+unfolding location_value text
+returns c = c.reads_either.ensures

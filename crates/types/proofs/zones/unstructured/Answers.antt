@@ -1,0 +1,10 @@
+-- A ZoneType that reads this text reads a permitted one.
+use mathlib.Core.Path.{◌∙◌}
+use borrow.Author.Rules.{rules}
+use Rattle.model.specs.Bytes.{text}
+use Rattle.types.proofs.ZoneTypes.{is-unstructured}
+use Rattle.types.proofs.zones.unstructured.Goals as goal
+
+pub returns : goal.returns
+unfolding text
+returns c = c.zone_type_reads.ensures ∙ is-unstructured _ _
