@@ -23,7 +23,7 @@ def variants(name):
     if n.endswith('_lem'): yield n[:-4]
     yield n.lower()
     if n.lower().endswith('_lem'): yield n.lower()[:-4]
-    for head in ('overflow_', ):
+    for head in ('overflow_', 'nonzero_', 'offset_', 'nonzero_overflow_'):
         if n.startswith(head): yield n[len(head):]
 
 

@@ -1,4 +1,6 @@
 // The points of a PointRange and of a PointList under a flow solution.
+#![tactic(auto)]
+
 ghost use Rattle.std.specs.Prelude.{◌≡◌, true, cond, ◌+◌, ◌-◌, ◌^◌, ◌≤◌, ◌<◌, T, eqb};
 ghost use Rattle.model.specs.Bytes.{distance};
 ghost use Rattle.model.specs.Image.{tree_of, node_count};

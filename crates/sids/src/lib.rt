@@ -1,4 +1,6 @@
 // Rules 20 to 26: zone sizes, permitted values, conforming children, DataSize.
+#![tactic(auto)]
+
 mod children; // children.rt: conforming children, the parents of a section
 mod data_size; // data_size.rt: DataSize
 mod required; // required.rt: containment and required children

@@ -1,0 +1,32 @@
+-- What is left of the directions decides.
+use Prim.Native.Nat.{◌-◌}
+use borrow.Author.Rules.{rules}
+use Rattle.model.specs.Image.{tree_of}
+use Rattle.model.specs.Values.{direction_lawful, point_range_value}
+use Rattle.model.proofs.Loops.{EveryLeft, every_start, every_more, every_stop, every_done}
+use Rattle.points.proofs.PointRanges.{unlawful, is_lawful}
+use Rattle.points.proofs.point_range_value.Goals as goal
+
+pub dimension_above-n-requires : goal.dimension_above-n-requires
+dimension_above-n-requires c = let p = c.requires in ((p.0, p.1.above), (p.1.inside, p.1.based))
+
+pub loop-d-init : goal.loop-d-init
+unfolding point_range_value
+loop-d-init c = rw (← c.dimension_above-n.ensures.0) (every_start _ _)
+
+pub points_in-requires : goal.points_in-requires
+points_in-requires c =
+    let p = c.requires in
+    let n = c.dimension_above-n.ensures in
+    record { sound = (p.0.sound, p.1); n_value = (n.0, (n.2, c.loop-d-test.true)) }
+
+pub returns-then-points_in-eq0 : goal.returns-then-points_in-eq0
+returns-then-points_in-eq0 c =
+    every_stop c.loop-d.invariant c.loop-d-test.true (unlawful _ _ _ c.points_in.ensures.0 c.if-points_in-eq0.true)
+
+pub loop-d-preserved : goal.loop-d-preserved
+loop-d-preserved c =
+    every_more c.loop-d.invariant c.loop-d-test.true (is_lawful _ _ _ c.points_in.ensures.0 c.if-points_in-eq0.false)
+
+pub returns : goal.returns
+returns c = every_done c.loop-d.invariant c.loop-d-test.false

@@ -1,0 +1,17 @@
+-- What a section looks up has a known label: it can be judged.
+use mathlib.Core.Path.{refl}
+use borrow.Author.Rules.{rules}
+use Rattle.model.specs.Bytes.{text}
+use Rattle.model.specs.Values.{offsets_of}
+use Rattle.model.proofs.Logic.{untrue}
+use Rattle.sids.proofs.Found.{found_ready, conforming_by}
+use Rattle.sids.proofs.children.offsets_of.Goals as goal
+
+pub conforming-requires : goal.conforming-requires
+conforming-requires c =
+    let e = c.offsets.ensures in
+    record { index = (c.requires.index.0, e.1); node_context = λ h. found_ready _ c.requires.index.0.sound _ 11 (text "ElementStartOffset") c.requires.s_value refl untrue e.0 h }
+
+pub returns : goal.returns
+unfolding offsets_of
+returns c = let k = c.conforming.ensures in (conforming_by _ _ 11 (text "ElementStartOffset") c.offsets.ensures.0 k.0, k.1)

@@ -1,0 +1,18 @@
+-- What a flow solution looks up has a known label: it can be judged.
+use mathlib.Core.Path.{refl}
+use Rattle.model.specs.Bytes.{text}
+use Rattle.model.specs.Values.{point_list_of}
+use Rattle.sids.proofs.Found.{found_ready, conforming_by}
+use Rattle.sids.proofs.children.point_list_of.Goals as goal
+
+pub conforming-requires : goal.conforming-requires
+conforming-requires c =
+    let e = c.point_list.ensures in
+    record { index = (c.requires.index.0, e.1); node_context = λ h. found_ready _ c.requires.index.0.sound _ 14 (text "PointList") c.requires.p_value refl (λ z. c.requires.index.1.zone.based) e.0 h }
+
+pub returns : goal.returns
+unfolding point_list_of
+returns c = let k = c.conforming.ensures in (conforming_by _ _ 14 (text "PointList") c.point_list.ensures.0 k.0, k.1)
+
+pub point_list-requires : goal.point_list-requires
+point_list-requires c = record { index = (c.requires.index.0, c.requires.index.1.inside); p_value = c.requires.p_value }

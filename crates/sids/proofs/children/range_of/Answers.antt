@@ -1,0 +1,17 @@
+-- What a section looks up has a known label: it can be judged.
+use mathlib.Core.Path.{refl}
+use borrow.Author.Rules.{rules}
+use Rattle.model.specs.Bytes.{text}
+use Rattle.model.specs.Values.{range_of}
+use Rattle.model.proofs.Logic.{untrue}
+use Rattle.sids.proofs.Found.{found_ready, conforming_by}
+use Rattle.sids.proofs.children.range_of.Goals as goal
+
+pub conforming-requires : goal.conforming-requires
+conforming-requires c =
+    let e = c.range.ensures in
+    record { index = (c.requires.index.0, e.1); node_context = λ h. found_ready _ c.requires.index.0.sound _ 8 (text "ElementRange") c.requires.s_value refl untrue e.0 h }
+
+pub returns : goal.returns
+unfolding range_of
+returns c = let k = c.conforming.ensures in (conforming_by _ _ 8 (text "ElementRange") c.range.ensures.0 k.0, k.1)

@@ -1,0 +1,39 @@
+-- Each direction by itself: the inner size and the two rind numbers.
+use mathlib.Core.Path.{refl}
+use mathlib.Core.Logic.{⊎_elim}
+use borrow.Author.Rules.{rules}
+use Rattle.model.specs.Bytes.{text}
+use Rattle.sids.proofs.Found.{found_ready, conforming_by}
+use Rattle.sids.proofs.data_size.data_sizes.Goals as goal
+use Rattle.sids.proofs.data_size.data_sizes.Goals.{After-conforming-rind}
+
+pub conforming-rind-requires : goal.conforming-rind-requires
+conforming-rind-requires c =
+    let e = c.rind.ensures in record {
+      index = (c.requires.index.0, e.1);
+      node_context = λ h. ⊎_elim (λ q. found_ready _ c.requires.index.0.sound _ 9 (text "Rind") q refl (λ z. c.requires.index.1.held.zone.based) e.0 h)
+          (λ q. found_ready _ c.requires.index.0.sound _ 9 (text "Rind") q refl (λ z. c.requires.index.1.held.zone.based) e.0 h) c.requires.index.1.kind-is;
+    }
+
+pub data_size_at-i-requires : goal.data_size_at-i-requires
+unfolding text
+data_size_at-i-requires c =
+    let j = c.conforming-rind.ensures in
+    let e = conforming_by _ _ 9 (text "Rind") c.rind.ensures.0 j.0 in
+    record { sound = (c.requires.index.0.sound, c.requires.index.1.held); rind_value = (e, c.requires.n_value.0); rind_bound = (j.1, (c.requires.n_value.1, search rules)); inner_value = c.inner_sizes-inner.ensures }
+
+pub data_size_at-j-requires : goal.data_size_at-j-requires
+data_size_at-j-requires c =
+    let r = data_size_at-i-requires (goal.at.data_size_at-j-requires c).After-conforming-rind in
+    record { sound = r.0; rind_value = r.1.0; rind_bound = (r.1.1.0.0, (r.1.1.0.1.0, search rules)); inner_value = r.1.1.1 }
+
+pub data_size_at-k-requires : goal.data_size_at-k-requires
+data_size_at-k-requires c =
+    let r = data_size_at-i-requires (goal.at.data_size_at-k-requires c).After-conforming-rind in
+    record { sound = r.0; rind_value = r.1.0; rind_bound = (r.1.1.0.0, (r.1.1.0.1.0, search rules)); inner_value = r.1.1.1 }
+
+pub returns : goal.returns
+returns c = rw (c.data_size_at-i.ensures, c.data_size_at-j.ensures, c.data_size_at-k.ensures)
+
+pub rind-requires : goal.rind-requires
+rind-requires c = record { index = (c.requires.index.0, c.requires.index.1.held.inside); fact = c.requires.index.1.kind-is }

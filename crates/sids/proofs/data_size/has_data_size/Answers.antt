@@ -1,0 +1,26 @@
+-- Only a flow solution has a PointRange or a PointList that conforms.
+use mathlib.Core.Path.{sym, ap, ◌∙◌}
+use mathlib.Core.Logic.{⊎_elim}
+use native.Mathlib.Omega.{arith}
+use borrow.Author.Rules.{rules}
+use Rattle.model.specs.Image.{tree_of}
+use Rattle.model.specs.Values.{shaped}
+use Rattle.index.proofs.Marking.{kind_parts}
+use Rattle.sids.proofs.DataSizes.{coordinate_sizes}
+use Rattle.sids.proofs.data_size.has_data_size.Goals as goal
+
+pub returns-then-kind_of-eq-FLOW_SOLUTION : goal.returns-then-kind_of-eq-FLOW_SOLUTION
+returns-then-kind_of-eq-FLOW_SOLUTION c = c.flow_sized.ensures
+
+pub returns : goal.returns
+returns c =
+    let t = tree_of c.args.image.now in
+    c.zone_sized.ensures
+    ∙ ap (shaped t c.args.i) (⊎_elim (λ q. sym (coordinate_sizes t c.args.p (kind_parts t c.args.p q (omega arith)).1))
+    (λ q. absurd (c.if-kind_of-eq-FLOW_SOLUTION.false (c.kind_of.ensures.0 ∙ q))) c.requires.index.1.kind-is)
+
+pub kind_of-requires : goal.kind_of-requires
+kind_of-requires c = (c.requires.index.0, c.requires.index.1.held.inside)
+
+pub flow_sized-requires : goal.flow_sized-requires
+flow_sized-requires c = record { index = c.requires.index; p_value = (sym c.kind_of.ensures.0 ∙ c.if-kind_of-eq-FLOW_SOLUTION.true, c.requires.i_bound) }

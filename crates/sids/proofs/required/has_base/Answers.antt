@@ -1,0 +1,25 @@
+-- What is left of the nodes decides.
+use native.Mathlib.Omega.{arith}
+use Prim.Native.Nat.{◌-◌}
+use mathlib.Core.Path.{sym, ◌∙◌}
+use borrow.Author.Rules.{rules}
+use Rattle.model.specs.Image.{tree_of}
+use Rattle.model.specs.Lists.{some_from}
+use Rattle.model.specs.Values.{base_child}
+use Rattle.model.proofs.Loops.{SomeLeft, some_start, some_more, some_stop, some-done}
+use Rattle.sids.proofs.required.has_base.Goals as goal
+
+pub loop-j-init : goal.loop-j-init
+loop-j-init c = some_start _ _ 0 (search rules) (λ j h. absurd (omega arith))
+
+pub returns-then-base_child : goal.returns-then-base_child
+returns-then-base_child c =
+    rw (← c.node_count-n.ensures.0) (some_stop c.loop-j.invariant c.loop-j-test.true
+    (sym c.base_child.ensures ∙ c.if-base_child.true))
+
+pub loop-j-preserved : goal.loop-j-preserved
+loop-j-preserved c = some_more c.loop-j.invariant c.loop-j-test.true (sym c.base_child.ensures ∙ c.if-base_child.false)
+
+pub returns : goal.returns
+returns c =
+    rw (← c.node_count-n.ensures.0) (some-done c.loop-j.invariant c.loop-j-test.false)

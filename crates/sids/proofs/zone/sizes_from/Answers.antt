@@ -1,0 +1,6 @@
+-- Direction by direction.
+use borrow.Author.Rules.{rules}
+use Rattle.sids.proofs.zone.sizes_from.Goals as goal
+
+pub returns : goal.returns
+returns c = rw (c.size_at-i.ensures, c.size_at-j.ensures, c.size_at-k.ensures)
