@@ -25,12 +25,12 @@ data_size_at-i-requires c =
 pub data_size_at-j-requires : goal.data_size_at-j-requires
 data_size_at-j-requires c =
     let r = data_size_at-i-requires (goal.at.data_size_at-j-requires c).After-conforming-rind in
-    record { sound = r.0; rind_value = r.1.0; rind_bound = (r.1.1.0.0, (r.1.1.0.1.0, search rules)); inner_value = r.1.1.1 }
+    record { sound = r.sound; rind_value = r.rind_value; rind_bound = (r.rind_bound.0, (r.rind_bound.1.0, search rules)); inner_value = r.inner_value }
 
 pub data_size_at-k-requires : goal.data_size_at-k-requires
 data_size_at-k-requires c =
     let r = data_size_at-i-requires (goal.at.data_size_at-k-requires c).After-conforming-rind in
-    record { sound = r.0; rind_value = r.1.0; rind_bound = (r.1.1.0.0, (r.1.1.0.1.0, search rules)); inner_value = r.1.1.1 }
+    record { sound = r.sound; rind_value = r.rind_value; rind_bound = (r.rind_bound.0, (r.rind_bound.1.0, search rules)); inner_value = r.inner_value }
 
 pub returns : goal.returns
 returns c = rw (c.data_size_at-i.ensures, c.data_size_at-j.ensures, c.data_size_at-k.ensures)

@@ -43,8 +43,8 @@ returns-then-range-count c =
 
 -- no PointRange conforms, and the PointList is looked up
 module _ (c : After-point_list_of-list) where
-  no_range : node_count (b ranged) ≤ point_range_of (tree_of (b ranged)) (p ranged)
-  no_range = rw (← c.point_range_of-range.ensures.0, ← count ranged) c.if-range-count.false
+  no_range : node_count c.args.image.now ≤ point_range_of (tree_of c.args.image.now) c.args.p
+  no_range = rw (← c.point_range_of-range.ensures.0, ← c.node_count-count.ensures.0) c.if-range-count.false
 
 pub dimension-requires : goal.dimension-requires
 dimension-requires c =

@@ -22,11 +22,6 @@ kind_of-kind-requires c =
 
 -- the parent, and its kind
 module _ (c : After-kind_of-kind) where
-  up-known : {k : ℕ} → c.kind_of-kind.result ≡ k
-      → (Index c.args.image.now c.args.index.now × (c.parent_of-up.result < node_count c.args.image.now))
-      × (kind (tree_of c.args.image.now) c.parent_of-up.result ≡ k)
-  up-known e = (kind_of-kind-requires c.After-parent_of-up c.lifetimes, sym c.kind_of-kind.ensures.0 ∙ e)
-
   under : {k : ℕ} → c.kind_of-kind.result ≡ k
       → is_required (tree_of c.args.image.now) c.args.i ≡ required_under (tree_of c.args.image.now) k c.args.i
   unfolding is_required
@@ -58,10 +53,19 @@ unfolding row
 returns-in_default c = rw (under (goal.at.returns-in_default c).After-kind_of-kind refl, ne_eqb _ 3 c.in_default.in_default-own.rest.0.1, ne_eqb _ 7 c.in_default.in_default-own.rest.1)
 
 pub zone_type-requires : goal.zone_type-requires
-zone_type-requires c = up-known (goal.at.zone_type-requires c).After-kind_of-kind c.in-3.is
+zone_type-requires c = record {
+  index = (c.requires.0, parent-inside _ _ c.requires.0.sound c.requires.1 c.if-i-eq0.false c.parent_of-up.ensures.0);
+  p_value = sym c.kind_of-kind.ensures.0 ∙ c.in-3.is;
+}
 
 pub range-requires : goal.range-requires
-range-requires c = up-known (goal.at.range-requires c).After-kind_of-kind c.in-7.is
+range-requires c = record {
+  index = (c.requires.0, parent-inside _ _ c.requires.0.sound c.requires.1 c.if-i-eq0.false c.parent_of-up.ensures.0);
+  p_value = sym c.kind_of-kind.ensures.0 ∙ c.in-7.is;
+}
 
 pub connectivity-requires : goal.connectivity-requires
-connectivity-requires c = let m = (goal.at.connectivity-requires c).In-7 in up-known (goal.at.connectivity-requires c).After-kind_of-kind m.in-7.is
+connectivity-requires c = record {
+  index = (c.requires.0, parent-inside _ _ c.requires.0.sound c.requires.1 c.if-i-eq0.false c.parent_of-up.ensures.0);
+  p_value = sym c.kind_of-kind.ensures.0 ∙ c.in-7.is;
+}

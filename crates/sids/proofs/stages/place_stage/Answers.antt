@@ -53,7 +53,7 @@ pub placed-requires : goal.placed-requires
 placed-requires c =
     let u = role_of-above-requires (goal.at.placed-requires c).After-parent_of-up in
     let r = c.role_of-above.ensures in
-    record { index = u.0; up_value = (u.1, r.0); above_bound = (r.1, c.role_of-below.ensures.1) }
+    record { index = u.index; up_value = (u.i_value, r.0); above_bound = (r.1, c.role_of-below.ensures.1) }
 
 pub returns-then-not-placed : goal.returns-then-not-placed
 returns-then-not-placed c = c.reject.ensures ∙ sym (broken _ 20 _ (place_is (goal.at.returns-then-not-placed c).After-placed ∙ c.if-not-placed.true))
