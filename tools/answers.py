@@ -112,6 +112,7 @@ def turn(path, d):
     ensures_fields = {}
     for p, x in zip(d['places'], d.get('clauses') or []):
         if x and p[2][0]: ensures_fields[plain(p[2][0])] = x['fields']
+    callee = {plain(p[2][0]): p[3] for p in d['places'] if p[2][0]}
     asked_fields = {}
     for o, n in d['needs']:
         if o in (d.get('asked') or {}): asked_fields[n] = d['asked'][o]
@@ -205,7 +206,7 @@ def turn(path, d):
                 name, rest = k[1], body[k.end():]
                 last = k[3].split('.')[-1]
                 if last == 'before' or not k[3]: known.add(name)
-                whole = last == 'before' or not k[3] or last in ('given',) or (len(pre_fields) > 1 and any(w in ('pre', 'requires') for w in k[3].split('.'))) or any(plain(q) in {s for s, *_ in arms} for q in k[3].split('.'))
+                whole = last == 'before' or not k[3] or last in ('given',) or re.search(r"(?<![\w.'-])%s\.(?:auto|kept|new)\.[01]" % re.escape(name), rest) or (last == 'ensures' and any(len(f) > 1 for f in ensures_fields.values())) or (len(pre_fields) > 1 and any(w in ('pre', 'requires') for w in k[3].split('.'))) or any(plain(q) in {s for s, *_ in arms} for q in k[3].split('.'))
                 if not whole: continue
                 if re.search(r"(?<![\w.'-])let %s =|λ [^.]*(?<![\w.'-])%s(?![\w'-])[^.]*\." % (re.escape(name), re.escape(name)), body[:k.start()] + rest): continue
                 if re.search(r"(?<![\w.'-])%s(?:\.before)*(?![\w.'-])" % re.escape(name), rest): continue
@@ -255,6 +256,11 @@ def turn(path, d):
                 if words[1:2] == ['ensures'] and ensures_fields.get(oldstep): words = by_clause(words, 2, ensures_fields[oldstep])
                 if words[1:2] == ['kept']: words[1] = 'auto'
                 if words[1:2] == ['inv']: words[1] = 'invariant'
+                if words[1:2] in (['auto'], ['new']) and words[2:3] and words[2] in ('0', '1'):
+                    names_of = d['params'].get(callee.get(oldstep) or '', [])
+                    k = 2
+                    while words[k:k + 1] == ['1']: k += 1
+                    if words[k:k + 1] == ['0'] and k - 2 < len(names_of): words = words[:2] + [names_of[k - 2]] + words[k + 1:]
             elif words[0] in ('pre', 'requires'):
                 words[0] = 'requires'
                 if len(pre_fields) > 1: words = by_clause(words, 1, pre_fields)
