@@ -285,6 +285,8 @@ def turn(path, d):
         for (o, n), v in arg_names.items():
             if o == 'args': body = re.sub(r'\.%s\b' % n, '.' + v, body)
         body = re.sub(r' κs\b', '', body)
+        body = re.sub(r'\.0\.taken\b', '.0.true', body)
+        body = re.sub(r'\.0\.left\b', '.0.false', body)
         # a test of `!x` says what it says of x
         body = re.sub(r"not-(?:true|false) _ ([^\s()]*\.if-not-[^\s(),]+)", r'\1', body)
         return body
@@ -389,8 +391,9 @@ def turn(path, d):
                 mm = re.match(r'\(λ ([^.]*)\. (.*)\)$', a, flags=re.S)
                 if mm:
                     arg, bb = mm[1].split()[0], mm[2]
+                    more = ''.join(' ' + p for p in mm[1].split()[1:] if p != 'κs')
                     if arg != 'c': bb = re.sub(r"(?<![\w.'-])%s(?![\w'-])" % re.escape(arg), 'c', bb)
-                    ans_out.append('pub %s : goal.%s\n%s%s c = %s' % (g, g, opened, g, as_record(types(paths(bb, g, {})), g)))
+                    ans_out.append('pub %s : goal.%s\n%s%s c%s = %s' % (g, g, opened, g, more, as_record(types(paths(bb, g, {})), g)))
                 else:
                     ans_out.append('pub %s : goal.%s\n%s%s c = %s' % (g, g, opened, g, as_record(types(paths(a, g, {})), g)))
                 used_goals.add(g)
@@ -411,7 +414,8 @@ def turn(path, d):
             if re.fullmatch(r'\s*search rules', bb): continue
             if g in used_goals: say('twice: ' + g); continue
             used_goals.add(g)
-            lhs = '%s c =' % g if params else '%s =' % g
+            more = [p for p in params[1:] if p != 'κs']
+            lhs = ' '.join([g, 'c'] + more) + ' =' if params else '%s =' % g
             ans_out.append('\n'.join(comment + ['pub %s : goal.%s' % (g, g)] + ([m[4].rstrip('\n')] if m[4] else []) + [lhs + as_record(types(paths(bb, g, {})), g)]))
             continue
         ans_out.append('\n'.join(comment + [types(paths(body, None, typed_params(body)))]))
