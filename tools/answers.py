@@ -228,6 +228,7 @@ def turn(path, d):
             words = [w for w in words if w != 'before']
             if not words: return m[0]
             key = [plain(w) for w in words]
+            if words[0] in ('type_size', 'type-size') and 'size_of' in steps: words[0] = 'size_of'
             step = lookup(steps, words[0])
             oldstep = next((n for n in variants(words[0]) if n in steps), None)
             if oldstep or key[0] == 'match':
@@ -418,7 +419,8 @@ def turn(path, d):
             lhs = ' '.join([g, 'c'] + more) + ' =' if params else '%s =' % g
             ans_out.append('\n'.join(comment + ['pub %s : goal.%s' % (g, g)] + ([m[4].rstrip('\n')] if m[4] else []) + [lhs + as_record(types(paths(bb, g, {})), g)]))
             continue
-        ans_out.append('\n'.join(comment + [types(paths(body, None, typed_params(body)))]))
+        typed_here = typed_params(body)
+        ans_out.append('\n'.join(comment + [''.join(types(paths(part, None, typed_here)) for part in re.split(r'(\n\n+)', body))]))
     out = '\n\n'.join(ans_out)
     for old, g in goal_of.items():
         if g and re.search(r"(?<![\w.'-])%s(?![\w'-])" % re.escape(g), re.sub(r'(?m)^(pub )?%s( c)?( :| =)' % re.escape(g), '', out).replace('goal.' + g, '')): say('an answer is cited: ' + g)
