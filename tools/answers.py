@@ -225,7 +225,7 @@ def turn(path, d):
         def field(m):
             var, words = m[1], m[2].split('.')[1:]
             if var not in place and not any(w == 'before' for w in words): return m[0]
-            words = [w for w in words if w != 'before']
+            while words and words[0] == 'before': words.pop(0)
             if not words: return m[0]
             key = [plain(w) for w in words]
             if words[0] in ('type_size', 'type-size') and 'size_of' in steps: words[0] = 'size_of'
