@@ -112,6 +112,7 @@ def turn(path, d):
     ensures_fields = {}
     for p, x in zip(d['places'], d.get('clauses') or []):
         if x and p[2][0]: ensures_fields[plain(p[2][0])] = x['fields']
+    callee = {plain(p[2][0]): p[3] for p in d['places'] if p[2][0]}
     asked_fields = {}
     for o, n in d['needs']:
         if o in (d.get('asked') or {}): asked_fields[n] = d['asked'][o]
@@ -205,7 +206,7 @@ def turn(path, d):
                 name, rest = k[1], body[k.end():]
                 last = k[3].split('.')[-1]
                 if last == 'before' or not k[3]: known.add(name)
-                whole = last == 'before' or not k[3] or last in ('given',) or (len(pre_fields) > 1 and any(w in ('pre', 'requires') for w in k[3].split('.'))) or any(plain(q) in {s for s, *_ in arms} for q in k[3].split('.'))
+                whole = last == 'before' or not k[3] or last in ('given',) or re.search(r"(?<![\w.'-])%s\.(?:auto|kept|new)\.[01]" % re.escape(name), rest) or (last == 'ensures' and any(len(f) > 1 for f in ensures_fields.values())) or (len(pre_fields) > 1 and any(w in ('pre', 'requires') for w in k[3].split('.'))) or any(plain(q) in {s for s, *_ in arms} for q in k[3].split('.'))
                 if not whole: continue
                 if re.search(r"(?<![\w.'-])let %s =|λ [^.]*(?<![\w.'-])%s(?![\w'-])[^.]*\." % (re.escape(name), re.escape(name)), body[:k.start()] + rest): continue
                 if re.search(r"(?<![\w.'-])%s(?:\.before)*(?![\w.'-])" % re.escape(name), rest): continue
@@ -224,9 +225,10 @@ def turn(path, d):
         def field(m):
             var, words = m[1], m[2].split('.')[1:]
             if var not in place and not any(w == 'before' for w in words): return m[0]
-            words = [w for w in words if w != 'before']
+            while words and words[0] == 'before': words.pop(0)
             if not words: return m[0]
             key = [plain(w) for w in words]
+            if words[0] in ('type_size', 'type-size') and 'size_of' in steps: words[0] = 'size_of'
             step = lookup(steps, words[0])
             oldstep = next((n for n in variants(words[0]) if n in steps), None)
             if oldstep or key[0] == 'match':
@@ -255,6 +257,11 @@ def turn(path, d):
                 if words[1:2] == ['ensures'] and ensures_fields.get(oldstep): words = by_clause(words, 2, ensures_fields[oldstep])
                 if words[1:2] == ['kept']: words[1] = 'auto'
                 if words[1:2] == ['inv']: words[1] = 'invariant'
+                if words[1:2] in (['auto'], ['new']) and words[2:3] and words[2] in ('0', '1'):
+                    names_of = d['params'].get(callee.get(oldstep) or '', [])
+                    k = 2
+                    while words[k:k + 1] == ['1']: k += 1
+                    if words[k:k + 1] == ['0'] and k - 2 < len(names_of): words = words[:2] + [names_of[k - 2]] + words[k + 1:]
             elif words[0] in ('pre', 'requires'):
                 words[0] = 'requires'
                 if len(pre_fields) > 1: words = by_clause(words, 1, pre_fields)
@@ -279,6 +286,8 @@ def turn(path, d):
         for (o, n), v in arg_names.items():
             if o == 'args': body = re.sub(r'\.%s\b' % n, '.' + v, body)
         body = re.sub(r' κs\b', '', body)
+        body = re.sub(r'\.0\.taken\b', '.0.true', body)
+        body = re.sub(r'\.0\.left\b', '.0.false', body)
         # a test of `!x` says what it says of x
         body = re.sub(r"not-(?:true|false) _ ([^\s()]*\.if-not-[^\s(),]+)", r'\1', body)
         return body
@@ -383,8 +392,9 @@ def turn(path, d):
                 mm = re.match(r'\(λ ([^.]*)\. (.*)\)$', a, flags=re.S)
                 if mm:
                     arg, bb = mm[1].split()[0], mm[2]
+                    more = ''.join(' ' + p for p in mm[1].split()[1:] if p != 'κs')
                     if arg != 'c': bb = re.sub(r"(?<![\w.'-])%s(?![\w'-])" % re.escape(arg), 'c', bb)
-                    ans_out.append('pub %s : goal.%s\n%s%s c = %s' % (g, g, opened, g, as_record(types(paths(bb, g, {})), g)))
+                    ans_out.append('pub %s : goal.%s\n%s%s c%s = %s' % (g, g, opened, g, more, as_record(types(paths(bb, g, {})), g)))
                 else:
                     ans_out.append('pub %s : goal.%s\n%s%s c = %s' % (g, g, opened, g, as_record(types(paths(a, g, {})), g)))
                 used_goals.add(g)
@@ -405,10 +415,12 @@ def turn(path, d):
             if re.fullmatch(r'\s*search rules', bb): continue
             if g in used_goals: say('twice: ' + g); continue
             used_goals.add(g)
-            lhs = '%s c =' % g if params else '%s =' % g
+            more = [p for p in params[1:] if p != 'κs']
+            lhs = ' '.join([g, 'c'] + more) + ' =' if params else '%s =' % g
             ans_out.append('\n'.join(comment + ['pub %s : goal.%s' % (g, g)] + ([m[4].rstrip('\n')] if m[4] else []) + [lhs + as_record(types(paths(bb, g, {})), g)]))
             continue
-        ans_out.append('\n'.join(comment + [types(paths(body, None, typed_params(body)))]))
+        typed_here = typed_params(body)
+        ans_out.append('\n'.join(comment + [''.join(types(paths(part, None, typed_here)) for part in re.split(r'(\n\n+)', body))]))
     out = '\n\n'.join(ans_out)
     for old, g in goal_of.items():
         if g and re.search(r"(?<![\w.'-])%s(?![\w'-])" % re.escape(g), re.sub(r'(?m)^(pub )?%s( c)?( :| =)' % re.escape(g), '', out).replace('goal.' + g, '')): say('an answer is cited: ' + g)

@@ -20,7 +20,6 @@ use Rattle.model.proofs.Logic.{between}
 use Rattle.model.proofs.Layouts.{corners_fill, corner-next, corner-after}
 use Rattle.model.proofs.Written.{values_shift}
 use Rattle.corners.specs.declared.spans.Span.{Span}
-use Rattle.corners.specs.declared.spans.Span.TheVariants as Span
 use Rattle.corners.specs.Spans.{provided, span_of, corner_in, element_values, corners_in, corners_in_memory}
 
 -- an element below the range, above it, and in it

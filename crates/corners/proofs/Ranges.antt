@@ -1,6 +1,6 @@
 -- An element's range: by a product with no overflow, by its start offsets, and that both make what the model reads.
 use Prim.Native.Nat.{ℕ, suc, ◌+◌, ◌*◌, ◌-◌, ◌/◌, ◌^◌, ◌≤◌, ◌<◌}
-use mathlib.Core.Path.{◌≡◌, refl, sym, ap, ◌∙◌}
+use mathlib.Core.Path.{◌≡◌, refl, sym, ◌∙◌}
 use mathlib.Core.Bool.{Bool, true, false, cond, not, ◌&&◌, ◌||◌, or-true}
 use mathlib.Core.List.{List}
 use native.Mathlib.Omega.{arith}
@@ -13,7 +13,6 @@ use Rattle.model.specs.Bytes.{half, negative, below}
 use Rattle.model.specs.Elements.{MIXED, NGON, NFACE, has_offsets, nodes_per, taken, start_of, own_type, corner_place, fits_length, type_fits}
 use Rattle.model.specs.Corner.{number_at, layout_in, entry_start, starts_before, readable}
 use Rattle.corners.specs.declared.spans.Span.{Span}
-use Rattle.corners.specs.declared.spans.Span.TheVariants as Span
 use Rattle.corners.specs.Spans.{provided, held, fixed_span, range_between, offset_span, behind_type, mixed_span, span_of, SpanIn, SpanInside}
 use Rattle.model.proofs.Logic.{and_first, and_second, or_cases}
 use Rattle.rows.proofs.Rows.{same_test}

@@ -9,7 +9,6 @@ use Rattle.model.specs.Corner.{inside, number_at, layout_in, entry_start, readab
 use Rattle.model.specs.ReadList.{values_from}
 use Rattle.rows.specs.declared.Row.{Row}
 use Rattle.corners.specs.declared.spans.Span.{Span}
-use Rattle.corners.specs.declared.spans.Span.TheVariants as Span
 
 -- a span that holds on a condition
 abbrev pub provided : Bool → Span → Span

@@ -1,4 +1,6 @@
 // The parents of faces in an accepted image.
+#![tactic(auto)]
+
 mod face; // face.rt: the section that brings a face, and its parents there
 mod rows_of; // rows_of.rt: the parents that a section stores as a row
 

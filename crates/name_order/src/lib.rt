@@ -1,5 +1,7 @@
 // Rule 11 for all nodes at once, whatever their names: the nodes are put in the order of their parents and names, where namesakes stand side by side.
 // The order is checked before it is used.
+#![tactic(auto)]
+
 ghost use Rattle.std.specs.Prelude.{◌≡◌, ◌*◌, ◌≤◌, ◌<◌, length};
 ghost use Rattle.model.specs.Lists.{seek_from};
 ghost use Rattle.model.specs.Records.{name_taken};

@@ -1,4 +1,6 @@
 // The path of a node: the names from below the root, each after a slash.
+#![tactic(auto)]
+
 ghost use Rattle.std.specs.Prelude.{◌≡◌, ◌+◌, ◌≤◌, ◌<◌, length, take, drop};
 ghost use Rattle.model.specs.Lists.{over, over_at};
 ghost use Rattle.model.specs.Image.{tree_of, node_count, record_at, name};

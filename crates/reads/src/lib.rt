@@ -1,4 +1,6 @@
 // Corner reads with the entries of a flat list: one of them, and a list of them.
+#![tactic(auto)]
+
 ghost use Rattle.std.specs.Prelude.{◌≡◌, ◌<◌};
 ghost use Rattle.model.specs.Answers.{corner_tells};
 ghost use Rattle.model.specs.Reads.{EntryRead};

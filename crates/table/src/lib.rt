@@ -1,4 +1,6 @@
 // The check of rules 1 to 18: header, node records, trailing words and bytes. It reads no data bytes.
+#![tactic(auto)]
+
 ghost use Rattle.std.specs.Prelude.{◌≡◌, ◌≤◌, length};
 ghost use Rattle.model.specs.Rules.{rejected, rejection};
 ghost use Rattle.model.specs.Records.{table_check, table_answer};

@@ -1,4 +1,6 @@
 // Names and labels of the node records: the tests of rules 9, 10 and 11.
+#![tactic(auto)]
+
 ghost use Rattle.std.specs.Prelude.{◌≡◌, not, ◌&&◌, ◌+◌, ◌≤◌, ◌<◌, length};
 ghost use Rattle.model.specs.Lists.{among};
 ghost use Rattle.model.specs.Image.{name, label, parent};

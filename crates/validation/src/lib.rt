@@ -1,4 +1,6 @@
 // Validation of an image: every rule in the stated order, and the four counts of an acceptance. The DataSize of an array.
+#![tactic(auto)]
+
 ghost use Rattle.std.specs.Prelude.{◌≡◌, true, cond, ◌≤◌, length};
 ghost use Rattle.model.specs.Lists.{seek_from};
 ghost use Rattle.model.specs.Rules.{answer, check, passed};

@@ -1,0 +1,27 @@
+-- The first stage that rejects is the answer.
+use Rattle.model.proofs.Staging.{stop, go, passes}
+use Rattle.elements.proofs.StageLaws.{length_read}
+use Rattle.section_data.proofs.ArrayLaws.{row_is}
+use borrow.Author.Rules.{rules}
+use Rattle.elements.proofs.stage.array_stage.Goals as goal
+
+pub row_of-row-requires : goal.row_of-row-requires
+row_of-row-requires c = (c.requires.index.0.sound, rw c.connectivity_of.ensures.0 c.requires.index.1.connectivity)
+
+pub shape_stage-shape-requires : goal.shape_stage-shape-requires
+shape_stage-shape-requires c =
+    record { index = c.requires.index; n_value = (c.requires.element_type_value.1, length_read _ _ c.row_of-row.ensures.long c.connectivity_of.ensures.0); element_type_value = c.requires.element_type_value.0 }
+
+pub returns-in_default : goal.returns-in_default
+returns-in_default c = stop c.shape_stage-shape.ensures _ c.in_default.is
+
+pub reference_stage-requires : goal.reference_stage-requires
+reference_stage-requires c =
+    record { index = c.requires.index; row_of = (row_is c.connectivity_of.ensures.0 c.row_of-row.ensures, c.requires.element_type_value.0); faces = c.requires.faces; s_value = passes c.shape_stage-shape.ensures c.in-Pass.is }
+
+pub returns : goal.returns
+returns c = go c.shape_stage-shape.ensures c.in-Pass.is
+    c.reference_stage.ensures
+
+pub connectivity_of-requires : goal.connectivity_of-requires
+connectivity_of-requires c = record { index = (c.requires.index.0, c.requires.index.1.inside); s_value = c.requires.index.1.kind-is }

@@ -1,0 +1,22 @@
+-- The whole run is the rest from entry k on, over the bytes that the uses before it left.
+use Prim.Native.Nat.{◌+◌, ◌-◌, ◌≤◌}
+use mathlib.Core.Path.{◌≡◌, refl, sym, ap, ◌∙◌}
+use lib.ListN.{length}
+use borrow.Author.Tests.{not-true, not-false}
+use Rattle.model.specs.Rules.{repetition}
+use Rattle.model.specs.Image.{tree_of}
+use Rattle.model.specs.FaceUsage.{face_count, uses_in, use_entries}
+use Rattle.section_data.proofs.TableLaws.{face-small}
+use Rattle.face_uses.proofs.Runs.{tables_kept, Left, left_more, left_stop, left-done, entries_start, entries_step, entries-end}
+use Rattle.face_uses.proofs.Runs.{entry-face, entry-used, entry_repeated}
+use native.Mathlib.Omega.{arith}
+use borrow.Author.Rules.{rules}
+use Rattle.face_uses.proofs.uses.use_entries.Given as goal
+
+abbrev pub invariant-loop-k : goal.invariant-loop-k
+invariant-loop-k l = ((l.k ≤ l.row.n) × (length l.guesses ≡ 9))
+    × Left (face_count (tree_of l.image) l.faces.zone) (use_entries (tree_of l.image) l.s (uses_in (tree_of l.image) l.faces.zone l.s) 0 l.initial.out) l.initial.out
+    (use_entries (tree_of l.image) l.s (l.row.n - l.k) l.k l.out) l.out
+
+abbrev pub decreases-loop-k : goal.decreases-loop-k
+decreases-loop-k l = l.row.n - l.k

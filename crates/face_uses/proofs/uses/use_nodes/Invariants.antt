@@ -1,0 +1,17 @@
+-- The whole run is the rest from node i on, over the bytes that the nodes before it left.
+use Prim.Native.Nat.{◌+◌, ◌-◌, ◌≤◌}
+use mathlib.Core.Path.{◌≡◌, ◌∙◌}
+use native.Mathlib.Omega.{arith}
+use borrow.Author.Rules.{rules}
+use Rattle.model.specs.Image.{tree_of, node_count}
+use Rattle.model.specs.FaceUsage.{face_count, use_nodes}
+use Rattle.face_uses.proofs.Runs.{tables_kept, Left, left_more, left_stop, left-done, nodes_start, nodes_step, nodes-end}
+use Rattle.face_uses.proofs.uses.use_nodes.Given as goal
+
+abbrev pub invariant-loop-i : goal.invariant-loop-i
+invariant-loop-i l = ((l.nodes ≡ node_count l.image) × (l.i ≤ l.nodes))
+    × Left (face_count (tree_of l.image) l.faces.zone) (use_nodes (tree_of l.image) l.faces.zone (node_count l.image) 0 l.initial.out) l.initial.out
+    (use_nodes (tree_of l.image) l.faces.zone (node_count l.image - l.i) l.i l.out) l.out
+
+abbrev pub decreases-loop-i : goal.decreases-loop-i
+decreases-loop-i l = l.nodes - l.i

@@ -1,0 +1,11 @@
+-- One after the other.
+use mathlib.Core.Path.{sym, ◌∙◌}
+use borrow.Author.Rules.{rules}
+use borrow.Author.Tests.{not-true, not-false}
+use Rattle.references.proofs.nodes.two_within.Goals as goal
+
+pub returns-then-not-is_within : goal.returns-then-not-is_within
+returns-then-not-is_within c = rw (sym c.is_within.ensures ∙ c.if-not-is_within.true)
+
+pub returns : goal.returns
+returns c = rw (sym c.is_within.ensures ∙ c.if-not-is_within.false) c.is_within-2.ensures

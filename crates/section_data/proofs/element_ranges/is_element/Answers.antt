@@ -1,0 +1,30 @@
+-- No node before i brings the element to the zone.
+use Prim.Native.Nat.{◌-◌}
+use mathlib.Core.Path.{sym, ◌∙◌}
+use native.Mathlib.Omega.{arith}
+use borrow.Author.Rules.{rules}
+use Rattle.model.specs.Lists.{some_from}
+use Rattle.model.specs.Image.{tree_of}
+use Rattle.model.specs.Elements.{has_element}
+use Rattle.model.proofs.Loops.{SomeLeft, some_start, some_more, some_stop, some-done}
+use Rattle.section_data.proofs.RangeLaws.{element_by}
+use Rattle.section_data.proofs.element_ranges.is_element.Goals as goal
+
+pub loop-i-init : goal.loop-i-init
+loop-i-init c = some_start _ _ 0 (omega arith) (λ j h. absurd (omega arith))
+
+pub has_element-requires : goal.has_element-requires
+has_element-requires c =
+    (c.requires, omega (arith, c.loop-i-test.true, c.node_count-n.ensures.0))
+
+pub returns-then-has_element : goal.returns-then-has_element
+returns-then-has_element c =
+    element_by _ _ _ c.node_count-n.ensures.0
+    (some_stop c.loop-i.invariant (omega (arith, c.loop-i-test.true)) (sym c.has_element.ensures ∙ c.if-has_element.true))
+
+pub loop-i-preserved : goal.loop-i-preserved
+loop-i-preserved c =
+    some_more c.loop-i.invariant (omega (arith, c.loop-i-test.true)) (sym c.has_element.ensures ∙ c.if-has_element.false)
+
+pub returns : goal.returns
+returns c = element_by _ _ _ c.node_count-n.ensures.0 (some-done c.loop-i.invariant (omega arith))

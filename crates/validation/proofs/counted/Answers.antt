@@ -1,0 +1,52 @@
+-- Each node counts as one or as none; the nodes that are not validated are skipped.
+use native.Mathlib.Omega.{arith}
+use Prim.Native.Nat.{ℕ, ◌-◌, ◌<◌}
+use mathlib.Core.Path.{◌≡◌, refl, ap, ◌∙◌}
+use lib.Dec.{eqb, ltb}
+use borrow.Author.Rules.{rules}
+use Rattle.model.specs.Image.{tree_of, node_count}
+use Rattle.model.specs.Containment.{validated, validated_as, Zone, Elements}
+use Rattle.index.proofs.Marking.{kind-validated, kind_as}
+use Rattle.validation.proofs.Laws.{Counted, none_counted, more_counted, all_counted, counts_are}
+use Rattle.validation.proofs.counted.Goals as goal
+
+pub loop-i-init : goal.loop-i-init
+loop-i-init c = (none_counted _ _, (none_counted _ _, none_counted _ _))
+
+pub overflow_add-validated : goal.overflow_add-validated
+overflow_add-validated c =
+    let v = c.loop-i.invariant.0 in
+    omega (arith, c.unit-validated.ensures.1, v.least, v.within, c.node_count-n.ensures.1)
+
+pub overflow_add-zones : goal.overflow_add-zones
+overflow_add-zones c =
+    let v = c.loop-i.invariant.1.0 in
+    omega (arith, c.unit-zones.ensures.1, v.least, v.within, c.node_count-n.ensures.1)
+
+pub overflow_add-sections : goal.overflow_add-sections
+overflow_add-sections c =
+    let v = c.loop-i.invariant.1.1 in
+    omega (arith, c.unit-sections.ensures.1, v.least, v.within, c.node_count-n.ensures.1)
+
+pub loop-i-preserved : goal.loop-i-preserved
+loop-i-preserved c =
+    let b = c.args.image.now in
+    let i = c.loop-i.i in
+    let h : i < node_count b = omega arith in
+    let e = c.kind_of-kind.ensures.0 in
+    let counts : (r : ℕ) → 0 < r → eqb c.kind_of-kind.result r ≡ validated_as (tree_of b) r i = λ r z. ap (λ (x : ℕ). eqb x r) e ∙ kind_as b
+    c.requires.sound i r h z in (
+      more_counted c.loop-i.invariant.0 _ (omega arith) (ap (ltb 0) e ∙ kind-validated b c.requires.sound i h) c.unit-validated.ensures.0,
+      (
+        more_counted c.loop-i.invariant.1.0 _ (omega arith) (counts Zone (omega arith)) c.unit-zones.ensures.0,
+        more_counted c.loop-i.invariant.1.1 _ (omega arith) (counts Elements (omega arith)) c.unit-sections.ensures.0,
+      ),
+    )
+
+pub returns : goal.returns
+unfolding tree_of
+returns c =
+    let n = c.node_count-n.ensures.0 in
+    let v = (all_counted c.loop-i.invariant.0 (omega arith)).0 in
+    counts_are _ c.node_count-n.result _ _ _ _ n v refl (all_counted c.loop-i.invariant.1.0 (omega arith)).0
+    (all_counted c.loop-i.invariant.1.1 (omega arith)).0

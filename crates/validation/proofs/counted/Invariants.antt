@@ -1,0 +1,17 @@
+-- Each node counts as one or as none; the nodes that are not validated are skipped.
+use native.Mathlib.Omega.{arith}
+use Prim.Native.Nat.{ℕ, ◌-◌, ◌<◌}
+use mathlib.Core.Path.{◌≡◌, refl, ap, ◌∙◌}
+use lib.Dec.{eqb, ltb}
+use borrow.Author.Rules.{rules}
+use Rattle.model.specs.Image.{tree_of, node_count}
+use Rattle.model.specs.Containment.{validated, validated_as, Zone, Elements}
+use Rattle.index.proofs.Marking.{kind-validated, kind_as}
+use Rattle.validation.proofs.Laws.{Counted, none_counted, more_counted, all_counted, counts_are}
+use Rattle.validation.proofs.counted.Given as goal
+
+abbrev pub invariant-loop-i : goal.invariant-loop-i
+invariant-loop-i l = (Counted (validated (tree_of l.image)) l.n l.i l.validated) × ((Counted (validated_as (tree_of l.image) Zone) l.n l.i l.zones) × (Counted (validated_as (tree_of l.image) Elements) l.n l.i l.sections))
+
+abbrev pub decreases-loop-i : goal.decreases-loop-i
+decreases-loop-i l = l.n - l.i

@@ -1,0 +1,22 @@
+-- The nodes after i, one after the other: the first that is a section of the zone is the one.
+use Prim.Native.Nat.{◌+◌, ◌-◌}
+use mathlib.Core.Path.{refl, sym, ◌∙◌}
+use Rattle.model.specs.Lists.{seek_from}
+use Rattle.model.specs.Image.{tree_of, node_count}
+use Rattle.model.specs.Containment.{section_of}
+use Rattle.model.proofs.Loops.{SeekLeft, seek_more, seek_stop, seek_done}
+use native.Mathlib.Omega.{arith}
+use borrow.Author.Rules.{rules}
+use Rattle.zone_sections.proofs.zones.section_after.Goals as goal
+
+pub loop-j-init : goal.loop-j-init
+loop-j-init c = record { inside = omega arith; rest = refl }
+
+pub returns-then-section_of : goal.returns-then-section_of
+returns-then-section_of c = (seek_stop c.loop-j.invariant (omega arith) (sym c.section_of.ensures ∙ c.if-section_of.true), omega arith)
+
+pub loop-j-preserved : goal.loop-j-preserved
+loop-j-preserved c = seek_more c.loop-j.invariant (omega arith) (sym c.section_of.ensures ∙ c.if-section_of.false)
+
+pub returns : goal.returns
+returns c = (seek_done c.loop-j.invariant (omega arith), omega arith)
