@@ -1,48 +1,52 @@
 // Reads an image of up to 65,536 bytes from standard input and writes one line: `accept` and the four counts, `refuse`, rule and node, or `too long`.
-use model::Validation;
+#![tactic(auto)]
 
-// A blank and a number.
-fn number(x: u64) {
-    io::write_all(1, b" ");
-    io::print_decimal(1, x);
+ghost use Rattle.std.specs.Prelude.{◌≤◌, length, IfOk};
+
+use model::Validation;
+use std::io;
+use std::io::{Print, Read};
+
+// How many bytes the reader put in front of the buffer: all, or as many as there were up to the input's end.
+fn read_full<R: Read>(input: &mut R, buffer: &mut [u8]) -> io::Result<usize>
+    ensures { IfOk result (λ n. n ≤ length buffer.new) }
+{
+    let mut done = 0;
+    while done < buffer.len() {
+        let n = input.read(&mut buffer[done..])?;
+        if n == 0 {
+            break;
+        }
+        done += n;
+    }
+    Ok(done)
 }
 
 // The line that tells a validation.
-fn print(v: Validation) {
+fn print<P: Print>(to: &P, v: Validation) -> io::Result<()> {
     match v {
         Validation::Accepted {
             validated,
             skipped,
             zones,
             sections,
-        } => {
-            io::write_all(1, b"accept");
-            number(validated);
-            number(skipped);
-            number(zones);
-            number(sections);
-        }
-        Validation::Rejected(r) => {
-            io::write_all(1, b"refuse");
-            number(r.rule);
-            number(r.node);
-        }
+        } => println!(to; "accept {validated} {skipped} {zones} {sections}"),
+        Validation::Rejected(r) => println!(to; "refuse {} {}", r.rule, r.node),
     }
-    io::write_all(1, b"\n");
 }
 
 // Whether the input has another byte.
-fn goes_on() -> bool {
+fn goes_on<R: Read>(input: &mut R) -> io::Result<bool> {
     let mut next = [0u8; 1];
-    io::read_full(0, &mut next) == 1
+    Ok(read_full(input, &mut next)? == 1)
 }
 
-fn main() {
-    let mut buffer = io::large_buffer();
-    let n = io::read_full(0, &mut buffer);
-    if n == 65536 && goes_on() {
-        io::write_all(1, b"too long\n");
-        return;
+fn main(rt: HostRuntime) -> io::Result<()> {
+    let mut buffer = [0u8; 65536];
+    let mut input = rt.stdin();
+    let n = read_full(&mut input, &mut buffer)?;
+    if n == 65536 && goes_on(&mut input)? {
+        return println!(rt; "too long");
     }
-    print(validation::validate(&buffer[..n]));
+    print(&rt, validation::validate(&buffer[..n]))
 }

@@ -3,6 +3,8 @@ ghost use Rattle.std.specs.Prelude.{◌≤◌};
 
 use super::print;
 use model::{Count, Section};
+use std::io;
+use std::io::Print;
 
 // What the call answers, and the list afterwards.
 #[derive(Clone, Copy)]
@@ -37,27 +39,24 @@ fn list_on(mut list: [Section; 16], image: &[u8], zone: u64, room: usize) -> Lis
 }
 
 // The first n structs of a list, after `room`.
-fn structs(list: [Section; 16], n: usize)
+fn structs<P: Print>(to: &P, list: &[Section; 16], n: usize) -> io::Result<()>
     requires { n ≤ 16 }
 {
-    io::write_all(1, b" room");
-    let mut k = 0;
-    while k < n {
-        print::section(list[k]);
-        k += 1;
+    print!(to; " room")?;
+    for s in &list[..n] {
+        print::section(to, *s)?;
     }
+    Ok(())
 }
 
 // The section entries with room for so many structs, each number 170 before; the list afterwards.
-pub fn list_into(image: &[u8], zone: u64, room: u64) {
+pub fn list_into<P: Print>(to: &P, image: &[u8], zone: u64, room: u64) -> io::Result<()> {
     if 16 < room {
-        return;
+        return Ok(());
     }
     let filling = blank();
     let before = [filling; 16];
     let listed = list_on(before, image, zone, room as usize);
-    let answer = listed.answer;
-    let list = listed.list;
-    print::count(answer, b"entries ");
-    structs(list, room as usize);
+    print::count(to, listed.answer, "entries ")?;
+    structs(to, &listed.list, room as usize)
 }

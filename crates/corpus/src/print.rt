@@ -5,173 +5,118 @@ use model::{
     Agreement, ArrayValue, Corner, Count, DataSize, FaceUsage, ParentPair, Rejection, Section,
     Table, Validation,
 };
+use std::io;
+use std::io::Print;
 
 // `refuse`, the rule and the node, and of 45 the element; `entry` and its place where there is one.
-fn refusal(r: Rejection) {
-    io::write_all(1, b"refuse ");
-    io::print_decimal(1, r.rule);
-    io::write_all(1, b" ");
-    io::print_decimal(1, r.node);
+fn refusal<P: Print>(to: &P, r: Rejection) -> io::Result<()> {
+    print!(to; "refuse {} {}", r.rule, r.node)?;
     if r.rule == 45 {
-        io::write_all(1, b" ");
-        io::print_decimal(1, r.element);
+        print!(to; " {}", r.element)?;
     }
     if 0 < r.entry {
-        io::write_all(1, b" entry ");
-        io::print_decimal(1, r.entry);
+        print!(to; " entry {}", r.entry)?;
     }
+    Ok(())
 }
 
 // A word and a number.
-fn pair(word: &[u8], x: u64) {
-    io::write_all(1, word);
-    io::print_decimal(1, x);
-}
-
-// A signed number.
-fn signed(x: i64) {
-    if x < 0 {
-        io::write_all(1, b"-");
-    }
-    io::print_decimal(1, words::magnitude64(x));
+fn pair<P: Print>(to: &P, word: &str, x: u64) -> io::Result<()> {
+    print!(to; "{word}{x}")
 }
 
 // The bits of a single.
-fn single(bits: u32) {
-    pair(b"single ", bits as u64);
+fn single<P: Print>(to: &P, bits: u32) -> io::Result<()> {
+    pair(to, "single ", bits as u64)
 }
 
 // The bytes of lent memory, after `room`.
-pub fn bytes(out: &[u8]) {
-    io::write_all(1, b" room");
-    each_byte(out);
-}
-
-fn each_byte(out: &[u8]) {
-    let mut k = 0;
-    while k < out.len() {
-        pair(b" ", words::byte_at(out, k));
-        k += 1;
+pub fn bytes<P: Print>(to: &P, out: &[u8]) -> io::Result<()> {
+    print!(to; " room")?;
+    for x in out {
+        print!(to; " {x}")?;
     }
+    Ok(())
 }
 
-pub fn table(t: Table) {
+pub fn table<P: Print>(to: &P, t: Table) -> io::Result<()> {
     match t {
         Table::Sound {
             nodes,
             dimensions: _,
             bytes: _,
-        } => {
-            pair(b"accept ", nodes);
-        }
-        Table::Rejected(r) => {
-            refusal(r);
-        }
+        } => pair(to, "accept ", nodes),
+        Table::Rejected(r) => refusal(to, r),
     }
 }
 
-pub fn count(c: Count, word: &[u8]) {
+pub fn count<P: Print>(to: &P, c: Count, word: &str) -> io::Result<()> {
     match c {
-        Count::Of(n) => {
-            pair(word, n);
-        }
-        Count::Rejected(r) => {
-            refusal(r);
-        }
+        Count::Of(n) => pair(to, word, n),
+        Count::Rejected(r) => refusal(to, r),
     }
 }
 
-pub fn value(v: ArrayValue)
+pub fn value<P: Print>(to: &P, v: ArrayValue) -> io::Result<()>
     requires { NanCases v }
 {
     match v {
-        ArrayValue::Whole(n) => {
-            io::write_all(1, b"whole ");
-            signed(n);
-        }
-        ArrayValue::Single(x) => {
-            single(f32::to_bits(x));
-        }
-        ArrayValue::Double(x) => {
-            pair(b"double ", f64::to_bits(x));
-        }
-        ArrayValue::SingleNan(b) => {
-            single(b);
-        }
-        ArrayValue::DoubleNan(b) => {
-            pair(b"double ", b);
-        }
-        ArrayValue::Rejected(r) => {
-            refusal(r);
-        }
+        ArrayValue::Whole(n) => print!(to; "whole {n}"),
+        ArrayValue::Single(x) => single(to, f32::to_bits(x)),
+        ArrayValue::Double(x) => pair(to, "double ", f64::to_bits(x)),
+        ArrayValue::SingleNan(b) => single(to, b),
+        ArrayValue::DoubleNan(b) => pair(to, "double ", b),
+        ArrayValue::Rejected(r) => refusal(to, r),
     }
 }
 
 // The numbers of lent memory, after a word.
-pub fn numbers(word: &[u8], out: &[u64]) {
-    io::write_all(1, word);
-    each_number(out);
-}
-
-fn each_number(out: &[u64]) {
-    let mut k = 0;
-    while k < out.len() {
-        pair(b" ", out[k]);
-        k += 1;
+pub fn numbers<P: Print>(to: &P, word: &str, out: &[u64]) -> io::Result<()> {
+    print!(to; "{word}")?;
+    for x in out {
+        print!(to; " {x}")?;
     }
+    Ok(())
 }
 
 // The eleven numbers of an entry.
-pub fn section(s: Section) {
-    pair(b" ", s.node);
-    pair(b" ", s.element_type);
-    pair(b" ", s.first);
-    pair(b" ", s.last);
-    pair(b" ", s.offsets_at);
-    pair(b" ", s.offsets_width);
-    pair(b" ", s.connectivity_at);
-    pair(b" ", s.connectivity_width);
-    pair(b" ", s.connectivity_length);
-    pair(b" ", s.parents_at);
-    pair(b" ", s.parents_width);
+pub fn section<P: Print>(to: &P, s: Section) -> io::Result<()> {
+    pair(to, " ", s.node)?;
+    pair(to, " ", s.element_type)?;
+    pair(to, " ", s.first)?;
+    pair(to, " ", s.last)?;
+    pair(to, " ", s.offsets_at)?;
+    pair(to, " ", s.offsets_width)?;
+    pair(to, " ", s.connectivity_at)?;
+    pair(to, " ", s.connectivity_width)?;
+    pair(to, " ", s.connectivity_length)?;
+    pair(to, " ", s.parents_at)?;
+    pair(to, " ", s.parents_width)
 }
 
 // The signed numbers of lent memory, after `room`.
-pub fn signed_numbers(out: &[i64]) {
-    io::write_all(1, b" room");
-    each_signed(out);
-}
-
-fn each_signed(out: &[i64]) {
-    let mut k = 0;
-    while k < out.len() {
-        io::write_all(1, b" ");
-        signed(out[k]);
-        k += 1;
+pub fn signed_numbers<P: Print>(to: &P, out: &[i64]) -> io::Result<()> {
+    print!(to; " room")?;
+    for x in out {
+        print!(to; " {x}")?;
     }
+    Ok(())
 }
 
-pub fn validation(v: Validation) {
+pub fn validation<P: Print>(to: &P, v: Validation) -> io::Result<()> {
     match v {
         Validation::Accepted {
             validated,
             skipped,
             zones,
             sections,
-        } => {
-            pair(b"accept ", validated);
-            pair(b" ", skipped);
-            pair(b" ", zones);
-            pair(b" ", sections);
-        }
-        Validation::Rejected(r) => {
-            refusal(r);
-        }
+        } => print!(to; "accept {validated} {skipped} {zones} {sections}"),
+        Validation::Rejected(r) => refusal(to, r),
     }
 }
 
 // As many sizes as there are directions.
-pub fn sizes(d: DataSize) {
+pub fn sizes<P: Print>(to: &P, d: DataSize) -> io::Result<()> {
     match d {
         DataSize::Sizes {
             directions,
@@ -179,63 +124,43 @@ pub fn sizes(d: DataSize) {
             j,
             k,
         } => {
-            pair(b"sizes ", directions);
-            pair(b" ", i);
+            print!(to; "sizes {directions} {i}")?;
             if 1 < directions {
-                pair(b" ", j);
+                pair(to, " ", j)?;
             }
             if 2 < directions {
-                pair(b" ", k);
+                pair(to, " ", k)?;
             }
+            Ok(())
         }
-        DataSize::Rejected(r) => {
-            refusal(r);
-        }
+        DataSize::Rejected(r) => refusal(to, r),
     }
 }
 
-pub fn corner(c: Corner) {
+pub fn corner<P: Print>(to: &P, c: Corner) -> io::Result<()> {
     match c {
-        Corner::Number(n) => {
-            io::write_all(1, b"corner ");
-            signed(n);
-        }
-        Corner::Rejected(r) => {
-            refusal(r);
-        }
+        Corner::Number(n) => print!(to; "corner {n}"),
+        Corner::Rejected(r) => refusal(to, r),
     }
 }
 
-pub fn usage(u: FaceUsage) {
+pub fn usage<P: Print>(to: &P, u: FaceUsage) -> io::Result<()> {
     match u {
-        FaceUsage::Faces(n) => {
-            pair(b"usage ", n);
-        }
-        FaceUsage::Rejected(r) => {
-            refusal(r);
-        }
+        FaceUsage::Faces(n) => pair(to, "usage ", n),
+        FaceUsage::Rejected(r) => refusal(to, r),
     }
 }
 
-pub fn parents(p: ParentPair) {
+pub fn parents<P: Print>(to: &P, p: ParentPair) -> io::Result<()> {
     match p {
-        ParentPair::Of { first, second } => {
-            pair(b"parents ", first);
-            pair(b" ", second);
-        }
-        ParentPair::Rejected(r) => {
-            refusal(r);
-        }
+        ParentPair::Of { first, second } => print!(to; "parents {first} {second}"),
+        ParentPair::Rejected(r) => refusal(to, r),
     }
 }
 
-pub fn agreement(a: Agreement) {
+pub fn agreement<P: Print>(to: &P, a: Agreement) -> io::Result<()> {
     match a {
-        Agreement::Agrees(y) => {
-            pair(b"agrees ", y as u64);
-        }
-        Agreement::Rejected(r) => {
-            refusal(r);
-        }
+        Agreement::Agrees(y) => pair(to, "agrees ", y as u64),
+        Agreement::Rejected(r) => refusal(to, r),
     }
 }
