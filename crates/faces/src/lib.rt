@@ -1,5 +1,7 @@
 // The faces of a zone. Face usage (document 01: the face ledger): how often, and with which sign, cells refer to each face. The parents of a face, as its
 // section stores them, and whether they agree with the cells.
+#![tactic(auto)]
+
 ghost use Rattle.std.specs.Prelude.{◌≡◌, ◌≤◌, length};
 ghost use Rattle.model.specs.Rules.{passed};
 ghost use Rattle.model.specs.Answers.{stage_tells, usage_tells};

@@ -1,5 +1,3 @@
-pub mod Steps
-pub mod Listed
 pub mod Filling
 pub mod Room
 pub mod Answered

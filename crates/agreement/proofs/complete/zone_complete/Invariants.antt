@@ -1,0 +1,21 @@
+-- One node after the other; a section's faces come after those of the sections before it.
+use Prim.Native.Nat.{◌+◌, ◌-◌, ◌<◌}
+use mathlib.Core.Path.{◌≡◌, refl, sym, ◌∙◌}
+use native.Mathlib.Omega.{arith}
+use borrow.Author.Rules.{rules}
+use borrow.Author.Tests.{not-true, not-false}
+use Rattle.model.specs.Lists.{sum_before}
+use Rattle.model.specs.Image.{tree_of, node_count}
+use Rattle.model.specs.FaceUsage.{faces_in}
+use Rattle.model.specs.ParentElements.{section_agrees, all_agree}
+use Rattle.model.proofs.Loops.{EveryLeft, every_start, every_more, every_stop, every_done}
+use Rattle.model.proofs.Walks.{sum_before_step}
+use Rattle.face_places.proofs.Accepted.{total-small}
+use Rattle.agreement.proofs.complete.zone_complete.Given as goal
+
+abbrev pub invariant-loop-i : goal.invariant-loop-i
+invariant-loop-i l = ((l.nodes ≡ node_count l.image) × (l.place ≡ sum_before (faces_in (tree_of l.image) l.z) l.i))
+    × EveryLeft (section_agrees (tree_of l.image) l.z) (node_count l.image) l.i (all_agree (tree_of l.image) l.z)
+
+abbrev pub decreases-loop-i : goal.decreases-loop-i
+decreases-loop-i l = l.nodes - l.i

@@ -1,0 +1,17 @@
+-- Each turn stores the entry of the next section: what is written are the entries of the sections visited.
+use Prim.Native.Nat.{◌-◌, ◌≤◌}
+use mathlib.Core.Path.{◌≡◌, refl, ◌∙◌}
+use lib.ListN.{length}
+use Rattle.model.specs.Lists.{over}
+use Rattle.model.specs.Image.{tree_of}
+use Rattle.model.specs.Sections.{section_nodes, entries, all_numbers}
+use Rattle.sections.proofs.Filling.{first_entries, Visited, none_visited, some_left, next-entry, one_visited, store_numbers, all_taken}
+use native.Mathlib.Omega.{arith}
+use borrow.Author.Rules.{rules}
+use Rattle.sections.proofs.numbers.fill.Given as goal
+
+abbrev pub invariant-loop-k : goal.invariant-loop-k
+invariant-loop-k l = ((l.k ≤ l.n) × Visited l.image l.zone l.at l.k) × ((length l.out ≡ length l.initial.out) × (l.out ≡ over l.initial.out (all_numbers (first_entries (tree_of l.image) l.zone l.k))))
+
+abbrev pub decreases-loop-k : goal.decreases-loop-k
+decreases-loop-k l = l.n - l.k
