@@ -7,7 +7,7 @@ use lib.Dec.{leb}
 use borrow.Author.Tests.{lt-leb, le-leb}
 use Rattle.model.specs.declared.Rejection.{Rejection}
 use Rattle.model.specs.Lists.{among}
-use Rattle.model.specs.Rules.{◌unless◌, rejection, rejected, answer, passed, check, ◌then◌, ◌gives◌}
+use Rattle.model.specs.Rules.{◌unless◌, rejection, rejected, answer, check, ◌then◌, ◌gives◌}
 use Rattle.model.specs.Image.{tree_of, node_count, dimensions, data_type_of}
 use Rattle.model.specs.Records.{table_check, product}
 use Rattle.model.specs.Values.{typed}

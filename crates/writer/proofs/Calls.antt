@@ -1,13 +1,13 @@
 -- A call by its check: a refusal and the room as it was, or the value and the room as written. The check of an addition in groups.
-use Prim.Native.Nat.{ℕ, ◌+◌, ◌*◌, ◌≤◌, ◌<◌}
-use mathlib.Core.Path.{◌≡◌, refl, sym, ap, ◌∙◌}
+use Prim.Native.Nat.{ℕ, ◌≤◌}
+use mathlib.Core.Path.{◌≡◌, refl, ap, ◌∙◌}
 use mathlib.Core.List.{List, [], ◌∷◌, ◌++◌}
 use native.Mathlib.Omega.{arith}
 use lib.ListN.{length}
 use lib.Dec.{leb, ltb}
 use borrow.Author.Tests.{leb-true, ltb-true}
 use Rattle.model.specs.declared.Rejection.{Rejection}
-use Rattle.model.specs.Rules.{◌unless◌, Answer, rejected, answer, Check, passed, check, ◌then◌, ◌gives◌, leaves}
+use Rattle.model.specs.Rules.{◌unless◌, rejected, answer, Check, passed, check, ◌then◌, ◌gives◌, leaves}
 use Rattle.model.specs.Image.{record_at}
 use Rattle.model.proofs.Passed.{check_pass}
 use Rattle.model.proofs.Staging.{check-append}

@@ -1,4 +1,6 @@
 // The writer: an image made node by node in a lent room. Each call answers on any state and any room; a refused one changes nothing.
+#![tactic(auto)]
+
 ghost use Rattle.std.specs.Prelude.{◌≡◌, [], ◌∷◌, ◌+◌, ◌≤◌, ◌<◌, leb, ltb, length};
 ghost use Rattle.model.specs.Rules.{◌unless◌, check};
 ghost use Rattle.model.specs.Answers.{stage_tells, count_tells};

@@ -1,20 +1,16 @@
 -- the tree of the nodes added: each node, its dimensions, its data, the running sums; each node that was judged when it was added is lawful among all.
-use Prim.Native.Nat.{ℕ, zero, suc, ◌+◌, ◌*◌, ◌-◌, ◌^◌, ◌≤◌, ◌<◌}
+use Prim.Native.Nat.{ℕ, zero, suc, ◌+◌, ◌*◌, ◌≤◌, ◌<◌}
 use mathlib.Core.Path.{◌≡◌, refl, sym, ap, subst, ◌∙◌}
-use mathlib.Core.List.{List, [], ◌∷◌, ◌++◌, append_assoc, append-nil}
+use mathlib.Core.List.{List, [], ◌∷◌, ◌++◌, append_assoc}
 use native.Mathlib.Omega.{arith}
-use native.Mathlib.Decide.{ℕ_discrete}
 use native.Mathlib.Nat.{zero-add}
-use native.Mathlib.Numerals.{add-one}
-use lib.ListN.{length, take, drop, get_or, length-append, get_or-append}
+use lib.ListN.{length, get_or, length-append, get_or-append}
 use lib.Seq.{drop_at, take_at, get_or_at}
 use Rattle.model.specs.Lists.{sum_before}
-use Rattle.model.specs.Rules.{Rule}
 use Rattle.model.specs.Image.{Node, Tree, node_of, node, dimensions, stored}
 use Rattle.model.specs.Records.{words_before, words_lawful, bytes_before, data_at_lawful, record_rules}
-use Rattle.writer_model.specs.After.{rules_after}
 use Rattle.model.specs.Bytes.{all_bytes}
-use Rattle.writer_model.specs.Writer.{Addition, line_lawful, addition_rules}
+use Rattle.writer_model.specs.Writer.{Addition, addition_rules}
 use Rattle.writer_model.specs.Claims.{IsWords}
 use Rattle.model.proofs.Passed.{Hold}
 use Rattle.model.proofs.LittleEndian.{length-all_bytes}

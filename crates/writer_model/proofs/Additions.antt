@@ -1,26 +1,20 @@
 -- an addition is judged in the room as in the tree of the nodes added, and what it then needs to be written has room.
-use Prim.Native.Nat.{ℕ, zero, suc, ◌+◌, ◌*◌, ◌-◌, ◌≤◌, ◌<◌}
-use mathlib.Core.Path.{◌≡◌, refl, sym, ap, subst, ◌∙◌}
-use mathlib.Core.Bool.{Bool, true, false, cond, not, ◌&&◌, ◌||◌}
+use Prim.Native.Nat.{ℕ, zero, suc, ◌+◌, ◌*◌, ◌≤◌, ◌<◌}
+use mathlib.Core.Path.{◌≡◌, refl, sym, ap, ◌∙◌}
+use mathlib.Core.Bool.{Bool}
 use mathlib.Core.List.{List, [], ◌∷◌, ◌++◌, append_assoc, append-nil}
 use native.Mathlib.Omega.{arith}
 use native.Mathlib.Nat.{zero-add}
 use native.Mathlib.Numerals.{add-one}
-use lib.ListN.{length, take, drop, get_or, replicate, length-append, length-replicate}
+use lib.ListN.{length, drop, replicate, length-append, length-replicate}
 use lib.Seq.{drop_at, get_or_at}
-use lib.Dec.{eqb, leb, ltb}
-use borrow.Author.Tests.{leb-true, leb-false, ltb-true, eqb-true, ne_eqb, eqb-false}
-use Rattle.writer_model.specs.declared.Writer.{Writer}
-use Rattle.model.specs.Lists.{among}
-use Rattle.model.specs.Bytes.{numbers, place_from, spells, text, blank}
-use Rattle.model.specs.Rules.{Rule, ◌unless◌, Check, passed, check}
-use Rattle.model.specs.Image.{Node, Tree, node_of, nodes_of, node, name, label, parent, dimensions, data_type_of, data_types, width, MT}
-use Rattle.model.specs.Records.{no_parent, parent_lawful, deeper_than, printable, label_lawful, name_lawful, name_taken, namesake, sibling, link, rank_lawful, data_size_lawful}
+use Rattle.model.specs.Rules.{Rule, ◌unless◌, check}
+use Rattle.model.specs.Image.{Node, Tree, node_of, nodes_of, node, name, label, parent, dimensions, data_type_of, width}
+use Rattle.model.specs.Records.{parent_lawful, name_taken, namesake, sibling, link, rank_lawful, data_size_lawful}
 use Rattle.writer_model.specs.After.{rules_after}
 use Rattle.model.specs.Bytes.{all_bytes}
-use Rattle.writer_model.specs.Writer.{Addition, padded, type_field, added_node, tree_with, line_lawful, addition_rules}
-use Rattle.model.proofs.Logic.{untrue, and_first, and_second}
-use Rattle.model.proofs.Passed.{Hold, check_pass}
+use Rattle.writer_model.specs.Writer.{Addition, added_node, tree_with, line_lawful, addition_rules}
+use Rattle.model.proofs.Passed.{Hold}
 use Rattle.model.proofs.LittleEndian.{length-all_bytes}
 use Rattle.writer_model.proofs.Parts.{parts, parent_fits, fits}
 use Rattle.writer_model.proofs.SameTable.{other, same-tree, deeper_same}

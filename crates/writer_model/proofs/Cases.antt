@@ -3,13 +3,13 @@ use Prim.Native.Nat.{ℕ}
 use Prim.Native.String.{String}
 use mathlib.Core.Path.{◌≡◌, refl}
 use mathlib.Core.List.{List, [], ◌∷◌, ◌++◌}
-use lib.ListN.{length, take, replicate, set}
+use lib.ListN.{replicate, set}
 use Rattle.writer_model.specs.declared.Writer.{Writer}
 use Rattle.model.specs.Bytes.{all_bytes, text}
 use Rattle.model.specs.Rules.{Answer, rejected, answer, rejection}
 use Rattle.model.specs.Image.{tree_of}
 use Rattle.model.specs.Build.{Plan, plan, image}
-use Rattle.writer_model.specs.Writer.{Addition, start_answer, start_memory, add_answer, add_memory, finish_answer}
+use Rattle.writer_model.specs.Writer.{Addition, start_answer, start_memory, add_answer, finish_answer}
 use Rattle.writer_model.specs.Claims.{Draft, start_draft, draft_of, added_of, nodes_read, all_stored}
 use Rattle.writer_model.specs.Computed.{computed_writer}
 use Rattle.model.proofs.Tetrahedron.{root_plan, tetra_plans}

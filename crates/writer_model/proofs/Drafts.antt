@@ -1,20 +1,20 @@
 -- what a room holds after additions, as one list: the header; records, words and data, each filled up with zeros; the rest of the room.
-use Prim.Native.Nat.{ℕ, zero, suc, ◌+◌, ◌*◌, ◌-◌, ◌≤◌, ◌<◌}
+use Prim.Native.Nat.{ℕ, ◌+◌, ◌*◌, ◌-◌, ◌≤◌, ◌<◌}
 use mathlib.Core.Path.{◌≡◌, refl, sym, ap, ◌∙◌}
 use mathlib.Core.List.{List, [], ◌∷◌, ◌++◌, append_assoc, append-nil}
 use native.Mathlib.Omega.{arith}
 use native.Mathlib.Nat.{add_assoc, zero-add}
 use native.Mathlib.Numerals.{add-one}
-use lib.ListN.{length, take, drop, replicate, length-append, length-replicate, replicate-append-replicate}
+use lib.ListN.{length, drop, replicate, length-append, length-replicate, replicate-append-replicate}
 use lib.Seq.{drop_at}
 use Rattle.writer_model.specs.declared.Writer.{Writer}
 use Rattle.model.specs.Lists.{over, over_at}
-use Rattle.model.specs.Rules.{passed, check, leaves}
-use Rattle.model.specs.Image.{Node, node_of, nodes_of}
+use Rattle.model.specs.Rules.{passed, leaves}
+use Rattle.model.specs.Image.{Node, nodes_of}
 use Rattle.model.specs.Bytes.{le_bytes, all_bytes}
 use Rattle.model.specs.Build.{header_words}
-use Rattle.writer_model.specs.Writer.{Addition, room_for, padded, type_field, added_node, next_state, record_bytes, words_place, bytes_place, with_node, start_check, started, blank_image, start_memory}
-use Rattle.writer_model.specs.Claims.{Draft, start_draft, with_added}
+use Rattle.writer_model.specs.Writer.{Addition, room_for, padded, type_field, added_node, next_state, record_bytes, words_place, bytes_place, with_node, start_check, blank_image, start_memory}
+use Rattle.writer_model.specs.Claims.{Draft, with_added}
 use Rattle.model.proofs.LittleEndian.{length-all_bytes}
 use Rattle.writer_model.proofs.RecordBytes.{Fits, record_length, node-written}
 use Rattle.writer_model.proofs.Filled.{fill, fill_length, part_more}

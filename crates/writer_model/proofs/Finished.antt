@@ -1,37 +1,31 @@
 -- the bytes of all nodes added are an image that passes rules 1 to 18 and reads back to them.
-use Prim.Native.Nat.{ℕ, zero, suc, ◌+◌, ◌*◌, ◌-◌, ◌^◌, ◌≤◌, ◌<◌}
+use Prim.Native.Nat.{ℕ, zero, suc, ◌+◌, ◌*◌, ◌^◌, ◌≤◌, ◌<◌}
 use mathlib.Core.Path.{◌≡◌, refl, sym, ap, subst, ◌∙◌}
-use mathlib.Core.Bool.{Bool, true, false, cond, ◌&&◌}
 use mathlib.Core.List.{List, [], ◌∷◌, ◌++◌, append_assoc, append-nil}
 use native.Mathlib.Omega.{arith}
 use native.Mathlib.Decide.{ℕ_discrete}
-use native.Mathlib.Nat.{zero-add}
-use native.Mathlib.Numerals.{add-one}
 use lib.ListN.{length, take, drop, get_or, length-append}
-use lib.Seq.{drop_at, take_at, take-append-le}
-use lib.Dec.{eqb, leb}
+use lib.Seq.{drop_at, take-append-le}
 use borrow.Author.Tests.{le-leb, eq-eqb}
 use Rattle.model.specs.Lists.{sum_before}
-use Rattle.model.specs.Bytes.{le, numbers}
-use Rattle.model.specs.Rules.{Rule, ◌unless◌, Check, passed, check, check_from, ◌then◌}
-use Rattle.model.specs.Image.{Node, Tree, tree_of, node_of, nodes_of, node, name, label, parent, dimensions, stored, header_word, form, total_length, node_count, record_offset, dimension_offset, word_count, data_offset, data_length}
+use Rattle.model.specs.Rules.{Rule, ◌unless◌, Check, passed, check, check_from}
+use Rattle.model.specs.Image.{Node, Tree, tree_of, node_of, nodes_of, node, header_word, form, total_length, node_count, record_offset, dimension_offset, word_count, data_offset, data_length}
 use Rattle.model.specs.Header.{header_rules, header_check, length_lawful, node_count_lawful, laid_out}
 use Rattle.model.specs.Records.{words_before, bytes_before, record_rules, record_check_at, record_check, nothing_trails, trailing_check, table_check}
 use Rattle.model.specs.Bytes.{all_bytes}
 use Rattle.model.specs.Build.{header_words}
-use Rattle.model.specs.ReadList.{values_from}
-use Rattle.writer_model.specs.Writer.{Addition, padded, type_field, addition_rules}
-use Rattle.writer_model.specs.Claims.{Below, IsWords, as_stored, all_stored, node_read, nodes_read}
+use Rattle.writer_model.specs.Writer.{Addition, addition_rules}
+use Rattle.writer_model.specs.Claims.{Below, IsWords}
 use Rattle.model.proofs.Logic.{and_both}
 use Rattle.model.proofs.Passed.{Hold, then-on}
 use Rattle.model.proofs.Reading.{numbers-at}
 use Rattle.model.proofs.LittleEndian.{length-all_bytes}
 use Rattle.writer_model.proofs.WrittenNumbers.{numbers-written}
 use Rattle.writer_model.proofs.RecordBytes.{Fits}
-use Rattle.writer_model.proofs.SameTable.{other, same-tree, records_same}
+use Rattle.writer_model.proofs.SameTable.{other, records_same}
 use Rattle.writer_model.proofs.Drafts.{all_dims, all_data, node_for, placed, recs, AllFit, recs_length, nodes-written, head, head_length, state_after}
 use Rattle.writer_model.proofs.Additions.{tree_for, Limits}
-use Rattle.writer_model.proofs.AddedNodes.{sum_rank, sum_size, node_there, dimensions_there, stored_there, lawful_there}
+use Rattle.writer_model.proofs.AddedNodes.{sum_rank, sum_size, lawful_there}
 
 -- every rule of a list holds, so the check passes
 pub pass_check : (i : ℕ) (rules : List Rule) → Hold rules → check i rules ≡ passed

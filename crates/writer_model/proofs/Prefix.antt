@@ -1,7 +1,7 @@
 -- Two trees whose nodes up to m are the same: node m is judged alike.
 use Prim.Native.Nat.{ℕ, zero, suc, ◌+◌, ◌*◌, ◌≤◌, ◌<◌}
-use mathlib.Core.Path.{◌≡◌, refl, sym, ap, ◌∙◌}
-use mathlib.Core.Bool.{Bool, true, false, cond, not, ◌&&◌, ◌||◌}
+use mathlib.Core.Path.{◌≡◌, refl, ap, ◌∙◌}
+use mathlib.Core.Bool.{Bool, true, cond, not, ◌&&◌, ◌||◌}
 use mathlib.Core.List.{List, [], ◌∷◌}
 use native.Mathlib.Omega.{arith}
 use lib.ListN.{get_or}
@@ -11,8 +11,8 @@ use Rattle.model.specs.Lists.{some_from, among}
 use Rattle.model.specs.Bytes.{same, text, place_from}
 use Rattle.model.specs.Rules.{Rule, ◌unless◌}
 use Rattle.model.specs.Image.{Node, Tree, node, name, label, parent, dimensions, data_type_of, data_types, width, widths, MT}
-use Rattle.model.specs.Records.{no_parent, parent_lawful, deeper_than, name_lawful, label_lawful, name_taken, namesake, sibling, link, rank_lawful, product, data_size_lawful}
-use Rattle.writer_model.specs.After.{words_after, bytes_after, rules_after}
+use Rattle.model.specs.Records.{parent_lawful, deeper_than, name_lawful, label_lawful, name_taken, namesake, sibling, link, rank_lawful, product, data_size_lawful}
+use Rattle.writer_model.specs.After.{rules_after}
 use Rattle.writer_model.specs.Writer.{line_lawful}
 use Rattle.model.proofs.Logic.{and_first, and_second, or_right}
 use Rattle.model.proofs.Parents.{parent-lower}

@@ -1,20 +1,19 @@
 -- the finished image reads back to exactly the nodes added.
-use Prim.Native.Nat.{ℕ, zero, suc, ◌+◌, ◌*◌, ◌-◌, ◌^◌, ◌≤◌, ◌<◌}
+use Prim.Native.Nat.{ℕ, suc}
 use mathlib.Core.Path.{◌≡◌, refl, sym, ap, subst, ◌∙◌}
 use mathlib.Core.Bool.{Bool, true, false, cond}
 use mathlib.Core.List.{List, [], ◌∷◌, ◌++◌, append_assoc}
 use native.Mathlib.Omega.{arith}
 use native.Mathlib.Numerals.{add-one}
-use lib.ListN.{length, take, drop, length-append}
+use lib.ListN.{length, length-append}
 use lib.Dec.{eqb}
-use Rattle.model.specs.Image.{Node, Tree, tree_of, node, name, label, parent, dimensions, stored, node_count}
+use Rattle.model.specs.Image.{Node, Tree, tree_of, node, name, label, parent, stored}
 use Rattle.model.specs.Records.{words_lawful, record_rules}
-use Rattle.model.specs.Bytes.{all_bytes}
 use Rattle.model.specs.ReadList.{values_from}
-use Rattle.writer_model.specs.Writer.{Addition, padded, type_field}
+use Rattle.writer_model.specs.Writer.{Addition, type_field}
 use Rattle.writer_model.specs.Claims.{IsWords, as_stored, all_stored, node_read, nodes_read}
 use Rattle.writer_model.proofs.RecordBytes.{Fits}
-use Rattle.writer_model.proofs.SameTable.{other, dimensions-same}
+use Rattle.writer_model.proofs.SameTable.{dimensions-same}
 use Rattle.writer_model.proofs.Drafts.{all_dims, all_data, node_for}
 use Rattle.writer_model.proofs.Additions.{tree_for}
 use Rattle.writer_model.proofs.AddedNodes.{node_there, dimensions_there, stored_there}

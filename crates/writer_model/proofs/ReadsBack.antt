@@ -1,8 +1,7 @@
 -- The first theorem: all nodes, words and data added, the room is a finished image that passes rules 1 to 18 and reads back to exactly
 -- the nodes added; a refused addition is as if it had not been.
-use Prim.Native.Nat.{ℕ, zero, suc, ◌+◌, ◌*◌, ◌-◌, ◌≤◌, ◌<◌}
+use Prim.Native.Nat.{ℕ, ◌*◌, ◌≤◌, ◌<◌}
 use mathlib.Core.Path.{◌≡◌, refl, sym, ap, subst, ◌∙◌}
-use mathlib.Core.Bool.{Bool, true, false, ◌&&◌}
 use mathlib.Core.List.{List, [], ◌∷◌, ◌++◌, append_assoc, append-nil}
 use native.Mathlib.Omega.{arith}
 use native.Mathlib.Nat.{zero-add}
@@ -10,21 +9,19 @@ use lib.ListN.{length, take, drop, length-append, length-drop}
 use lib.Seq.{take_at, drop_at}
 use lib.Dec.{leb, ltb}
 use borrow.Author.Tests.{leb-true, ltb-true, le-leb}
-use Rattle.model.specs.declared.Rejection.{Rejection}
 use Rattle.writer_model.specs.declared.Writer.{Writer}
-use Rattle.model.specs.Rules.{◌unless◌, Answer, rejected, answer, Check, passed, check, ◌then◌, ◌gives◌, leaves}
-use Rattle.model.specs.Image.{tree_of}
+use Rattle.model.specs.Rules.{◌unless◌, rejected, answer, Check, passed, check, ◌then◌, ◌gives◌, leaves}
 use Rattle.model.specs.Records.{table_check}
 use Rattle.model.specs.Bytes.{all_bytes}
 use Rattle.writer_model.specs.After.{after}
-use Rattle.writer_model.specs.Writer.{Addition, room_for, needed_room, next_state, add_answer, add_memory, with_node, start_check, started, start_answer, start_memory, tree_with, addition_rules, add_check, finish_check, finish_answer}
-use Rattle.writer_model.specs.Claims.{Draft, start_draft, with_added, draft_of, added_of, nodes_read, all_stored, IsWords, AllWords, draft, Written, Used, last_state, ReadsBack}
+use Rattle.writer_model.specs.Writer.{Addition, room_for, needed_room, next_state, add_answer, add_memory, with_node, start_check, started, start_answer, addition_rules, add_check, finish_check, finish_answer}
+use Rattle.writer_model.specs.Claims.{Draft, start_draft, with_added, draft_of, added_of, IsWords, AllWords, draft, Written, Used, last_state, ReadsBack}
 use Rattle.model.proofs.Logic.{and_first, and_second}
 use Rattle.model.proofs.Passed.{Hold, check_pass, then-first, then-second, then-on}
 use Rattle.model.proofs.LittleEndian.{length-all_bytes}
 use Rattle.writer_model.proofs.RecordBytes.{Fits}
 use Rattle.writer_model.proofs.Filled.{fill, fill_full}
-use Rattle.writer_model.proofs.Drafts.{all_dims, all_data, node_for, recs, AllFit, fit_snoc, recs_length, head, form, state_after, draft_for, start_form, same-draft, draft_step}
+use Rattle.writer_model.proofs.Drafts.{all_dims, all_data, node_for, recs, AllFit, fit_snoc, recs_length, form, state_after, draft_for, start_form, same-draft, draft_step}
 use Rattle.writer_model.proofs.Additions.{tree_for, addition_judged, Limits, room_for_lem}
 use Rattle.writer_model.proofs.Finished.{pass_check, Good, image_for, Full, image-length, table-passes}
 use Rattle.writer_model.proofs.ReadBack.{read_back}

@@ -1,12 +1,12 @@
 -- A node record written and read again.
-use Prim.Native.Nat.{ℕ, suc, ◌+◌, ◌*◌, ◌-◌, ◌^◌, ◌≤◌, ◌<◌}
-use mathlib.Core.Path.{◌≡◌, refl, sym, ap, ◌∙◌}
-use mathlib.Core.List.{List, [], ◌∷◌, ◌++◌, append_assoc}
+use Prim.Native.Nat.{ℕ, ◌+◌, ◌≤◌, ◌<◌}
+use mathlib.Core.Path.{◌≡◌, sym, ap, ◌∙◌}
+use mathlib.Core.List.{List, ◌++◌, append_assoc}
 use native.Mathlib.Omega.{arith}
 use lib.ListN.{length, take, drop, length-append, length-drop}
-use lib.Seq.{drop-drop, take-add, take_at, drop_at, length-take-le}
+use lib.Seq.{drop-drop, take-add, take_at, drop_at}
 use Rattle.model.specs.Bytes.{le}
-use Rattle.model.specs.Image.{Node, node_of, nodes_of}
+use Rattle.model.specs.Image.{Node, node_of}
 use Rattle.model.specs.Bytes.{le_bytes}
 use Rattle.writer_model.specs.Writer.{record_bytes}
 use Rattle.writer_model.specs.Claims.{IsBytes}

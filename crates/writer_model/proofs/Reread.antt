@@ -1,28 +1,26 @@
 -- the nodes read from an image that passes rules 1 to 18 are added one by one, none refused.
-use Prim.Native.Nat.{ℕ, zero, suc, ◌+◌, ◌*◌, ◌-◌, ◌^◌, ◌≤◌, ◌<◌}
+use Prim.Native.Nat.{ℕ, zero, suc, ◌+◌, ◌*◌, ◌-◌, ◌≤◌, ◌<◌}
 use mathlib.Core.Path.{◌≡◌, refl, sym, ap, subst, ◌∙◌}
-use mathlib.Core.Bool.{Bool, true, false, cond, ◌&&◌, ◌||◌}
-use mathlib.Core.List.{List, [], ◌∷◌, ◌++◌, append_assoc, append-nil}
+use mathlib.Core.Bool.{true}
+use mathlib.Core.List.{List, [], ◌∷◌, ◌++◌, append-nil}
 use native.Mathlib.Omega.{arith}
 use native.Mathlib.Decide.{ℕ_discrete}
 use native.Mathlib.Nat.{zero-add}
 use native.Mathlib.Numerals.{add-one}
-use lib.ListN.{length, take, drop, get_or, replicate, length-append, length-drop, length-take, get_or-append}
+use lib.ListN.{length, take, drop, get_or, length-append, length-drop, get_or-append}
 use lib.Seq.{drop-drop, take-add, length-take-le}
-use lib.Dec.{eqb, leb, ltb}
-use borrow.Author.Tests.{le-leb, lt-ltb, eq-eqb, eqb-true}
-use Rattle.writer_model.specs.declared.Writer.{Writer}
+use lib.Dec.{eqb}
+use borrow.Author.Tests.{le-leb, lt-ltb, eq-eqb}
 use Rattle.model.specs.Lists.{sum_before}
-use Rattle.model.specs.Bytes.{le, numbers}
-use Rattle.model.specs.Rules.{◌unless◌, Check, passed, check, ◌then◌}
+use Rattle.model.specs.Bytes.{numbers}
+use Rattle.model.specs.Rules.{passed}
 use Rattle.model.specs.Image.{Node, Tree, tree_of, node_of, node, name, label, parent, dimensions, stored, node_count, dimension_offset, word_count, data_offset, data_length, record_at}
 use Rattle.model.specs.Records.{parent_lawful, words_before, words_lawful, bytes_before, data_at_lawful, record_rules, table_check}
-use Rattle.writer_model.specs.After.{rules_after}
 use Rattle.model.specs.Bounds.{Laid, Placed}
 use Rattle.model.specs.Bytes.{all_bytes}
 use Rattle.writer_model.specs.Writer.{Addition, room_for, needed_room, padded, type_field, line_lawful, addition_rules, add_check, record_bytes}
 use Rattle.writer_model.specs.Claims.{node_read, Below, IsBytes, IsWords}
-use Rattle.model.proofs.Logic.{and_both, or_right}
+use Rattle.model.proofs.Logic.{or_right}
 use Rattle.model.proofs.Passed.{Hold, then-on}
 use Rattle.model.proofs.Accepted.{record_holds}
 use Rattle.model.proofs.Bounds.{table-laid, node-placed, sound}

@@ -1,18 +1,18 @@
 -- The second theorem: an image that passes rules 1 to 18, read node by node and written again, gives equal bytes.
-use Prim.Native.Nat.{ℕ, zero, suc, ◌+◌, ◌*◌, ◌-◌, ◌^◌, ◌≤◌, ◌<◌}
+use Prim.Native.Nat.{ℕ, zero, suc, ◌+◌, ◌*◌, ◌≤◌, ◌<◌}
 use mathlib.Core.Path.{◌≡◌, refl, sym, ap, subst, ◌∙◌}
-use mathlib.Core.Bool.{Bool, true, false, ◌&&◌}
+use mathlib.Core.Bool.{◌&&◌}
 use mathlib.Core.List.{List, [], ◌∷◌, ◌++◌, append_assoc, append-nil}
 use native.Mathlib.Omega.{arith}
 use lib.ListN.{length, take, drop, length-append, length-drop, take-append-drop}
-use lib.Seq.{take-add, drop-drop, take_all, take_at}
-use lib.Dec.{eqb, leb}
+use lib.Seq.{drop-drop, take_all, take_at}
+use lib.Dec.{eqb}
 use borrow.Author.Tests.{le-leb, eqb-true}
 use Rattle.writer_model.specs.declared.Writer.{Writer}
 use Rattle.model.specs.Lists.{over}
 use Rattle.model.specs.Bytes.{numbers}
-use Rattle.model.specs.Rules.{◌unless◌, answer, Check, passed, check, leaves}
-use Rattle.model.specs.Image.{Tree, tree_of, header_word, form as formWord, total_length, node_count, record_offset, dimension_offset, word_count, data_offset, data_length}
+use Rattle.model.specs.Rules.{answer, passed, leaves}
+use Rattle.model.specs.Image.{tree_of, header_word, form as formWord, total_length, node_count, record_offset, dimension_offset, word_count, data_offset, data_length}
 use Rattle.model.specs.Header.{header_rules, laid_out}
 use Rattle.model.specs.Records.{words_before, bytes_before, nothing_trails, table_check}
 use Rattle.model.specs.Bounds.{Laid}
@@ -20,13 +20,13 @@ use Rattle.model.specs.Bytes.{all_bytes}
 use Rattle.model.specs.Build.{header_words}
 use Rattle.model.specs.ReadList.{values_from}
 use Rattle.writer_model.specs.After.{after}
-use Rattle.writer_model.specs.Writer.{Addition, room_for, start_check, started, add_check, finish_answer}
+use Rattle.writer_model.specs.Writer.{Addition, room_for, start_check, started, finish_answer}
 use Rattle.writer_model.specs.Claims.{Draft, start_draft, with_added, draft_of, added_of, node_read, nodes_read, IsBytes, blank_draft, second_draft, Rewritten, Rewrites}
 use Rattle.model.proofs.Logic.{and_first, and_second, and_both}
 use Rattle.model.proofs.Accepted.{header_holds, nothing_trails_lem}
 use Rattle.model.proofs.Bounds.{table-laid}
 use Rattle.writer_model.proofs.WrittenNumbers.{written-numbers}
-use Rattle.writer_model.proofs.Drafts.{all_dims, all_data, recs, head, form, state_after, draft_for, start_form, same-draft, draft_step}
+use Rattle.writer_model.proofs.Drafts.{all_dims, all_data, head, draft_for, start_form, same-draft, draft_step}
 use Rattle.writer_model.proofs.Finished.{pass_check, image_for, Full}
 use Rattle.writer_model.proofs.ReadsBack.{full_form, finish_passes}
 use Rattle.writer_model.proofs.Reread.{limits, Came, none_came, addition-passes, room-here, one_came}

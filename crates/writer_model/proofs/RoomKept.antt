@@ -1,21 +1,21 @@
 -- No call changes the room past what is needed, on any state: the parts that are written end before it.
 use Prim.Native.Nat.{ℕ, ◌+◌, ◌*◌, ◌≤◌, ◌<◌}
-use mathlib.Core.Path.{◌≡◌, refl, sym, ap, ◌∙◌}
-use mathlib.Core.List.{List, [], ◌∷◌, ◌++◌}
+use mathlib.Core.Path.{◌≡◌, refl, ◌∙◌}
+use mathlib.Core.List.{List, [], ◌∷◌}
 use native.Mathlib.Omega.{arith}
 use lib.ListN.{length, drop, replicate, length-append, length-replicate}
 use lib.Dec.{leb, ltb}
 use borrow.Author.Tests.{leb-true, ltb-true}
 use Rattle.model.specs.Lists.{over, over_at}
 use Rattle.model.specs.Bytes.{all_bytes}
-use Rattle.model.specs.Rules.{Rule, ◌unless◌, rejected, answer, Check, passed, check, ◌then◌, leaves}
+use Rattle.model.specs.Rules.{◌unless◌, rejected, answer, Check, passed, check, leaves}
 use Rattle.model.specs.Image.{record_at}
 use Rattle.model.specs.Build.{header_words}
 use Rattle.model.proofs.Passed.{check_pass, then-first, then-second}
 use Rattle.model.proofs.LittleEndian.{length-le_bytes, length-all_bytes}
 use Rattle.model.proofs.Overlays.{over-length, over-rest, over_at-length, over_at-beyond}
 use Rattle.writer_model.specs.declared.Writer.{Writer}
-use Rattle.writer_model.specs.Writer.{Addition, room_for, needed_room, start_check, blank_image, start_memory, added_node, tree_with, addition_rules, add_check, add_memory, record_bytes, words_place, bytes_place, with_node}
+use Rattle.writer_model.specs.Writer.{Addition, room_for, needed_room, start_check, blank_image, start_memory, added_node, tree_with, add_check, add_memory, record_bytes, words_place, bytes_place, with_node}
 use Rattle.writer_model.specs.Claims.{RoomKept}
 use Rattle.writer_model.proofs.Parts.{Parts, parts}
 use Rattle.writer_model.proofs.TreeWith.{added_node_lem}

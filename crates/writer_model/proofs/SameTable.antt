@@ -1,18 +1,17 @@
 -- Rules 7 to 18 read the records and the dimension words of a tree, and no data byte: two trees that agree there are judged alike.
-use Prim.Native.Nat.{ℕ, zero, suc, ◌+◌, ◌*◌, ◌-◌, ◌≤◌, ◌<◌}
+use Prim.Native.Nat.{ℕ, zero, suc, ◌+◌, ◌*◌, ◌-◌, ◌≤◌}
 use mathlib.Core.Path.{◌≡◌, refl, sym, ap, ◌∙◌}
-use mathlib.Core.Bool.{Bool, true, false, cond, not, ◌&&◌}
+use mathlib.Core.Bool.{Bool, true, false, not}
 use mathlib.Core.List.{List, [], ◌∷◌, ◌++◌}
 use native.Mathlib.Omega.{arith}
 use lib.ListN.{take, drop}
 use lib.Seq.{take-take}
-use lib.Dec.{eqb, leb, ltb}
+use lib.Dec.{eqb, ltb}
 use borrow.Author.Tests.{leb-true, eqb-true}
 use Rattle.model.specs.Bytes.{numbers}
-use Rattle.model.specs.Rules.{Rule, ◌unless◌, Check, passed, check, ◌then◌}
+use Rattle.model.specs.Rules.{Rule, ◌unless◌, check, ◌then◌}
 use Rattle.model.specs.Image.{Node, Tree, node, name, label, parent, dimensions, data_type_of, width}
 use Rattle.model.specs.Records.{parent_lawful, deeper_than, name_lawful, label_lawful, name_taken, namesake, sibling, link, rank_lawful, words_before, words_lawful, data_size_lawful, bytes_before, data_at_lawful, record_rules, record_check_at, record_check, nothing_trails, trailing_check}
-use Rattle.writer_model.specs.After.{words_after, bytes_after}
 use Rattle.model.proofs.Logic.{and_first, and_second}
 use Rattle.model.proofs.Passed.{check_from-same}
 use Rattle.model.proofs.Reading.{le-take, drop-take}

@@ -1,9 +1,8 @@
 -- what readers of the room need: the nodes of the tree in which an addition is judged, by the room's bytes and by what is added.
-use Prim.Native.Nat.{ℕ, zero, suc, ◌+◌, ◌*◌, ◌≤◌, ◌<◌}
+use Prim.Native.Nat.{ℕ, zero, suc, ◌+◌, ◌*◌, ◌<◌}
 use mathlib.Core.Path.{◌≡◌, refl, sym, ap, ◌∙◌}
-use mathlib.Core.List.{List, [], ◌∷◌, ◌++◌, append-nil}
-use native.Mathlib.Omega.{arith}
-use lib.ListN.{length, take, drop, get_or, replicate, length-replicate, get_or-append}
+use mathlib.Core.List.{List, [], ◌∷◌, append-nil}
+use lib.ListN.{length, take, drop, replicate, length-replicate, get_or-append}
 use lib.Seq.{drop_at, get_or_at, drop-drop}
 use Rattle.writer_model.specs.declared.Writer.{Writer}
 use Rattle.model.specs.Bytes.{numbers, le}

@@ -1,11 +1,11 @@
 -- Numbers and rows of numbers, read from bytes and written again.
-use Prim.Native.Nat.{ℕ, zero, suc, ◌+◌, ◌*◌, ◌-◌, ◌/◌, ◌%◌, ◌^◌, ◌≤◌, ◌<◌}
-use mathlib.Core.Path.{◌≡◌, refl, sym, ap, ◌∙◌}
+use Prim.Native.Nat.{ℕ, zero, suc, ◌+◌, ◌*◌, ◌/◌, ◌%◌, ◌^◌, ◌≤◌, ◌<◌}
+use mathlib.Core.Path.{◌≡◌, refl}
 use mathlib.Core.List.{List, [], ◌∷◌, ◌++◌, append_assoc}
 use native.Mathlib.Omega.{arith}
 use native.Mathlib.Nat.{pow-succ'}
-use lib.ListN.{length, take, drop, length-append, length-drop}
-use lib.Seq.{drop-drop, take-add, drop_at, take_all}
+use lib.ListN.{length, take, drop, length-drop}
+use lib.Seq.{take-add, drop_at}
 use Rattle.model.specs.Bytes.{le, le_bytes, all_bytes, numbers}
 use Rattle.model.proofs.LittleEndian.{length-le_bytes, le-written}
 use Rattle.writer_model.specs.Claims.{Below, IsBytes}

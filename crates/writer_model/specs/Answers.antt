@@ -2,7 +2,6 @@
 use Rattle.model.specs.Rules.{Answer, rejected, answer}
 use Rattle.writer_model.specs.declared.Writer.{Writer}
 use Rattle.writer_model.specs.declared.Writing.{Writing}
-use Rattle.writer_model.specs.declared.Writing.TheVariants as Writing
 
 abbrev pub writing_tells : Writing → Answer Writer
 writing_tells (Writing.State s) = answer s

@@ -1,4 +1,6 @@
 // The types that the writer's contracts name: its state, and the answer of a call. What they mean stands in specs/.
+#![tactic(auto)]
+
 use model::Rejection;
 
 // A writer's state: nodes, dimension words and data bytes as stated at the start; then how many of each were added so far.

@@ -1,4 +1,6 @@
 // What is written: the header and zeros of a start; a node's record, its dimension words and its data.
+#![tactic(auto)]
+
 ghost use Rattle.std.specs.Prelude.{◌≡◌, ◌++◌, ◌+◌, ◌*◌, ◌≤◌, ◌<◌, length, replicate};
 ghost use Rattle.model.specs.Lists.{over, over_at};
 ghost use Rattle.model.specs.Bytes.{le_bytes, all_bytes};

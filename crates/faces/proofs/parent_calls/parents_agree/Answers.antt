@@ -8,7 +8,7 @@ pub agreement_after-requires : goal.agreement_after-requires
 agreement_after-requires c =
     let v = c.image_stage_with-verdict in
     let k = v.auto in
-    record { verdict_value = v.ensures; in_bounds = (omega (arith, k.1.1.0), omega (arith, k.1.1.1.0), omega (arith, k.1.1.1.1.0)) }
+    record { verdict_value = v.ensures; in_bounds = (omega (arith, k.firsts), omega (arith, k.reach), omega (arith, k.levels)) }
 
 pub slice_bounds-image_stage_with-end : goal.slice_bounds-image_stage_with-end
 slice_bounds-image_stage_with-end c = refl

@@ -30,4 +30,6 @@ returns-in_default c =
 
 pub returns : goal.returns
 returns c =
-    run_passed c.requires.tables.accepted _ _ (all_faces c.requires.tables.accepted c.requires.tables.ranges) c.clear.ensures c.use_nodes-s.ensures c.in-Pass.is
+    let f = all_faces c.requires.tables.accepted c.requires.tables.ranges in
+    let w = run_passed c.requires.tables.accepted _ _ f c.clear.ensures c.use_nodes-s.ensures c.in-Pass.is in
+    record { result_value = w.0; out_after = w.1 }

@@ -10,7 +10,8 @@ use Rattle.faces.proofs.zone_agreement.fill_and_agree.Goals as goal
 
 pub returns-in-Rejected : goal.returns-in-Rejected
 returns-in-Rejected c =
-    let f = c.fill-usage in record { result_value = refused_too _ _ _ (ap usage_tells (sym c.in-Rejected.is) ∙ f.ensures.0); out_after = f.ensures.1 }
+    let f = c.fill-usage.ensures in
+    record { result_value = refused_too _ _ _ (ap usage_tells (sym c.in-Rejected.is) ∙ f.result_value); out_after = f.out_after }
 
 pub zone_agrees-requires : goal.zone_agrees-requires
 zone_agrees-requires c =

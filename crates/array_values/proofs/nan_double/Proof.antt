@@ -1,9 +1,0 @@
--- The bits of a NaN are those above infinity, whatever the sign.
-use mathlib.Core.Path.{sym}
-use lib.Ieee.{binary64}
-use lib.Ieee.Bits.{nan_bits_above}
-use Rattle.array_values.proofs.nan_double.Statement.{statement}
-use Rattle.array_values.proofs.nan_double.Tie as tie
-
-pub nan-double-spec : {M : Type 1} → statement M
-nan-double-spec = tie.close (tie.spec (λ c. sym (nan_bits_above binary64 c.args.bits)))
