@@ -1,5 +1,5 @@
 -- What rules 1 to 18 passed, and what an acceptance say: each rule, asked for by its number, holds at each node.
-use Prim.Native.Nat.{ℕ, suc, ◌<◌}
+use Prim.Native.Nat.{ℕ, ◌<◌}
 use mathlib.Core.Path.{◌≡◌}
 use mathlib.Core.Bool.{true}
 use mathlib.Core.List.{List}

@@ -18,7 +18,7 @@ use Rattle.model.specs.Containment.{is_zone}
 use Rattle.model.specs.Elements.{MIXED, NFACE, element_type_of, first_element, last_element, element_start, element_size, corner_reference, connectivity_length}
 use Rattle.model.specs.Elements.{start_of, size_of, corner_place, type_fits, layout_of}
 use Rattle.model.specs.Validation.{image_check}
-use Rattle.model.specs.Sections.{section_nodes, entry, entries, sections_check, sections_answer, section_numbers_memory}
+use Rattle.model.specs.Sections.{section_nodes, entry, sections_check, sections_answer, section_numbers_memory}
 use Rattle.model.specs.Corner.{corner_answer}
 use Rattle.model.specs.Answers.{corner_tells}
 use Rattle.model.specs.Reads.{read_answer, ReadMade, IsRead}

@@ -15,11 +15,11 @@ use borrow.Author.Tests.{le-leb, leb-true, leb-false}
 use Rattle.model.specs.declared.Section.{Section}
 use Rattle.model.specs.declared.Corner.TheVariants as Corner
 use Rattle.model.specs.Lists.{over}
-use Rattle.model.specs.Bytes.{le, numbers, signed}
+use Rattle.model.specs.Bytes.{le, signed}
 use Rattle.model.specs.Rules.{Answer, answer, passed, ◌unless◌, check, ◌then◌, ◌gives◌, leaves}
 use Rattle.model.specs.Image.{tree_of, node_count}
 use Rattle.model.specs.Containment.{is_zone, section_of}
-use Rattle.model.specs.Elements.{NFACE, element_type_of, first_element, last_element, own_type, layout_of, connectivity_length}
+use Rattle.model.specs.Elements.{NFACE, element_type_of, first_element, last_element, connectivity_length}
 use Rattle.model.specs.Validation.{Counts, validation, image_check}
 use Rattle.model.specs.Sections.{section_nodes, entry, section_entries, all_numbers, sections_check, sections_answer, sections_memory, section_numbers_memory}
 use Rattle.model.specs.Answers.{corner_tells}

@@ -1,6 +1,6 @@
 -- A section of an accepted image: what its rules say of its range, its start offsets and its connectivity. Each element starts before the next one,
 -- and the last one ends where the connectivity does.
-use Prim.Native.Nat.{ℕ, suc, ◌+◌, ◌*◌, ◌-◌, ◌≤◌, ◌<◌}
+use Prim.Native.Nat.{ℕ, suc, ◌+◌, ◌*◌, ◌≤◌, ◌<◌}
 use mathlib.Core.Path.{◌≡◌, refl, sym, ◌∙◌}
 use mathlib.Core.Bool.{Bool, true, false, ◌&&◌}
 use mathlib.Core.List.{List, [], ◌∷◌}
@@ -9,9 +9,9 @@ use native.Mathlib.Nat.{suc-mul, mul-le-mul_right}
 use lib.Dec.{eqb, leb, ltb}
 use borrow.Author.Tests.{eqb-true, leb-true, ltb-true, ltb-false}
 use Rattle.model.specs.Lists.{◌⊃◌, row}
-use Rattle.model.specs.Bytes.{numbers, text, spells, half}
+use Rattle.model.specs.Bytes.{text, spells, half}
 use Rattle.model.specs.Rules.{passed}
-use Rattle.model.specs.Image.{Tree, tree_of, node_count, node, name, width, number, I4, I8}
+use Rattle.model.specs.Image.{Tree, tree_of, node_count, name, width, number, I4, I8}
 use Rattle.model.specs.Containment.{role, Elements, IndexRange, DataArray, section_of, found}
 use Rattle.model.specs.Values.{sids_rules, size, typed, element_array, complete, value_lawful, conforming, range_of, offsets_of, connectivity_of}
 use Rattle.model.specs.Values.{range_value, index_range_value}

@@ -1,23 +1,20 @@
 -- The parents of a face section of an accepted image stand where its entry says: 39 gives their type and their number.
-use Prim.Native.Nat.{ℕ, zero, suc, ◌+◌, ◌*◌, ◌≤◌, ◌<◌}
+use Prim.Native.Nat.{ℕ, suc, ◌+◌, ◌*◌, ◌≤◌, ◌<◌}
 use mathlib.Core.Path.{◌≡◌, sym, ap, ◌∙◌}
-use mathlib.Core.Logic.{◌⊎◌, inl, inr}
-use mathlib.Core.Bool.{true, ◌&&◌, ◌||◌}
+use mathlib.Core.Logic.{inl, inr}
+use mathlib.Core.Bool.{true, ◌&&◌}
 use mathlib.Core.List.{List, [], ◌∷◌}
 use native.Mathlib.Omega.{arith}
 use native.Mathlib.Nat.{mul_comm, mul-le-mul_left, mul-suc}
 use lib.Dec.{eqb}
-use lib.ListN.{length}
 use borrow.Author.Tests.{eqb-true, lt-ltb, ltb-true}
-use Rattle.model.specs.Rules.{passed}
 use Rattle.model.specs.Image.{tree_of, node_count, data_offset, node, dimensions, width, number, I4, I8}
 use Rattle.model.specs.Records.{product}
-use Rattle.model.specs.Containment.{section_of, found}
+use Rattle.model.specs.Containment.{found}
 use Rattle.model.specs.Values.{typed, shaped}
 use Rattle.model.specs.Elements.{element_count, parents_of, first_parent, second_parent, parents_lawful, parent_rules}
 use Rattle.model.specs.Sections.{data_start, entry}
 use Rattle.model.specs.Corner.{width_lawful, number_at}
-use Rattle.model.specs.Validation.{image_check}
 use Rattle.model.specs.ParentLaws.{InPlace}
 use Rattle.model.proofs.Logic.{and_first, and_second, or_cases, when, same-is}
 use Rattle.model.proofs.Accepted.{table-passed, parent-rule}

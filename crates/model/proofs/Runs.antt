@@ -5,7 +5,6 @@ use mathlib.Core.List.{List, [], ◌∷◌}
 use lib.IntN.{ℤ}
 use borrow.Author.Tests.{lt-ltb, le-ltb}
 use Rattle.model.specs.declared.Corner.{Corner}
-use Rattle.model.specs.declared.Corner.TheVariants as Corner
 use Rattle.model.specs.Rules.{Answer, rejected, answer, rejection, check, ◌then◌}
 use Rattle.model.specs.Corner.{corner_answer}
 use Rattle.model.specs.Answers.{corner_tells}

@@ -1,11 +1,11 @@
 -- Two trees that have the same nodes: what is said of a node by its record, and rules 7 to 14 at it, is the same in both; so are sums over siblings.
-use Prim.Native.Nat.{ℕ, zero, suc, ◌+◌, ◌≤◌, ◌<◌}
+use Prim.Native.Nat.{ℕ, zero, suc, ◌≤◌, ◌<◌}
 use mathlib.Core.Path.{◌≡◌, refl, ap, ◌∙◌}
 use mathlib.Core.Bool.{Bool, true, false, not, ◌&&◌}
 use native.Mathlib.Omega.{arith}
 use lib.Dec.{eqb}
 use borrow.Author.Tests.{eqb-false}
-use Rattle.model.specs.Lists.{some_from, sum_before}
+use Rattle.model.specs.Lists.{sum_before}
 use Rattle.model.specs.Image.{Node, Tree, node, name, label, parent, data_type_of, width}
 use Rattle.model.specs.Records.{parent_lawful, deeper_than, sibling, namesake, name_taken, link, rank_lawful}
 use Rattle.model.specs.NameBytes.{pair_bytes, bytes_with_earlier}

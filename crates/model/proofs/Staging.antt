@@ -5,7 +5,6 @@ use mathlib.Core.Bool.{Bool, true, false}
 use mathlib.Core.List.{List, [], ◌∷◌, ◌++◌}
 use Rattle.model.specs.declared.Rejection.{Rejection}
 use Rattle.model.specs.declared.Stage.{Stage}
-use Rattle.model.specs.declared.Stage.TheVariants as Stage
 use Rattle.model.specs.Rules.{rejected, rejection, Check, passed, Rule, ◌unless◌, check, ◌then◌}
 use Rattle.model.specs.Answers.{stage_tells, rejection_of}
 use Rattle.model.proofs.Passed.{then-on, then-off}

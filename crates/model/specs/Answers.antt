@@ -5,25 +5,15 @@ use Rattle.std.proofs.Common.{of_z}
 use Rattle.std.specs.Float.{binary32, binary64}
 use Rattle.std.specs.Float.Ieee.{is_nan, nan_bits, to_bits}
 use Rattle.model.specs.declared.Stage.{Stage}
-use Rattle.model.specs.declared.Stage.TheVariants as Stage
 use Rattle.model.specs.declared.Table.{Table}
-use Rattle.model.specs.declared.Table.TheVariants as Table
 use Rattle.model.specs.declared.Validation.{Validation}
-use Rattle.model.specs.declared.Validation.TheVariants as Validation
 use Rattle.model.specs.declared.Count.{Count}
-use Rattle.model.specs.declared.Count.TheVariants as Count
 use Rattle.model.specs.declared.DataSize.{DataSize}
-use Rattle.model.specs.declared.DataSize.TheVariants as DataSize
 use Rattle.model.specs.declared.Corner.{Corner}
-use Rattle.model.specs.declared.Corner.TheVariants as Corner
 use Rattle.model.specs.declared.ArrayValue.{ArrayValue}
-use Rattle.model.specs.declared.ArrayValue.TheVariants as ArrayValue
 use Rattle.model.specs.declared.FaceUsage.{FaceUsage}
-use Rattle.model.specs.declared.FaceUsage.TheVariants as FaceUsage
 use Rattle.model.specs.declared.ParentPair.{ParentPair}
-use Rattle.model.specs.declared.ParentPair.TheVariants as ParentPair
 use Rattle.model.specs.declared.Agreement.{Agreement}
-use Rattle.model.specs.declared.Agreement.TheVariants as Agreement
 use Rattle.model.specs.declared.Rejection.{Rejection}
 use Rattle.model.specs.Rules.{Answer, rejected, answer, rejection, Check, passed}
 use Rattle.model.specs.Records.{TableCounts}

@@ -1,6 +1,6 @@
 -- Handing out: array values (document 01: array entries) of any node. Rules 1 to 18, 40, 47, 42, counting from 1.
-use Rattle.std.specs.Prelude.{ℕ, ◌-◌, Bool, ◌&&◌, List, [], ◌∷◌, eqb, leb, ltb, ℤ}
-use Rattle.model.specs.Lists.{Row, ◌has◌, row}
+use Rattle.std.specs.Prelude.{ℕ, ◌-◌, ◌&&◌, List, [], ◌∷◌, leb, ltb, ℤ}
+use Rattle.model.specs.Lists.{◌has◌, row}
 use Rattle.model.specs.Bytes.{signed}
 use Rattle.model.specs.Rules.{◌unless◌, Answer, Check, check, ◌then◌, ◌gives◌}
 use Rattle.model.specs.Image.{Tree, tree_of, dimensions, data_type_of, width, number, I4, I8, R4, R8}

@@ -1,7 +1,7 @@
 -- Document 01, "Sections", and document 02, §2, §4, §6 and §7: rules 27 to 33 and 38 of a section, then 34 to 37 of the entries of its connectivity, then 39
 -- of the parents of its faces.
-use Rattle.std.specs.Prelude.{ℕ, zero, suc, ◌+◌, ◌*◌, ◌-◌, Bool, cond, not, ◌&&◌, ◌||◌, List, [], ◌∷◌, eqb, leb, ltb}
-use Rattle.model.specs.Lists.{◌⊃◌, Row, ◌has◌, row, some_from, every_from, seek_from}
+use Rattle.std.specs.Prelude.{ℕ, suc, ◌+◌, ◌*◌, ◌-◌, Bool, cond, not, ◌&&◌, ◌||◌, List, [], ◌∷◌, eqb, leb, ltb}
+use Rattle.model.specs.Lists.{◌⊃◌, ◌has◌, row, some_from, every_from, seek_from}
 use Rattle.model.specs.Bytes.{below, magnitude, text}
 use Rattle.model.specs.Rules.{Rule, ◌unless◌, Check, check, ◌at_entry◌, check_from}
 use Rattle.model.specs.Image.{Tree, parent, width, number, I4, I8}

@@ -1,5 +1,5 @@
 -- Handing out: the path of a node. It needs only rules 1 to 18, then 40, then 46.
-use Rattle.std.specs.Prelude.{ℕ, zero, suc, Bool, cond, ◌&&◌, List, [], ◌∷◌, ◌++◌, length, eqb, ltb, leb}
+use Rattle.std.specs.Prelude.{ℕ, zero, suc, cond, ◌&&◌, List, [], ◌∷◌, ◌++◌, length, eqb, ltb, leb}
 use Rattle.model.specs.Lists.{over}
 use Rattle.model.specs.Bytes.{blank}
 use Rattle.model.specs.Rules.{◌unless◌, Answer, Check, check, ◌then◌, ◌gives◌, leaves}

@@ -2,7 +2,6 @@
 use Rattle.std.specs.Prelude.{ℕ, zero, suc, ◌+◌, ◌*◌, ◌/◌, ◌≡◌, cond, ◌&&◌, List, [], ◌∷◌, length, get_or, eqb, leb, ℤ, pos}
 use Rattle.model.specs.declared.Count.{Count}
 use Rattle.model.specs.declared.Corner.{Corner}
-use Rattle.model.specs.declared.Corner.TheVariants as Corner
 use Rattle.model.specs.Lists.{over}
 use Rattle.model.specs.Rules.{◌unless◌, Answer, rejected, answer, rejection, Check, check, ◌gives◌, leaves}
 use Rattle.model.specs.Answers.{count_tells}

@@ -1,5 +1,5 @@
 -- Handing out: the section entries of a zone.
-use Rattle.std.specs.Prelude.{ℕ, ◌+◌, ◌/◌, Bool, cond, List, [], ◌∷◌, ◌++◌, length, leb}
+use Rattle.std.specs.Prelude.{ℕ, ◌+◌, ◌/◌, cond, List, [], ◌∷◌, ◌++◌, length, leb}
 use Rattle.model.specs.declared.Section.{Section}
 use Rattle.model.specs.Lists.{list_from, over}
 use Rattle.model.specs.Rules.{◌unless◌, Answer, Check, check, ◌then◌, ◌gives◌, leaves}

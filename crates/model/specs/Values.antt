@@ -1,6 +1,6 @@
 -- Document 01, "Placing and meaning", continued, with document 02, §1: types, values and sizes. Rules 20 to 26.
 use Rattle.std.specs.Prelude.{ℕ, zero, suc, ◌+◌, ◌*◌, ◌-◌, Bool, true, false, cond, not, ◌&&◌, ◌||◌, List, [], ◌∷◌, length, get_or, eqb, leb}
-use Rattle.model.specs.Lists.{◌⊃◌, Row, ◌has◌, row, among, some_from, every_from}
+use Rattle.model.specs.Lists.{◌⊃◌, ◌has◌, row, among, some_from, every_from}
 use Rattle.model.specs.Bytes.{below, magnitude, distance, text, same, spells}
 use Rattle.model.specs.Rules.{Rule, ◌unless◌}
 use Rattle.model.specs.Image.{Tree, name, parent, dimensions, stored, data_type_of, width, number, MT, C1, I4, R4, I8, R8}

@@ -1,5 +1,5 @@
 -- Intervals of a zone's numbers that ranges hold.
-use Rattle.std.proofs.Common.{◌≡◌, ℕ, ◌+◌, ◌-◌, ◌%◌, ◌^◌, ◌<◌, ◌≤◌, min, Bool, true, ltb, leb, List, get_or, sym, ◌∙◌, arith, ltb-true, le-ltb, lt-ltb, le-leb, leb-true}
+use Rattle.std.proofs.Common.{◌≡◌, ℕ, ◌+◌, ◌-◌, ◌%◌, ◌<◌, ◌≤◌, min, Bool, true, ltb, leb, List, get_or, arith, ltb-true, lt-ltb, le-leb, leb-true}
 use Rattle.model.proofs.Logic.{and_first, and_second, and_both}
 use Rattle.ranges.specs.declared.Interval.{Interval}
 use Rattle.ranges.specs.Tables.{key, holds, in_ranges, is_within, Covered}

@@ -7,7 +7,7 @@ use native.Mathlib.Decide.{ℕ_discrete}
 use borrow.Author.Tests.{lt-leb, le-leb, lt-ltb, le-ltb, ne_eqb, ltb-true, leb-true, leb-false}
 use lib.IntN.{ℤ, pos, negsuc, nat_abs, ◌-ℤ◌}
 use lib.Signed.{lt_z, mag, non_neg}
-use lib.Dec.{T, ltb, leb, eqb, eqb→eq}
+use lib.Dec.{T, ltb, leb, eqb→eq}
 use mir.Syntax.{Width, w32, w64}
 use mir.Val.{SFits, to_z, of_z, hbits}
 use mir.Facts.{to_z_pos, to_z-of_z}

@@ -1,6 +1,5 @@
 -- By the case of the answer.
 use mathlib.Core.Path.{refl}
-use borrow.Author.Rules.{rules}
 use Rattle.model.specs.ReadList.{rule_of}
 use Rattle.model.specs.Exports.{count_words}
 use Rattle.answers.proofs.count_answer.Goals as goal

@@ -1,6 +1,5 @@
 -- By the case of the answer.
 use mathlib.Core.Path.{refl}
-use borrow.Author.Rules.{rules}
 use Rattle.model.specs.ReadList.{rule_of}
 use Rattle.model.specs.Exports.{parent_words}
 use Rattle.answers.proofs.parents_answer.Goals as goal

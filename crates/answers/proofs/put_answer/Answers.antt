@@ -1,7 +1,6 @@
 -- The first n words are there, and are written in front.
 use native.Mathlib.Omega.{arith}
 use mathlib.Core.Path.{refl, sym}
-use borrow.Author.Rules.{rules}
 use Rattle.answers.proofs.Written.{take_fits}
 use Rattle.answers.proofs.put_answer.Goals as goal
 

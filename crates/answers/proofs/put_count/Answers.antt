@@ -1,6 +1,5 @@
 -- By the case of the answer: the count or 0 is written.
 use mathlib.Core.Path.{refl, ◌∙◌}
-use borrow.Author.Rules.{rules}
 use Rattle.model.specs.ReadList.{rule_of}
 use Rattle.model.specs.Exports.{count_word}
 use Rattle.model.proofs.Overlays.{over_at_zero}

@@ -1,12 +1,8 @@
 -- After k turns the bytes of the first k words stand in front.
-use Prim.Native.Nat.{◌-◌, ◌≤◌}
 use native.Mathlib.Omega.{arith}
 use mathlib.Core.Path.{◌≡◌, refl, ◌∙◌}
-use borrow.Author.Rules.{rules}
-use lib.ListN.{length, take}
+use lib.ListN.{length}
 use lib.Seq.{take_all}
-use Rattle.model.specs.Lists.{over}
-use Rattle.model.specs.Bytes.{all_bytes}
 use Rattle.answers.proofs.Written.{none_put, word_put}
 use Rattle.answers.proofs.put_words.Goals as goal
 

@@ -1,6 +1,5 @@
 -- The words of an answer of kind 2.
 use mathlib.Core.Path.{refl}
-use borrow.Author.Rules.{rules}
 use Rattle.answers.proofs.single_answer.Goals as goal
 
 pub returns : goal.returns

@@ -1,6 +1,5 @@
 -- By the case of the answer.
 use mathlib.Core.Path.{refl}
-use borrow.Author.Rules.{rules}
 use Rattle.model.specs.ReadList.{rule_of}
 use Rattle.model.specs.Exports.{usage_words}
 use Rattle.answers.proofs.usage_answer.Goals as goal

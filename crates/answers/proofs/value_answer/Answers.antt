@@ -1,6 +1,6 @@
 -- By the case of the answer; a float that is no NaN has its bits.
 use mathlib.Core.Path.{refl}
-use borrow.Author.Rules.{rules, sfits_of}
+use borrow.Author.Rules.{sfits_of}
 use mir.Syntax.{w64}
 use mir.Facts.{to_z-of_z}
 use Rattle.model.specs.ReadList.{rule_of}

@@ -1,7 +1,6 @@
 -- The two tests are those of the definition.
 use Prim.Native.Nat.{◌<◌}
 use native.Mathlib.Omega.{arith}
-use borrow.Author.Rules.{rules}
 use borrow.Author.Tests.{lt-ltb}
 use Rattle.model.specs.Elements.{fits_length}
 use Rattle.element_types.proofs.fits_length.Goals as goal

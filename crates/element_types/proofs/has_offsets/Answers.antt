@@ -1,5 +1,4 @@
 -- The three tests are those of the definition.
-use borrow.Author.Rules.{rules}
 use borrow.Author.Tests.{ne_eqb, eq-eqb}
 use Rattle.model.specs.Elements.{has_offsets}
 use Rattle.element_types.proofs.has_offsets.Goals as goal

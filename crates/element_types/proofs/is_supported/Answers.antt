@@ -1,5 +1,4 @@
 -- A type is supported where it has a fixed number of nodes or start offsets.
-use borrow.Author.Rules.{rules}
 use borrow.Author.Tests.{lt-ltb, le-ltb}
 use Rattle.model.specs.Elements.{taken}
 use Rattle.element_types.proofs.is_supported.Goals as goal

@@ -1,7 +1,6 @@
 -- The tables are lent to validation, and then to the usage.
 use mathlib.Core.Path.{refl}
 use native.Mathlib.Omega.{arith}
-use borrow.Author.Rules.{rules}
 use Rattle.faces.proofs.face_usage.Goals as goal
 
 pub usage_after-requires : goal.usage_after-requires

@@ -1,7 +1,6 @@
 -- Too few bytes for the answer: 46; else the call's rule, its words in front.
 use native.Mathlib.Omega.{arith}
 use mathlib.Core.Path.{ap, ◌∙◌}
-use borrow.Author.Rules.{rules}
 use lib.ListN.{length}
 use Rattle.model.specs.Exports.{parent_words}
 use Rattle.gongaurora.proofs.Laws.{parents_four, short, enough}

@@ -1,5 +1,4 @@
 -- Too short a section or too little room: 46; else what the reader answers of the section.
-use borrow.Author.Rules.{rules}
 use Rattle.gongaurora.proofs.Readers.{few, full, fits, element-short, element-long}
 use Rattle.gongaurora.proofs.gongaurora_export_read_element.Goals as goal
 

@@ -3,7 +3,6 @@ use mathlib.Core.Path.{◌≡◌, ◌∙◌}
 use Rattle.model.specs.Image.{node_count}
 use Rattle.labels.proofs.Nodes.{count_at}
 use native.Mathlib.Omega.{arith}
-use borrow.Author.Rules.{rules}
 use Rattle.labels.proofs.node_count.Goals as goal
 
 pub returns : goal.returns

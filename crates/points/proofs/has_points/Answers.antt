@@ -1,11 +1,9 @@
 -- The product of the directions so far, and what is left of it.
-use Prim.Native.Nat.{◌-◌}
 use mathlib.Core.Path.{◌≡◌}
 use native.Mathlib.Omega.{arith}
-use borrow.Author.Rules.{rules}
 use Rattle.model.specs.Image.{tree_of}
 use Rattle.model.specs.Values.{points_in}
-use Rattle.points.proofs.PointRanges.{ProductTo, direction_lawful_lem, points_are, product_start, product_more, product-room, product_stop, product-done}
+use Rattle.points.proofs.PointRanges.{direction_lawful_lem, points_are, product_start, product_more, product-room, product_stop, product-done}
 use Rattle.points.proofs.has_points.Goals as goal
 use Rattle.points.proofs.has_points.Goals.{After-points_in-k}
 

@@ -1,6 +1,5 @@
 -- The parent's role decides.
 use mathlib.Core.Path.{◌≡◌, refl, sym, ◌∙◌}
-use borrow.Author.Rules.{rules}
 use borrow.Author.Tests.{ne_eqb}
 use Rattle.model.specs.Lists.{row}
 use Rattle.model.specs.Image.{tree_of, parent}

@@ -1,9 +1,6 @@
 -- What is left of the directions decides.
-use Prim.Native.Nat.{◌-◌}
-use borrow.Author.Rules.{rules}
-use Rattle.model.specs.Image.{tree_of}
-use Rattle.model.specs.Values.{direction_lawful, point_range_value}
-use Rattle.model.proofs.Loops.{EveryLeft, every_start, every_more, every_stop, every_done}
+use Rattle.model.specs.Values.{point_range_value}
+use Rattle.model.proofs.Loops.{every_start, every_more, every_stop, every_done}
 use Rattle.points.proofs.PointRanges.{unlawful, is_lawful}
 use Rattle.points.proofs.point_range_value.Goals as goal
 

@@ -1,10 +1,8 @@
 -- What is left of the directions decides.
 use Prim.Native.Nat.{◌-◌}
-use borrow.Author.Rules.{rules}
 use Rattle.model.specs.Image.{tree_of}
 use Rattle.model.specs.Values.{direction_lawful, point_range_value}
-use Rattle.model.proofs.Loops.{EveryLeft, every_start, every_more, every_stop, every_done}
-use Rattle.points.proofs.PointRanges.{unlawful, is_lawful}
+use Rattle.model.proofs.Loops.{EveryLeft}
 use Rattle.points.proofs.point_range_value.Given as goal
 
 abbrev pub invariant-loop-d : goal.invariant-loop-d

@@ -1,5 +1,5 @@
 -- The sum is no less than 2^63 exactly where x is no greater than y.
-use Rattle.std.proofs.Common.{leb, arith, rules, leb-false, leb-true}
+use Rattle.std.proofs.Common.{leb, arith, leb-false, leb-true}
 use Rattle.ranges.proofs.Cases.{one_or_none}
 use Rattle.ranges.proofs.at_most.Goals as goal
 

@@ -1,7 +1,5 @@
 -- The entries before `from` begin no later, those after the entries left begin later, for first numbers rise.
-use Rattle.std.proofs.Common.{◌≡◌, ◌-◌, ◌*◌, ◌/◌, ◌≤◌, mul-le-mul_left, arith, rules}
 use Rattle.ranges.specs.Tables.{Begun}
-use Rattle.ranges.proofs.Halving.{begun_start, begun_half}
 use Rattle.ranges.proofs.begun.Given as goal
 
 abbrev pub invariant-loop-left : goal.invariant-loop-left

@@ -1,5 +1,5 @@
 -- The two tests are those of the contract.
-use Rattle.std.proofs.Common.{rules, le-ltb, lt-ltb}
+use Rattle.std.proofs.Common.{le-ltb, lt-ltb}
 use Rattle.ranges.proofs.entry_holds.Goals as goal
 
 pub returns-then-n-j : goal.returns-then-n-j

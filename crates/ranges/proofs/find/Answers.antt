@@ -1,5 +1,5 @@
 -- The guess is asked whether it holds the number; then the last entry that begins no later decides.
-use Rattle.std.proofs.Common.{sym, ◌∙◌, rules}
+use Rattle.std.proofs.Common.{sym, ◌∙◌}
 use Rattle.ranges.proofs.Halving.{entry_found}
 use Rattle.ranges.proofs.find.Goals as goal
 

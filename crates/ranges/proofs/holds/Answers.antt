@@ -1,5 +1,5 @@
 -- The two tests are those of the definition.
-use Rattle.std.proofs.Common.{rules, le-leb}
+use Rattle.std.proofs.Common.{le-leb}
 use borrow.Author.Tests.{lt-leb}
 use Rattle.ranges.specs.Tables.{meets_at}
 use Rattle.ranges.proofs.holds.Goals as goal

@@ -1,6 +1,6 @@
 -- The entries that begin later have moved up by one, and the place is before them.
 use Rattle.ranges.proofs.Inserting.{inserted}
-use Rattle.std.proofs.Common.{◌∙◌, arith, rules}
+use Rattle.std.proofs.Common.{◌∙◌, arith}
 use Rattle.ranges.proofs.Moving.{placed-rises}
 use Rattle.ranges.proofs.insert.Goals as goal
 

@@ -1,5 +1,5 @@
 -- The entry that holds f holds every number of the interval, which is cut to the zone.
-use Rattle.std.proofs.Common.{◌+◌, ◌-◌, ◌<◌, ◌≤◌, sym, ◌∙◌, arith, rules, le-ltb, lt-ltb}
+use Rattle.std.proofs.Common.{◌+◌, ◌-◌, ◌<◌, ◌≤◌, sym, ◌∙◌, arith, le-ltb, lt-ltb}
 use Rattle.ranges.proofs.Intervals.{none-covered, low_high, all_covered, tells}
 use Rattle.ranges.proofs.interval_around.Goals as goal
 use Rattle.ranges.proofs.interval_around.Goals.{After-cut-high}

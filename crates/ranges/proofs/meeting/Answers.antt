@@ -1,5 +1,5 @@
 -- Where some entry meets the range, the last one that begins no later does, for reach rises.
-use Rattle.std.proofs.Common.{◌-◌, arith, rules}
+use Rattle.std.proofs.Common.{◌-◌, arith}
 use Rattle.ranges.proofs.Halving.{meets_at_lem, found, none_found}
 use Rattle.ranges.proofs.meeting.Goals as goal
 

@@ -1,6 +1,6 @@
 -- Entries from the last down to the place take the one before them, which is still as it was.
-use Rattle.std.proofs.Common.{◌≡◌, ◌≤◌, ◌∙◌, arith, length-set, rules}
-use Rattle.ranges.proofs.Moving.{Moved, moved_start, moved_more, moved_put}
+use Rattle.std.proofs.Common.{◌≡◌, ◌∙◌, arith, length-set, rules}
+use Rattle.ranges.proofs.Moving.{moved_start, moved_more, moved_put}
 use Rattle.ranges.proofs.put.Goals as goal
 
 pub loop-k-preserved : goal.loop-k-preserved

@@ -1,6 +1,6 @@
 -- Entries from the last down to the place take the one before them, which is still as it was.
-use Rattle.std.proofs.Common.{◌≡◌, ◌≤◌, ◌∙◌, arith, length-set, rules}
-use Rattle.ranges.proofs.Moving.{Moved, moved_start, moved_more, moved_put}
+use Rattle.std.proofs.Common.{◌≤◌}
+use Rattle.ranges.proofs.Moving.{Moved}
 use Rattle.ranges.proofs.put.Given as goal
 
 abbrev pub invariant-loop-k : goal.invariant-loop-k

@@ -1,6 +1,6 @@
 -- The entries before k are raised; where entry k is not below, none after it is, for they rise.
-use Rattle.std.proofs.Common.{◌-◌, ◌≤◌, arith, rules}
-use Rattle.ranges.proofs.Moving.{RaisedTo, raised_start, raised_more, raised_all}
+use Rattle.std.proofs.Common.{arith, rules}
+use Rattle.ranges.proofs.Moving.{raised_start, raised_more, raised_all}
 use Rattle.ranges.proofs.raise.Goals as goal
 
 pub returns-then-least-table : goal.returns-then-least-table

@@ -1,6 +1,6 @@
 -- Before entry 0 there is none, and no number is below 0.
 use Rattle.ranges.proofs.Moving.{entry-before}
-use Rattle.std.proofs.Common.{arith, rules}
+use Rattle.std.proofs.Common.{arith}
 use Rattle.ranges.proofs.raised.Goals as goal
 
 pub returns : goal.returns

@@ -1,6 +1,6 @@
 -- The difference wraps round where f is below the interval.
 use Rattle.ranges.proofs.Intervals.{within_is}
-use Rattle.std.proofs.Common.{arith, rules}
+use Rattle.std.proofs.Common.{rules}
 use Rattle.ranges.proofs.within.Goals as goal
 
 pub returns : goal.returns

@@ -1,12 +1,7 @@
 -- The offsets are asked in order, and no element before j ends after the entry.
 use Prim.Native.Nat.{◌-◌}
-use mathlib.Core.Path.{◌≡◌, ◌∙◌}
-use native.Mathlib.Omega.{arith}
-use native.Mathlib.Numerals.{add-one}
-use borrow.Author.Rules.{rules}
-use borrow.Author.Tests.{lt-ltb, le-ltb}
 use Rattle.model.specs.Lists.{seek_from}
-use Rattle.model.proofs.Loops.{SeekLeft, seek_start, seek_more, seek_stop, seek_done}
+use Rattle.model.proofs.Loops.{SeekLeft}
 use Rattle.rows.specs.Rows.{ends_after_at}
 use Rattle.rows.proofs.ends_after.Given as goal
 

@@ -1,5 +1,4 @@
 -- The bits are compared with half of the patterns, as the model compares them.
-use borrow.Author.Rules.{rules}
 use Rattle.model.specs.Bytes.{negative}
 use Rattle.rows.proofs.is_negative.Goals as goal
 

@@ -7,7 +7,7 @@ use Rattle.records.specs.Table.{all_records}
 use Rattle.texts.specs.Keys.{class_of}
 use Rattle.texts.proofs.Marks.{search_start, search_on, search_found, search_end}
 use Rattle.texts.proofs.is_linked_namesake.Goals as goal
-use Rattle.texts.proofs.is_linked_namesake.Goals.{At-loop-j, Else-is_namesake}
+use Rattle.texts.proofs.is_linked_namesake.Goals.{Else-is_namesake}
 
 pub loop-j-init : goal.loop-j-init
 unfolding class_of

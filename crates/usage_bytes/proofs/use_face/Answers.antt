@@ -1,8 +1,6 @@
 -- A bit that is free is set by adding it, and the byte has room for it.
 use mathlib.Core.Path.{refl, sym, ◌∙◌}
 use native.Mathlib.Omega.{arith}
-use borrow.Author.Rules.{rules}
-use borrow.Author.Tests.{not-true, not-false}
 use Rattle.usage_bytes.proofs.Marks.{forward_room, reversed_room}
 use Rattle.usage_bytes.proofs.use_face.Goals as goal
 

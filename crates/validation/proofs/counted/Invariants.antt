@@ -1,13 +1,8 @@
 -- Each node counts as one or as none; the nodes that are not validated are skipped.
-use native.Mathlib.Omega.{arith}
-use Prim.Native.Nat.{ℕ, ◌-◌, ◌<◌}
-use mathlib.Core.Path.{◌≡◌, refl, ap, ◌∙◌}
-use lib.Dec.{eqb, ltb}
-use borrow.Author.Rules.{rules}
-use Rattle.model.specs.Image.{tree_of, node_count}
+use Prim.Native.Nat.{◌-◌}
+use Rattle.model.specs.Image.{tree_of}
 use Rattle.model.specs.Containment.{validated, validated_as, Zone, Elements}
-use Rattle.index.proofs.Marking.{kind-validated, kind_as}
-use Rattle.validation.proofs.Laws.{Counted, none_counted, more_counted, all_counted, counts_are}
+use Rattle.validation.proofs.Laws.{Counted}
 use Rattle.validation.proofs.counted.Given as goal
 
 abbrev pub invariant-loop-i : goal.invariant-loop-i

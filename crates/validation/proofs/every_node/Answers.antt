@@ -1,12 +1,9 @@
 -- The lowest node first: the whole is what is left from here.
 use native.Mathlib.Omega.{arith}
-use Prim.Native.Nat.{◌-◌}
-use mathlib.Core.Path.{◌≡◌, refl, sym, ◌∙◌}
-use lib.ListN.{length}
-use borrow.Author.Rules.{rules}
+use mathlib.Core.Path.{refl, sym, ◌∙◌}
 use Rattle.model.specs.Image.{tree_of}
 use Rattle.model.proofs.Staging.{passes, refuses}
-use Rattle.validation.proofs.Laws.{NodesLeft, nodes_start, nodes-on, nodes-off, nodes-end}
+use Rattle.validation.proofs.Laws.{nodes_start, nodes-on, nodes-off, nodes-end}
 use Rattle.validation.proofs.every_node.Goals as goal
 
 pub loop-i-init : goal.loop-i-init

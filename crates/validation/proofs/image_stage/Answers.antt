@@ -1,6 +1,5 @@
 -- The tables are lent.
 use mathlib.Core.Path.{refl}
-use borrow.Author.Rules.{rules}
 use Rattle.validation.proofs.image_stage.Goals as goal
 
 pub returns : goal.returns

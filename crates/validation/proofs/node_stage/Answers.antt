@@ -1,7 +1,5 @@
 -- A node that is not validated is skipped; another meets rules 20 to 26, then a section's own.
 use mathlib.Core.Path.{sym, ◌∙◌}
-use borrow.Author.Rules.{rules}
-use borrow.Author.Tests.{not-true, not-false}
 use Rattle.model.proofs.Staging.{passes, stop, go}
 use Rattle.validation.proofs.Laws.{node-skipped, node_checked}
 use Rattle.validation.proofs.node_stage.Goals as goal

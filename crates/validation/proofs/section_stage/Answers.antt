@@ -1,6 +1,5 @@
 -- The role decides.
 use mathlib.Core.Path.{sym, ◌∙◌}
-use borrow.Author.Rules.{rules}
 use borrow.Author.Tests.{eq-eqb, ne_eqb}
 use Rattle.model.specs.Validation.{section_check}
 use Rattle.validation.proofs.section_stage.Goals as goal

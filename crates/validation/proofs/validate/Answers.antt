@@ -1,6 +1,5 @@
 -- The first refusal, or the counts.
 use mathlib.Core.Path.{refl, ap, sym, ◌∙◌}
-use borrow.Author.Rules.{rules}
 use Rattle.model.specs.Rules.{◌gives◌}
 use Rattle.model.specs.Answers.{stage_tells}
 use Rattle.model.specs.Validation.{validation}

@@ -1,6 +1,5 @@
 -- A byte is below 256.
 use native.Mathlib.Omega.{arith}
-use borrow.Author.Rules.{rules}
 use Rattle.words.proofs.byte_at.Goals as goal
 
 pub overflow_cast-result : goal.overflow_cast-result

@@ -1,9 +1,9 @@
 -- Word by word: what is left gives the place.
-use Prim.Native.Nat.{◌+◌, ◌*◌, ◌-◌}
+use Prim.Native.Nat.{◌+◌, ◌*◌}
 use mathlib.Core.Path.{◌≡◌, sym, ◌∙◌}
 use native.Mathlib.Omega.{arith}
 use borrow.Author.Rules.{rules}
-use Rattle.words.proofs.Difference.{Agree, agree_start, agree_more, agree_stop, agree-done}
+use Rattle.words.proofs.Difference.{agree_start, agree_more, agree_stop, agree-done}
 use Rattle.words.proofs.first_difference.Goals as goal
 
 pub loop-j-init : goal.loop-j-init

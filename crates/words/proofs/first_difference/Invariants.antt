@@ -1,9 +1,6 @@
 -- Word by word: what is left gives the place.
-use Prim.Native.Nat.{◌+◌, ◌*◌, ◌-◌}
-use mathlib.Core.Path.{◌≡◌, sym, ◌∙◌}
-use native.Mathlib.Omega.{arith}
-use borrow.Author.Rules.{rules}
-use Rattle.words.proofs.Difference.{Agree, agree_start, agree_more, agree_stop, agree-done}
+use Prim.Native.Nat.{◌*◌, ◌-◌}
+use Rattle.words.proofs.Difference.{Agree}
 use Rattle.words.proofs.first_difference.Given as goal
 
 abbrev pub invariant-loop-j : goal.invariant-loop-j

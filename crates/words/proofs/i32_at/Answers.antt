@@ -1,6 +1,6 @@
 -- The number of 4 bytes fits in 32 bits.
 use mathlib.Core.Path.{◌∙◌, ap}
-use borrow.Author.Rules.{rules, sfits_of}
+use borrow.Author.Rules.{sfits_of}
 use mir.Syntax.{w32, w64}
 use mir.Val.{SFits, to_z, of_z}
 use mir.Facts.{to_z-of_z}

@@ -1,9 +1,6 @@
 -- What is left to write gives the whole (`Left`).
 use native.Mathlib.Omega.{arith}
-use borrow.Author.Rules.{rules}
-use Prim.Native.Nat.{◌-◌}
-use lib.ListN.{length, drop}
-use Rattle.words.proofs.Writes.{Left, start, bytes_more, done}
+use Rattle.words.proofs.Writes.{start, bytes_more, done}
 use Rattle.words.proofs.put_bytes.Goals as goal
 
 pub loop-k-init : goal.loop-k-init

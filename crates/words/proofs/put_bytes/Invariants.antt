@@ -1,9 +1,7 @@
 -- What is left to write gives the whole (`Left`).
-use native.Mathlib.Omega.{arith}
-use borrow.Author.Rules.{rules}
 use Prim.Native.Nat.{◌-◌}
 use lib.ListN.{length, drop}
-use Rattle.words.proofs.Writes.{Left, start, bytes_more, done}
+use Rattle.words.proofs.Writes.{Left}
 use Rattle.words.proofs.put_bytes.Given as goal
 
 abbrev pub invariant-loop-k : goal.invariant-loop-k

@@ -1,9 +1,6 @@
 -- What is left to write gives the whole (`Left`).
 use native.Mathlib.Omega.{arith}
-use borrow.Author.Rules.{rules}
-use Prim.Native.Nat.{◌-◌}
-use Rattle.words.proofs.Writes.{Left, word_start, word_more, done}
-use Rattle.model.specs.Bytes.{le_bytes}
+use Rattle.words.proofs.Writes.{word_start, word_more, done}
 use Rattle.model.proofs.LittleEndian.{length-le_bytes}
 use Rattle.words.proofs.put_word.Goals as goal
 

@@ -1,10 +1,7 @@
 -- What is left to write gives the whole (`Left`).
-use native.Mathlib.Omega.{arith}
-use borrow.Author.Rules.{rules}
 use Prim.Native.Nat.{◌-◌}
-use Rattle.words.proofs.Writes.{Left, word_start, word_more, done}
+use Rattle.words.proofs.Writes.{Left}
 use Rattle.model.specs.Bytes.{le_bytes}
-use Rattle.model.proofs.LittleEndian.{length-le_bytes}
 use Rattle.words.proofs.put_word.Given as goal
 
 abbrev pub invariant-loop-k : goal.invariant-loop-k

@@ -1,9 +1,7 @@
 -- After k turns the words that are left, written after them, give the whole (`WordsLeft`).
 use Prim.Native.Nat.{◌-◌}
-use native.Mathlib.Omega.{arith}
-use borrow.Author.Rules.{rules}
 use lib.ListN.{length}
-use Rattle.words.proofs.Rows.{WordsLeft, words_start, words_more, words-done}
+use Rattle.words.proofs.Rows.{WordsLeft}
 use Rattle.words.proofs.put_words.Given as goal
 
 abbrev pub invariant-loop-k : goal.invariant-loop-k

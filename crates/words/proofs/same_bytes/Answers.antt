@@ -1,6 +1,5 @@
 -- The zeros below the lowest set bit of the difference, by bytes.
 use native.Mathlib.Omega.{arith}
-use borrow.Author.Rules.{rules}
 use Rattle.words.proofs.Difference.{shared_bytes, some_differ}
 use Rattle.words.proofs.same_bytes.Goals as goal
 

@@ -1,5 +1,4 @@
 -- Half of all patterns is added and taken off again: the upper half comes out below 0.
-use borrow.Author.Rules.{rules}
 use mir.Facts.{to_z-of_z}
 use Rattle.words.proofs.Signed.{extended, extended_fits}
 use Rattle.words.proofs.sign_extended.Goals as goal

@@ -2,7 +2,6 @@
 use native.Mathlib.Omega.{arith}
 use mir.Facts.{to_z-of_z}
 use Rattle.words.proofs.Signed.{low, high, twos_fits}
-use borrow.Author.Rules.{rules}
 use Rattle.words.proofs.twos_complement.Goals as goal
 
 pub overflow_sub-result-else-x-half-3 : goal.overflow_sub-result-else-x-half-3

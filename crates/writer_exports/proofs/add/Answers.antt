@@ -1,7 +1,6 @@
 -- Too little lent: 46; else what the call tells is written.
 use native.Mathlib.Omega.{arith}
 use mathlib.Core.Path.{ap, ◌∙◌}
-use borrow.Author.Rules.{rules}
 use Rattle.model.specs.Lists.{over}
 use Rattle.model.specs.Bytes.{all_bytes}
 use Rattle.model.specs.Rules.{Answer}

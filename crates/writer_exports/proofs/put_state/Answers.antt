@@ -1,7 +1,6 @@
 -- A refusal writes nothing; a state writes its six numbers.
 use native.Mathlib.Omega.{arith}
 use lib.ListN.{length-set}
-use borrow.Author.Rules.{rules}
 use Rattle.writer_model.specs.Exports.{state_numbers, state_after}
 use Rattle.writer_exports.proofs.StateLaws.{six}
 use Rattle.writer_exports.proofs.put_state.Goals as goal

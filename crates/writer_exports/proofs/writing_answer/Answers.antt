@@ -1,6 +1,5 @@
 -- Case by case.
 use mathlib.Core.Path.{refl}
-use borrow.Author.Rules.{rules}
 use Rattle.model.specs.ReadList.{rule_of}
 use Rattle.writer_model.specs.Exports.{writing_words}
 use Rattle.writer_exports.proofs.writing_answer.Goals as goal

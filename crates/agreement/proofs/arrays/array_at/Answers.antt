@@ -1,6 +1,4 @@
 -- The row that is at hand, or the one that the node's numbers make.
-use mathlib.Core.Path.{◌≡◌}
-use borrow.Author.Rules.{rules}
 use Rattle.agreement.proofs.arrays.array_at.Goals as goal
 
 pub returns-then-j-last : goal.returns-then-j-last

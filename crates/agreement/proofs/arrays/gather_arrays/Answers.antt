@@ -1,11 +1,7 @@
 -- One node after the other.
-use Prim.Native.Nat.{◌-◌, ◌≤◌}
 use mathlib.Core.Path.{◌≡◌, refl, ◌∙◌}
 use native.Mathlib.Omega.{arith}
-use borrow.Author.Rules.{rules}
-use lib.ListN.{length}
-use Rattle.model.specs.Image.{tree_of, node_count}
-use Rattle.agreement.specs.Arrays.{Arrays}
+use Rattle.model.specs.Image.{node_count}
 use Rattle.agreement.proofs.ArrayLaws.{no_arrays}
 use Rattle.agreement.proofs.arrays.gather_arrays.Goals as goal
 

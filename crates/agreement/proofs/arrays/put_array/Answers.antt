@@ -3,8 +3,7 @@ use Prim.Native.Nat.{◌<◌}
 use mathlib.Core.Path.{◌≡◌, sym, ◌∙◌}
 use mathlib.Core.Bool.{true}
 use native.Mathlib.Omega.{arith}
-use borrow.Author.Rules.{rules}
-use borrow.Author.Tests.{not-true, not-false, eqb-true}
+use borrow.Author.Tests.{eqb-true}
 use Rattle.model.specs.Image.{tree_of}
 use Rattle.model.specs.Containment.{section_of}
 use Rattle.model.specs.Elements.{face_section}
@@ -13,7 +12,7 @@ use Rattle.face_places.proofs.Accepted.{section_by, section-kind, face-section-i
 use Rattle.face_places.proofs.Gathering.{few-ranges}
 use Rattle.agreement.proofs.ArrayLaws.{arrays_same, entry-inside, arrays_more}
 use Rattle.agreement.proofs.arrays.put_array.Goals as goal
-use Rattle.agreement.proofs.arrays.put_array.Goals.{After-find-j, Else-not-has_type, Start}
+use Rattle.agreement.proofs.arrays.put_array.Goals.{After-find-j}
 
 pub returns-then-not-has_type : goal.returns-then-not-has_type
 returns-then-not-has_type c =

@@ -1,6 +1,5 @@
 -- Where it does not hold the entry, the next one does.
 use native.Mathlib.Omega.{arith}
-use borrow.Author.Rules.{rules}
 use Rattle.agreement.proofs.CellLaws.{next-inside, next_cell}
 use Rattle.agreement.proofs.cells.cell_at.Goals as goal
 

@@ -1,11 +1,7 @@
 -- One face after the other.
-use Prim.Native.Nat.{◌-◌}
 use mathlib.Core.Path.{sym, ◌∙◌}
 use native.Mathlib.Omega.{arith}
-use borrow.Author.Rules.{rules}
-use borrow.Author.Tests.{not-true, not-false}
-use Rattle.model.specs.Lists.{every_from}
-use Rattle.model.proofs.Loops.{EveryLeft, every_start, every_more, every_stop, every_done}
+use Rattle.model.proofs.Loops.{every_start, every_more, every_stop, every_done}
 use Rattle.agreement.specs.Matching.{complete_at}
 use Rattle.agreement.proofs.complete.faces_complete.Goals as goal
 

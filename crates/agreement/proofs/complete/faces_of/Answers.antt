@@ -1,8 +1,5 @@
 -- As many as its range has, where it is a face section.
 use mathlib.Core.Path.{sym, ◌∙◌}
-use native.Mathlib.Omega.{arith}
-use borrow.Author.Rules.{rules}
-use borrow.Author.Tests.{not-true, not-false}
 use Rattle.model.specs.FaceUsage.{faces_in}
 use Rattle.model.proofs.Logic.{and_first}
 use Rattle.face_places.proofs.Accepted.{section_by, face-section-is, faces_are, count_read}

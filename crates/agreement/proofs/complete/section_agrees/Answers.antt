@@ -1,7 +1,5 @@
 -- A section that has no faces or no parents is not asked; the others agree where the parents of each face are matched.
 use mathlib.Core.Path.{◌≡◌, sym, ◌∙◌}
-use native.Mathlib.Omega.{arith}
-use borrow.Author.Rules.{rules}
 use Rattle.model.specs.Image.{tree_of}
 use Rattle.model.specs.FaceUsage.{faces_in}
 use Rattle.agreement.proofs.CompleteLaws.{unasked, no_parents, section-type, section-elements, stores, not_there, two-each, faces_room, section-is}

@@ -1,14 +1,12 @@
 -- One node after the other; a section's faces come after those of the sections before it.
-use Prim.Native.Nat.{◌+◌, ◌-◌, ◌<◌}
-use mathlib.Core.Path.{◌≡◌, refl, sym, ◌∙◌}
+use Prim.Native.Nat.{◌+◌, ◌<◌}
+use mathlib.Core.Path.{refl, sym, ◌∙◌}
 use native.Mathlib.Omega.{arith}
-use borrow.Author.Rules.{rules}
-use borrow.Author.Tests.{not-true, not-false}
 use Rattle.model.specs.Lists.{sum_before}
 use Rattle.model.specs.Image.{tree_of, node_count}
 use Rattle.model.specs.FaceUsage.{faces_in}
 use Rattle.model.specs.ParentElements.{section_agrees, all_agree}
-use Rattle.model.proofs.Loops.{EveryLeft, every_start, every_more, every_stop, every_done}
+use Rattle.model.proofs.Loops.{every_start, every_more, every_stop, every_done}
 use Rattle.model.proofs.Walks.{sum_before_step}
 use Rattle.face_places.proofs.Accepted.{total-small}
 use Rattle.agreement.proofs.complete.zone_complete.Goals as goal

@@ -1,16 +1,13 @@
 -- The run has come to entry k: the uses before it are matched.
-use Prim.Native.Nat.{◌-◌}
 use mathlib.Core.Path.{refl, sym, ◌∙◌}
 use native.Mathlib.Omega.{arith}
-use borrow.Author.Rules.{rules}
-use borrow.Author.Tests.{not-true, not-false}
 use Rattle.section_data.proofs.TableLaws.{face-small}
 use Rattle.face_places.proofs.Gathering.{few-ranges}
 use Rattle.face_uses.proofs.Runs.{tables_kept, entry-face}
 use Rattle.agreement.proofs.ArrayLaws.{array_is, array_stores, face-row}
 use Rattle.agreement.proofs.CellLaws.{at_next}
 use Rattle.agreement.proofs.EntryLaws.{found_at}
-use Rattle.agreement.proofs.RunLaws.{users-end, parents_most, cells_filled, element-is, Going, start_none, no_uses, one_more}
+use Rattle.agreement.proofs.RunLaws.{users-end, parents_most, cells_filled, element-is, start_none, no_uses, one_more}
 use Rattle.agreement.proofs.Steps.{matched-then, matched-same, matched_stop}
 use Rattle.agreement.proofs.matching.match_entries.Goals as goal
 

@@ -1,7 +1,6 @@
 -- The face's place, and its two parents, tell what the use is matched with.
-use mathlib.Core.Path.{sym, ap, ◌∙◌}
+use mathlib.Core.Path.{sym, ◌∙◌}
 use native.Mathlib.Omega.{arith}
-use borrow.Author.Rules.{rules}
 use Rattle.face_places.proofs.Gathering.{few-ranges}
 use Rattle.agreement.proofs.EntryLaws.{found_at, unasked, first-inside, second-inside, matched_use}
 use Rattle.agreement.proofs.matching.match_entry.Goals as goal

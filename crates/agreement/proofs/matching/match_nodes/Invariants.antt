@@ -1,14 +1,9 @@
 -- One node after the other.
 use Prim.Native.Nat.{◌-◌, ◌≤◌}
-use mathlib.Core.Path.{◌≡◌, ◌∙◌}
+use mathlib.Core.Path.{◌≡◌}
 use mathlib.Core.Bool.{true}
-use native.Mathlib.Omega.{arith}
-use borrow.Author.Rules.{rules}
-use borrow.Author.Tests.{not-true, not-false}
 use Rattle.model.specs.Image.{tree_of, node_count}
-use Rattle.face_uses.proofs.Runs.{tables_kept}
 use Rattle.agreement.specs.Matching.{Matched, users_on}
-use Rattle.agreement.proofs.Steps.{matched-none, matched-then, matched_stop}
 use Rattle.agreement.proofs.matching.match_nodes.Given as goal
 
 abbrev pub invariant-loop-i : goal.invariant-loop-i

@@ -1,8 +1,6 @@
 -- A use that is not matched tells that a face does not agree; where all are, the marks tell.
 use mathlib.Core.Path.{sym}
 use native.Mathlib.Omega.{arith}
-use borrow.Author.Rules.{rules}
-use borrow.Author.Tests.{not-true, not-false}
 use Rattle.agreement.proofs.ZoneLaws.{matching_start, matching_end}
 use Rattle.agreement.proofs.zone.all_agree.Goals as goal
 

@@ -1,7 +1,5 @@
 -- The marks are taken away again.
-use mathlib.Core.Path.{refl, sym, ◌∙◌}
 use native.Mathlib.Omega.{arith}
-use borrow.Author.Rules.{rules}
 use Rattle.face_places.proofs.Gathering.{few-ranges, all_faces}
 use Rattle.agreement.proofs.ZoneLaws.{restored}
 use Rattle.agreement.proofs.zone.zone_agrees.Goals as goal

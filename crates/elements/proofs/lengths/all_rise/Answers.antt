@@ -1,11 +1,8 @@
 -- The whole is the rest from start offset k on, which is at hand and not negative.
 use mathlib.Core.Path.{sym, ◌∙◌}
-use Prim.Native.Nat.{◌-◌}
 use native.Mathlib.Omega.{arith}
-use borrow.Author.Rules.{rules}
-use borrow.Author.Tests.{not-true, not-false}
 use Rattle.model.proofs.Loops.{every_done}
-use Rattle.elements.proofs.Offsets.{Rising, rising_start, rising_on, rising_off}
+use Rattle.elements.proofs.Offsets.{rising_start, rising_on, rising_off}
 use Rattle.elements.proofs.lengths.all_rise.Goals as goal
 
 pub loop-k-init : goal.loop-k-init

@@ -1,6 +1,5 @@
 -- CellDimension is the first number of the base, which is two above the section.
 use native.Mathlib.Omega.{arith}
-use borrow.Author.Rules.{rules}
 use Rattle.elements.proofs.ShapeLaws.{least_elsewhere, least-face, least_cell, least_other}
 use Rattle.elements.proofs.lengths.least_size.Goals as goal
 

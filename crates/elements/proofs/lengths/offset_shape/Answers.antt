@@ -5,7 +5,6 @@ use Rattle.section_data.proofs.ArrayLaws.{row-numbers}
 use Rattle.section_data.proofs.ArrayLaws.{offsets_there, offsets-found}
 use Rattle.elements.proofs.ShapeLaws.{count_small, offsets-short, offsets_fit}
 use native.Mathlib.Omega.{arith}
-use borrow.Author.Rules.{rules}
 use Rattle.elements.proofs.lengths.offset_shape.Goals as goal
 
 pub size_of-requires : goal.size_of-requires

@@ -1,7 +1,6 @@
 -- Each rule's test was made, and the first that fails is the answer.
 use mathlib.Core.Path.{sym, ap, ◌∙◌}
 use borrow.Author.Rules.{rules}
-use borrow.Author.Tests.{not-true, not-false}
 use Rattle.model.specs.Rules.{rejected}
 use Rattle.model.proofs.Staging.{holds, fails, no_rule}
 use Rattle.elements.specs.Arrays.{offset_rules}

@@ -1,5 +1,4 @@
 -- Of numbers that are not negative the bits tell the order.
-use borrow.Author.Rules.{rules}
 use native.Mathlib.Omega.{arith}
 use Rattle.words.proofs.Signed.{half_is}
 use Rattle.elements.proofs.Offsets.{rise-negative, rise_any, rise_by}

@@ -2,7 +2,6 @@
 use native.Mathlib.Omega.{arith}
 use mathlib.Core.Path.{sym, ap, ◌∙◌}
 use native.Mathlib.Nat.{mul-le-mul_left}
-use borrow.Author.Rules.{rules}
 use Rattle.model.specs.Rules.{rejected}
 use Rattle.model.specs.Elements.{has_offsets, nodes_per}
 use Rattle.elements.proofs.ShapeLaws.{count_small, fixed_kept, fixed_broken}

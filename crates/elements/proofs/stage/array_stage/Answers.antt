@@ -2,7 +2,6 @@
 use Rattle.model.proofs.Staging.{stop, go, passes}
 use Rattle.elements.proofs.StageLaws.{length_read}
 use Rattle.section_data.proofs.ArrayLaws.{row_is}
-use borrow.Author.Rules.{rules}
 use Rattle.elements.proofs.stage.array_stage.Goals as goal
 
 pub row_of-row-requires : goal.row_of-row-requires

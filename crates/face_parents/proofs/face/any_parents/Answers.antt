@@ -1,12 +1,8 @@
 -- No node before s has them.
-use Prim.Native.Nat.{◌-◌}
 use mathlib.Core.Path.{sym, ◌∙◌}
 use native.Mathlib.Omega.{arith}
-use borrow.Author.Rules.{rules}
-use Rattle.model.specs.Lists.{some_from}
-use Rattle.model.specs.Image.{tree_of, node_count}
 use Rattle.model.specs.ParentElements.{has_parents}
-use Rattle.model.proofs.Loops.{SomeLeft, some_start, some_more, some_stop, some-done}
+use Rattle.model.proofs.Loops.{some_start, some_more, some_stop, some-done}
 use Rattle.face_parents.proofs.face.any_parents.Goals as goal
 
 pub loop-s-init : goal.loop-s-init

@@ -1,7 +1,5 @@
 -- A section of type 22 brings the faces of its range.
 use mathlib.Core.Path.{sym, ◌∙◌}
-use borrow.Author.Rules.{rules}
-use borrow.Author.Tests.{not-true, not-false}
 use Rattle.model.proofs.Logic.{and_first}
 use Rattle.model.proofs.Joins.{and_on, and_done}
 use Rattle.face_places.proofs.Accepted.{section_by}

@@ -2,7 +2,6 @@
 use Prim.Native.Nat.{◌<◌}
 use mathlib.Core.Path.{ap, ◌∙◌}
 use native.Mathlib.Omega.{arith}
-use borrow.Author.Rules.{rules}
 use Rattle.model.specs.Rules.{rejected}
 use Rattle.model.specs.Image.{node_count}
 use Rattle.face_places.proofs.Accepted.{section-kind}

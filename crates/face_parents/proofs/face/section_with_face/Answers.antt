@@ -1,11 +1,8 @@
 -- No node before s brings the face.
-use Prim.Native.Nat.{◌-◌}
 use mathlib.Core.Path.{sym, ◌∙◌}
 use native.Mathlib.Omega.{arith}
-use borrow.Author.Rules.{rules}
-use Rattle.model.specs.Image.{tree_of}
-use Rattle.model.specs.Elements.{has_face, section_with_face}
-use Rattle.model.proofs.Loops.{SeekLeft, seek_more, seek_stop, seek_done}
+use Rattle.model.specs.Elements.{has_face}
+use Rattle.model.proofs.Loops.{seek_more, seek_stop, seek_done}
 use Rattle.face_parents.proofs.OneFace.{section_start}
 use Rattle.face_parents.proofs.face.section_with_face.Goals as goal
 

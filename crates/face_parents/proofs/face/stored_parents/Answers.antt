@@ -1,6 +1,5 @@
 -- The face is in the section's range, and the two columns have a number for each face of it.
 use native.Mathlib.Omega.{arith}
-use borrow.Author.Rules.{rules}
 use Rattle.face_parents.proofs.Columns.{columns_long}
 use Rattle.face_parents.proofs.OneFace.{in_span, row-long, stored_pair}
 use Rattle.face_parents.proofs.face.stored_parents.Goals as goal

@@ -1,7 +1,6 @@
 -- A face section of an accepted image is a section of type 22.
 use mathlib.Core.Path.{sym, ◌∙◌}
-use borrow.Author.Rules.{rules}
-use borrow.Author.Tests.{not-true, not-false, eqb-true}
+use borrow.Author.Tests.{eqb-true}
 use Rattle.model.specs.Image.{tree_of}
 use Rattle.model.specs.Containment.{section_of}
 use Rattle.model.proofs.Logic.{and_first, and_second}

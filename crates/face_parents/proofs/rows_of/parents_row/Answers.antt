@@ -1,6 +1,5 @@
 -- A node with two columns has a word for each, and its first dimension is how long they are.
 use native.Mathlib.Omega.{arith}
-use borrow.Author.Rules.{rules}
 use Rattle.face_parents.proofs.Columns.{two-words, column_short, parent_row}
 use Rattle.face_parents.proofs.rows_of.parents_row.Goals as goal
 

@@ -4,7 +4,6 @@ use mathlib.Core.Path.{◌∙◌}
 use lib.ListN.{length-set}
 use lib.Seq.{get_or-set_same}
 use native.Mathlib.Omega.{arith}
-use borrow.Author.Rules.{rules}
 use Rattle.face_places.proofs.Gathering.{placed-before}
 use Rattle.face_places.proofs.places.add_place.Goals as goal
 

@@ -1,8 +1,6 @@
 -- A face section's range is put among the others, and its first face comes after all faces of the sections before it.
 use mathlib.Core.Path.{sym, ◌∙◌}
 use native.Mathlib.Omega.{arith}
-use borrow.Author.Rules.{rules}
-use borrow.Author.Tests.{not-true, not-false}
 use Rattle.model.proofs.Logic.{and_first}
 use Rattle.face_places.proofs.Accepted.{section_by}
 use Rattle.face_places.proofs.Gathering.{total-few, room_for_lem, same-ranges, more_ranges}

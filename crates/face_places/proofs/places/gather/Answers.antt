@@ -1,12 +1,9 @@
 -- One node after the other: the entries are the face sections before it.
-use Prim.Native.Nat.{◌-◌, ◌≤◌}
 use mathlib.Core.Path.{◌≡◌, refl, ◌∙◌}
 use native.Mathlib.Omega.{arith}
-use borrow.Author.Rules.{rules}
-use lib.ListN.{length, length-set}
+use lib.ListN.{length-set}
 use lib.Seq.{get_or-set_same}
-use Rattle.model.specs.Image.{tree_of, node_count}
-use Rattle.face_places.specs.Ranges.{Ranges}
+use Rattle.model.specs.Image.{node_count}
 use Rattle.face_places.proofs.Gathering.{no_ranges}
 use Rattle.face_places.proofs.places.gather.Goals as goal
 

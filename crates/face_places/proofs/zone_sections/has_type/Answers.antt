@@ -2,8 +2,6 @@
 use mathlib.Core.Path.{sym, ap, ◌∙◌}
 use Prim.Native.Nat.{ℕ}
 use lib.Dec.{eqb}
-use borrow.Author.Rules.{rules}
-use borrow.Author.Tests.{not-true, not-false}
 use Rattle.model.specs.Elements.{element_type_of}
 use Rattle.model.proofs.Joins.{and_on, and_done}
 use Rattle.face_places.proofs.Accepted.{section-has}

@@ -1,5 +1,4 @@
 -- One start offset more than there are elements.
-use borrow.Author.Rules.{rules}
 use Rattle.face_places.proofs.Accepted.{section-kind}
 use Rattle.face_uses.proofs.Arrays.{cells-offsets}
 use Rattle.face_uses.proofs.cells.cell_offsets.Goals as goal

@@ -1,6 +1,5 @@
 -- The section's start offsets tell how many of its elements end before the entry.
 use mathlib.Core.Path.{refl}
-use borrow.Author.Rules.{rules}
 use Rattle.face_uses.proofs.Arrays.{element_read}
 use Rattle.face_uses.proofs.cells.element_holding.Goals as goal
 

@@ -1,7 +1,5 @@
 -- A cell section's references are its connectivity, all of it; any other node brings none.
 use mathlib.Core.Path.{sym, ◌∙◌}
-use borrow.Author.Rules.{rules}
-use borrow.Author.Tests.{not-true, not-false}
 use Rattle.face_places.proofs.Accepted.{section-kind}
 use Rattle.face_uses.proofs.Arrays.{cells_by, connectivity-inside, connectivity_dimension, connectivity-stores_n, references, no_references}
 use Rattle.face_uses.proofs.cells.references_of.Goals as goal

@@ -1,5 +1,4 @@
 -- A node's numbers stand from its data's start on, as wide as its data type says.
-use borrow.Author.Rules.{rules}
 use Rattle.face_uses.proofs.Arrays.{row_read}
 use Rattle.face_uses.proofs.cells.row_of.Goals as goal
 

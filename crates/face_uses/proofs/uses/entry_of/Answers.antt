@@ -1,10 +1,8 @@
 -- Whatever entry is asked first, the one found holds the number.
-use mathlib.Core.Path.{◌≡◌, sym, ap, ◌∙◌}
-use lib.ListN.{length}
+use mathlib.Core.Path.{sym, ◌∙◌}
 use Rattle.ranges.proofs.Halving.{entry_found}
 use native.Mathlib.Omega.{arith}
 use Rattle.face_uses.proofs.uses.entry_of.Goals as goal
-use Rattle.face_uses.proofs.uses.entry_of.Goals.{Joined-guesses-start}
 
 pub returns-then-entry_holds : goal.returns-then-entry_holds
 returns-then-entry_holds c =

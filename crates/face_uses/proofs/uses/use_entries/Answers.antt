@@ -1,16 +1,13 @@
 -- The whole run is the rest from entry k on, over the bytes that the uses before it left.
-use Prim.Native.Nat.{◌+◌, ◌-◌, ◌≤◌}
-use mathlib.Core.Path.{◌≡◌, refl, sym, ap, ◌∙◌}
-use lib.ListN.{length}
-use borrow.Author.Tests.{not-true, not-false}
+use Prim.Native.Nat.{◌+◌, ◌-◌}
+use mathlib.Core.Path.{refl, sym, ap, ◌∙◌}
 use Rattle.model.specs.Rules.{repetition}
 use Rattle.model.specs.Image.{tree_of}
-use Rattle.model.specs.FaceUsage.{face_count, uses_in, use_entries}
+use Rattle.model.specs.FaceUsage.{use_entries}
 use Rattle.section_data.proofs.TableLaws.{face-small}
-use Rattle.face_uses.proofs.Runs.{tables_kept, Left, left_more, left_stop, left-done, entries_start, entries_step, entries-end}
+use Rattle.face_uses.proofs.Runs.{tables_kept, left_more, left_stop, left-done, entries_start, entries_step, entries-end}
 use Rattle.face_uses.proofs.Runs.{entry-face, entry-used, entry_repeated}
 use native.Mathlib.Omega.{arith}
-use borrow.Author.Rules.{rules}
 use Rattle.face_uses.proofs.uses.use_entries.Goals as goal
 
 pub references_of-row-requires : goal.references_of-row-requires

@@ -1,7 +1,6 @@
 -- The entry that holds the face tells its place, and the use is made there.
 use mathlib.Core.Path.{sym, ◌∙◌}
 use native.Mathlib.Omega.{arith}
-use borrow.Author.Rules.{rules}
 use Rattle.face_places.proofs.Gathering.{At, face-found}
 use Rattle.face_uses.proofs.Runs.{use_is}
 use Rattle.face_uses.proofs.uses.use_entry.Goals as goal

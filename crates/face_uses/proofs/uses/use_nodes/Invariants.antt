@@ -1,11 +1,9 @@
 -- The whole run is the rest from node i on, over the bytes that the nodes before it left.
-use Prim.Native.Nat.{◌+◌, ◌-◌, ◌≤◌}
-use mathlib.Core.Path.{◌≡◌, ◌∙◌}
-use native.Mathlib.Omega.{arith}
-use borrow.Author.Rules.{rules}
+use Prim.Native.Nat.{◌-◌, ◌≤◌}
+use mathlib.Core.Path.{◌≡◌}
 use Rattle.model.specs.Image.{tree_of, node_count}
 use Rattle.model.specs.FaceUsage.{face_count, use_nodes}
-use Rattle.face_uses.proofs.Runs.{tables_kept, Left, left_more, left_stop, left-done, nodes_start, nodes_step, nodes-end}
+use Rattle.face_uses.proofs.Runs.{Left}
 use Rattle.face_uses.proofs.uses.use_nodes.Given as goal
 
 abbrev pub invariant-loop-i : goal.invariant-loop-i

@@ -1,7 +1,5 @@
 -- A check that refuses leaves the bytes; where it passes, there is an index to ask for the zone and for its arrays.
 use mathlib.Core.Path.{sym, ap, ◌∙◌}
-use borrow.Author.Rules.{rules}
-use borrow.Author.Tests.{not-true, not-false}
 use Rattle.model.specs.Rules.{rejected}
 use Rattle.model.proofs.Staging.{passes, rejects}
 use Rattle.model.proofs.Bounds.{accepted-image}

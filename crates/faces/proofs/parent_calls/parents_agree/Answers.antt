@@ -1,7 +1,6 @@
 -- The tables are lent to validation, and then to agreement.
 use mathlib.Core.Path.{refl}
 use native.Mathlib.Omega.{arith}
-use borrow.Author.Rules.{rules}
 use Rattle.faces.proofs.parent_calls.parents_agree.Goals as goal
 
 pub agreement_after-requires : goal.agreement_after-requires

@@ -1,7 +1,6 @@
 -- A run over cleared bytes is the usage; where it is refused, the bytes are cleared again.
 use mathlib.Core.Path.{ap, ◌∙◌}
 use native.Mathlib.Omega.{arith}
-use borrow.Author.Rules.{rules}
 use Rattle.model.specs.Rules.{rejected}
 use Rattle.model.specs.Answers.{rejection_of}
 use Rattle.face_places.proofs.Gathering.{all_faces}

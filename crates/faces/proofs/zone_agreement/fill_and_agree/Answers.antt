@@ -1,7 +1,5 @@
 -- Where the usage is refused, so is agreement; where it is an answer, its bytes are lent to the second pass and come back as they were.
 use mathlib.Core.Path.{sym, ap, ◌∙◌}
-use native.Mathlib.Omega.{arith}
-use borrow.Author.Rules.{rules}
 use Rattle.model.specs.Rules.{answer}
 use Rattle.model.specs.Answers.{usage_tells}
 use Rattle.face_uses.proofs.Runs.{tables_kept}

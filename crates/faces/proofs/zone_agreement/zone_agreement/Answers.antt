@@ -1,7 +1,6 @@
 -- The place behind the last entry is how many faces the zone has; where there is room for them, their usage is filled in and agreement asked.
 use mathlib.Core.Path.{refl, sym, ap, ◌∙◌}
 use native.Mathlib.Omega.{arith}
-use borrow.Author.Rules.{rules}
 use Rattle.model.specs.Rules.{Answer, rejected, answer, ◌into◌}
 use Rattle.model.specs.Image.{tree_of}
 use Rattle.model.specs.ParentElements.{all_agree}

@@ -1,7 +1,6 @@
 -- A digit of the row.
 use mathlib.Core.Path.{◌∙◌}
 use native.Mathlib.Omega.{arith}
-use borrow.Author.Rules.{rules}
 use Rattle.index.proofs.keys.first_slot.Goals as goal
 
 pub returns : goal.returns

@@ -1,7 +1,6 @@
 -- The role decides, then the name.
 use mathlib.Core.Path.{sym, ◌∙◌}
 use Rattle.index.proofs.Keyed.{key-off, key-on, some_key}
-use borrow.Author.Rules.{rules}
 use Rattle.index.proofs.keys.is_key.Goals as goal
 
 pub returns-then-key_role-below : goal.returns-then-key_role-below

@@ -1,10 +1,8 @@
 -- A digit of the row.
-use Prim.Native.Nat.{ℕ}
 use mathlib.Core.Path.{◌≡◌, ◌∙◌}
 use Rattle.index.specs.Keys.{key_at}
 use Rattle.index.proofs.Keyed.{key-few}
 use native.Mathlib.Omega.{arith}
-use borrow.Author.Rules.{rules}
 use Rattle.index.proofs.keys.key_at.Goals as goal
 
 pub returns : goal.returns

@@ -1,12 +1,9 @@
 -- No slot before the first of its role is for the node, and those after it were asked.
 use Prim.Native.Nat.{ℕ, ◌-◌, ◌<◌}
-use mathlib.Core.Path.{◌≡◌, sym, ◌∙◌}
+use mathlib.Core.Path.{◌≡◌}
 use mathlib.Core.Bool.{false}
 use Rattle.model.specs.Image.{tree_of}
 use Rattle.index.specs.Keys.{is_key}
-use Rattle.index.proofs.Keyed.{not-before, slot_found, no_slot, not-up-to}
-use native.Mathlib.Omega.{arith}
-use borrow.Author.Rules.{rules}
 use Rattle.index.proofs.keys.slot_of.Given as goal
 
 abbrev pub invariant-loop-k : goal.invariant-loop-k

@@ -5,7 +5,6 @@ use mathlib.Core.List.{List}
 use lib.ListN.{length, set, length-set}
 use Rattle.index.proofs.Marking.{row_begun}
 use native.Mathlib.Omega.{arith}
-use borrow.Author.Rules.{rules}
 use Rattle.index.proofs.tables.begin_row.Goals as goal
 
 pub returns : goal.returns

@@ -5,7 +5,6 @@ use Rattle.model.specs.Bytes.{text}
 use Rattle.labels.specs.Padded.{known_names}
 use Rattle.index.specs.Keys.{key_roles, slot_keys, key_at, key_role, key_name}
 use Rattle.index.proofs.Marking.{slot_child_lem}
-use borrow.Author.Rules.{rules}
 use Rattle.index.proofs.tables.connectivity.Goals as goal
 
 pub returns : goal.returns

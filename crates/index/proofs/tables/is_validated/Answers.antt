@@ -2,7 +2,6 @@
 use mathlib.Core.Path.{ap, ◌∙◌}
 use lib.Dec.{ltb}
 use Rattle.index.proofs.Marking.{kind-validated}
-use borrow.Author.Rules.{rules}
 use Rattle.index.proofs.tables.is_validated.Goals as goal
 
 pub returns : goal.returns

@@ -1,6 +1,5 @@
 -- A number past the last node is no zone.
 use Rattle.labels.proofs.Nodes.{some-node, no_node}
-use borrow.Author.Rules.{rules}
 use Rattle.index.proofs.tables.is_zone.Goals as goal
 
 pub returns-then-z-node_count : goal.returns-then-z-node_count

@@ -2,7 +2,6 @@
 use mathlib.Core.Path.{◌∙◌}
 use Rattle.index.proofs.Marking.{slot_found, slot_empty}
 use native.Mathlib.Omega.{arith}
-use borrow.Author.Rules.{rules}
 use Rattle.index.proofs.tables.look_up.Goals as goal
 
 pub returns-then-j-eq0 : goal.returns-then-j-eq0

@@ -6,7 +6,6 @@ use Rattle.model.specs.Image.{tree_of}
 use Rattle.index.specs.Index.{kind, Rows}
 use Rattle.index.proofs.Marking.{kind_by, lower, begin_row, no_mark, mark_room, mark}
 use native.Mathlib.Omega.{arith}
-use borrow.Author.Rules.{rules}
 use Rattle.index.proofs.tables.mark_node.Goals as goal
 use Rattle.index.proofs.tables.mark_node.Goals.{After-slot_of-k}
 

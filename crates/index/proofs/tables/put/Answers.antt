@@ -1,7 +1,6 @@
 -- A place that holds no node is a multiple of 4,096.
 use native.Mathlib.Omega.{arith}
 use borrow.Author.Tests.{eq-eqb, ne_eqb}
-use borrow.Author.Rules.{rules}
 use Rattle.index.proofs.tables.put.Goals as goal
 
 pub returns-then-x-eq0 : goal.returns-then-x-eq0

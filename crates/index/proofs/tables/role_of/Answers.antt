@@ -1,7 +1,6 @@
 -- The kind of a validated node is its role.
 use mathlib.Core.Path.{refl, ◌∙◌}
 use Rattle.index.proofs.Marking.{kind-role}
-use borrow.Author.Rules.{rules}
 use Rattle.index.proofs.tables.role_of.Goals as goal
 
 pub returns : goal.returns

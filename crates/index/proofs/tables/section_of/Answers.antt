@@ -1,7 +1,6 @@
 -- The parent decides, then what it is validated as.
 use Rattle.model.specs.Containment.{section_of}
 use Rattle.labels.proofs.Nodes.{unlike, alike}
-use borrow.Author.Rules.{rules}
 use Rattle.index.proofs.tables.section_of.Goals as goal
 
 pub returns-then-parent_of-z : goal.returns-then-parent_of-z

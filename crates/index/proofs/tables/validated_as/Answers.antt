@@ -3,7 +3,6 @@ use Prim.Native.Nat.{ℕ}
 use mathlib.Core.Path.{ap, ◌∙◌}
 use lib.Dec.{eqb}
 use Rattle.index.proofs.Marking.{kind_as}
-use borrow.Author.Rules.{rules}
 use Rattle.index.proofs.tables.validated_as.Goals as goal
 
 pub returns : goal.returns

@@ -1,6 +1,5 @@
 -- The cell is not 0.
 use Rattle.labels.proofs.Grid.{cell_held}
-use borrow.Author.Rules.{rules}
 use Rattle.labels.proofs.containment.may_hold.Goals as goal
 
 pub returns : goal.returns

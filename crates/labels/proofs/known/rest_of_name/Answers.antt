@@ -1,6 +1,5 @@
 -- The fourth word of every known text is blanks.
 use native.Mathlib.Omega.{arith}
-use borrow.Author.Rules.{rules}
 use Prim.Native.Nat.{◌+◌}
 use Rattle.labels.proofs.KnownTexts.{fourth_blank}
 use Rattle.labels.proofs.known.rest_of_name.Goals as goal

@@ -1,7 +1,6 @@
 -- Each arm has its name's word.
 use Prim.Native.Nat.{ℕ, ◌+◌}
 use mathlib.Core.Path.{◌≡◌, ap, sym}
-use mathlib.Core.List.{◌++◌}
 use native.Mathlib.Omega.{arith}
 use Rattle.model.specs.Bytes.{le, text}
 use Rattle.model.specs.Containment.{known_labels}

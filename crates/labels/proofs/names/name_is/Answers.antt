@@ -1,13 +1,11 @@
 -- The first word decides, then the rest.
 use Prim.Native.Nat.{ℕ, ◌+◌}
-use mathlib.Core.Path.{◌≡◌, sym, ap, ◌∙◌}
+use mathlib.Core.Path.{sym, ap, ◌∙◌}
 use mathlib.Core.List.{List}
-use Rattle.model.specs.Bytes.{spells}
 use Rattle.labels.specs.Padded.{field_word}
 use Rattle.labels.proofs.Nodes.{name-field}
 use Rattle.labels.proofs.KnownTexts.{name-text, first_off, rest-spells}
 use native.Mathlib.Omega.{arith}
-use borrow.Author.Rules.{rules}
 use Rattle.labels.proofs.names.name_is.Goals as goal
 
 pub returns-then-u64_at-first_word : goal.returns-then-u64_at-first_word

@@ -11,7 +11,6 @@ use Rattle.words.proofs.Same.{Bytes}
 use Rattle.labels.specs.Padded.{known_texts, Begins}
 use Rattle.labels.proofs.KnownTexts.{role_root, role_by_label, rest-spells, is_candidate, no_candidate}
 use native.Mathlib.Omega.{arith}
-use borrow.Author.Rules.{rules}
 use Rattle.labels.proofs.roles.role_of.Goals as goal
 
 pub returns-then-i-eq0 : goal.returns-then-i-eq0

@@ -1,13 +1,9 @@
 -- Word by word, then byte by byte; texts of different lengths differ.
 use native.Mathlib.Nat.{zero-add}
-use Prim.Native.Nat.{ℕ, ◌-◌, ◌+◌}
-use mathlib.Core.Path.{◌≡◌, sym, ap, ◌∙◌}
-use lib.ListN.{drop}
-use Rattle.model.specs.Bytes.{le}
-use Rattle.words.proofs.Same.{Same, same_start, same_more, same_stop, same_more_word, same_stop_word, same-done}
+use mathlib.Core.Path.{sym, ◌∙◌}
+use Rattle.words.proofs.Same.{same_start, same_more, same_stop, same_more_word, same_stop_word, same-done}
 use Rattle.labels.proofs.Fields.{same-long, same_text}
 use native.Mathlib.Omega.{arith}
-use borrow.Author.Rules.{rules}
 use Rattle.labels.proofs.texts.same_at.Goals as goal
 
 pub returns-then-n-text : goal.returns-then-n-text

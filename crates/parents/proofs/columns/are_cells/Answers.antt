@@ -1,15 +1,9 @@
 -- Every number before k is a parent: known ones are, and a number that was looked up where it was found. Number k is not known.
-use Prim.Native.Nat.{◌-◌, ◌<◌}
-use mathlib.Core.Path.{◌≡◌}
 use mathlib.Core.Bool.{false}
-use Rattle.model.specs.Image.{tree_of}
 use Rattle.ranges.proofs.Intervals.{none-covered}
-use Rattle.section_data.specs.Passing.{Passed}
 use Rattle.section_data.proofs.Passing.{passed_more, passed_on, passed_every, failed_every}
-use Rattle.parents.specs.Parents.{parent_at}
-use Rattle.parents.proofs.ColumnLaws.{none_at, not_none, known_parents, found-parent, no_parent_lem}
+use Rattle.parents.proofs.ColumnLaws.{not_none, known_parents, found-parent, no_parent_lem}
 use native.Mathlib.Omega.{arith}
-use borrow.Author.Rules.{rules}
 use Rattle.parents.proofs.columns.are_cells.Goals as goal
 
 pub loop-k-init : goal.loop-k-init

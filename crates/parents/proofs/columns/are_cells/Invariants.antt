@@ -3,13 +3,9 @@ use Prim.Native.Nat.{◌-◌, ◌<◌}
 use mathlib.Core.Path.{◌≡◌}
 use mathlib.Core.Bool.{false}
 use Rattle.model.specs.Image.{tree_of}
-use Rattle.ranges.proofs.Intervals.{none-covered}
 use Rattle.section_data.specs.Passing.{Passed}
-use Rattle.section_data.proofs.Passing.{passed_more, passed_on, passed_every, failed_every}
 use Rattle.parents.specs.Parents.{parent_at}
-use Rattle.parents.proofs.ColumnLaws.{none_at, not_none, known_parents, found-parent, no_parent_lem}
-use native.Mathlib.Omega.{arith}
-use borrow.Author.Rules.{rules}
+use Rattle.parents.proofs.ColumnLaws.{none_at}
 use Rattle.parents.proofs.columns.are_cells.Given as goal
 
 abbrev pub invariant-loop-k : goal.invariant-loop-k

@@ -1,12 +1,8 @@
 -- Every number before j is known.
-use Prim.Native.Nat.{◌-◌}
 use mathlib.Core.Path.{sym, ◌∙◌}
-use borrow.Author.Tests.{not-true, not-false}
-use Rattle.section_data.specs.Passing.{Passed}
 use Rattle.section_data.proofs.Passing.{passed_none, passed_more}
 use Rattle.parents.specs.Parents.{known_at}
 use native.Mathlib.Omega.{arith}
-use borrow.Author.Rules.{rules}
 use Rattle.parents.proofs.columns.first_unknown.Goals as goal
 
 pub returns-then-not-is_known : goal.returns-then-not-is_known

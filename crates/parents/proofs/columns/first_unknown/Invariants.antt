@@ -1,12 +1,7 @@
 -- Every number before j is known.
 use Prim.Native.Nat.{◌-◌}
-use mathlib.Core.Path.{sym, ◌∙◌}
-use borrow.Author.Tests.{not-true, not-false}
 use Rattle.section_data.specs.Passing.{Passed}
-use Rattle.section_data.proofs.Passing.{passed_none, passed_more}
 use Rattle.parents.specs.Parents.{known_at}
-use native.Mathlib.Omega.{arith}
-use borrow.Author.Rules.{rules}
 use Rattle.parents.proofs.columns.first_unknown.Given as goal
 
 abbrev pub invariant-loop-j : goal.invariant-loop-j

@@ -4,7 +4,6 @@ use mathlib.Core.Path.{sym, ◌∙◌}
 use Rattle.model.proofs.Joins.{and_on, and_done}
 use Rattle.rows.specs.Rows.{Numbers}
 use native.Mathlib.Omega.{arith}
-use borrow.Author.Tests.{not-true, not-false}
 use Rattle.parents.proofs.ColumnLaws.{first_column, second_column, columns_are}
 use Rattle.parents.proofs.rule.columns_lawful.Goals as goal
 use Rattle.parents.proofs.rule.columns_lawful.Goals.{Else-not-are_cells}

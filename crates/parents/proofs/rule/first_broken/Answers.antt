@@ -1,6 +1,5 @@
 -- Where no section stores parents none is broken; else the cells are gathered first.
 use native.Mathlib.Omega.{arith}
-use borrow.Author.Rules.{rules}
 use Rattle.model.proofs.Loops.{seek_done}
 use Rattle.parents.proofs.ParentLaws.{start_broken}
 use Rattle.parents.proofs.rule.first_broken.Goals as goal

@@ -1,13 +1,9 @@
 -- No node before i breaks the rule.
 use Prim.Native.Nat.{◌-◌}
-use mathlib.Core.Path.{sym, ◌∙◌}
-use native.Mathlib.Omega.{arith}
-use borrow.Author.Rules.{rules}
 use Rattle.model.specs.Lists.{seek_from}
 use Rattle.model.specs.Image.{tree_of}
-use Rattle.model.proofs.Loops.{SeekLeft, seek_more, seek_stop, seek_done}
+use Rattle.model.proofs.Loops.{SeekLeft}
 use Rattle.parents.specs.Parents.{parents_broken}
-use Rattle.parents.proofs.ParentLaws.{start_broken}
 use Rattle.parents.proofs.rule.first_broken_from.Given as goal
 
 abbrev pub invariant-loop-i : goal.invariant-loop-i

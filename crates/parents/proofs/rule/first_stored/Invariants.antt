@@ -1,12 +1,9 @@
 -- No node before i stores parents.
 use Prim.Native.Nat.{◌-◌}
-use native.Mathlib.Omega.{arith}
-use borrow.Author.Rules.{rules}
 use Rattle.model.specs.Lists.{seek_from}
 use Rattle.model.specs.Image.{tree_of}
-use Rattle.model.proofs.Loops.{SeekLeft, seek_start, seek_more, seek_stop, seek_done}
+use Rattle.model.proofs.Loops.{SeekLeft}
 use Rattle.parents.specs.Parents.{stores_parents}
-use Rattle.parents.proofs.ParentLaws.{has_parents_lem, no_parents}
 use Rattle.parents.proofs.rule.first_stored.Given as goal
 
 abbrev pub invariant-loop-i : goal.invariant-loop-i

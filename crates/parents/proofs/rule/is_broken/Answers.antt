@@ -2,7 +2,6 @@
 use Prim.Native.Nat.{◌<◌}
 use mathlib.Core.Path.{sym}
 use native.Mathlib.Omega.{arith}
-use borrow.Author.Rules.{rules}
 use Rattle.model.specs.Image.{node_count}
 use Rattle.parents.proofs.ParentLaws.{has_parents_lem, no_parents, stores-ranged, none_broken, broken_by}
 use Rattle.parents.proofs.rule.is_broken.Goals as goal

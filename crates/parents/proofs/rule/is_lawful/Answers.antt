@@ -1,8 +1,6 @@
 -- Data type, dimensions, then the two columns.
 use mathlib.Core.Path.{sym, ◌∙◌}
 use native.Mathlib.Omega.{arith}
-use borrow.Author.Rules.{rules}
-use borrow.Author.Tests.{not-true, not-false}
 use Rattle.section_data.proofs.RangeLaws.{ranged, zone-inside}
 use Rattle.parents.proofs.ParentLaws.{faces_kind, not-typed, not-shaped, columns_decide, stores_columns}
 use Rattle.parents.proofs.rule.is_lawful.Goals as goal

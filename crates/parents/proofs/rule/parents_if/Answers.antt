@@ -1,7 +1,6 @@
 -- What is no section, or does not count, stores none; else its child decides.
 use mathlib.Core.Path.{sym, ◌∙◌}
 use native.Mathlib.Omega.{arith}
-use borrow.Author.Rules.{rules}
 use borrow.Author.Tests.{ne_eqb}
 use Rattle.index.proofs.Marking.{kind_as}
 use Rattle.section_data.proofs.RangeLaws.{not-section, has-range, no_range}

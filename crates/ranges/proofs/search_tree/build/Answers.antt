@@ -1,5 +1,5 @@
 -- The entries of the zone begin after those of zones before it; each level lies in the table.
-use Rattle.std.proofs.Common.{◌≡◌, ◌-◌, ◌≤◌, length, arith, rules}
+use Rattle.std.proofs.Common.{arith}
 use Rattle.ranges.specs.Tables.{key}
 use Rattle.ranges.proofs.Halving.{begun_up}
 use Rattle.ranges.proofs.search_tree.build.Goals as goal

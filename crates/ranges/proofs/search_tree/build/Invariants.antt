@@ -1,7 +1,5 @@
 -- The entries of the zone begin after those of zones before it; each level lies in the table.
-use Rattle.std.proofs.Common.{◌≡◌, ◌-◌, ◌≤◌, length, arith, rules}
-use Rattle.ranges.specs.Tables.{key}
-use Rattle.ranges.proofs.Halving.{begun_up}
+use Rattle.std.proofs.Common.{◌≡◌, ◌-◌, ◌≤◌, length}
 use Rattle.ranges.proofs.search_tree.build.Given as goal
 
 abbrev pub invariant-loop-first : goal.invariant-loop-first

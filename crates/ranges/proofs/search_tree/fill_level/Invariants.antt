@@ -1,5 +1,5 @@
 -- Every node lies in the table.
-use Rattle.std.proofs.Common.{◌≡◌, ◌-◌, length, rules}
+use Rattle.std.proofs.Common.{◌≡◌, ◌-◌, length}
 use Rattle.ranges.proofs.search_tree.fill_level.Given as goal
 
 abbrev pub invariant-loop-p : goal.invariant-loop-p

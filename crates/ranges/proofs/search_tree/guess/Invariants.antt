@@ -1,5 +1,5 @@
 -- All eight places stay in one level, whose numbers lie in the table.
-use Rattle.std.proofs.Common.{◌-◌, ◌≤◌, rules}
+use Rattle.std.proofs.Common.{◌-◌, ◌≤◌}
 use Rattle.ranges.specs.SearchTree.{InLevel}
 use Rattle.ranges.proofs.search_tree.guess.Given as goal
 

@@ -1,5 +1,5 @@
 -- No level has more than 1,024 nodes.
-use Rattle.std.proofs.Common.{◌-◌, ◌≤◌, rules}
+use Rattle.std.proofs.Common.{◌-◌, ◌≤◌}
 use Rattle.ranges.proofs.search_tree.lowest_for.Given as goal
 
 abbrev pub invariant-loop-lowest : goal.invariant-loop-lowest

@@ -1,5 +1,5 @@
 -- All four lie in the lent memory.
-use Rattle.std.proofs.Common.{arith, length-set, rules}
+use Rattle.std.proofs.Common.{arith, length-set}
 use Rattle.ranges.proofs.search_tree.put_entries.Goals as goal
 
 pub bounds-entries-k-2 : goal.bounds-entries-k-2

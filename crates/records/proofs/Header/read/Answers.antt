@@ -1,5 +1,4 @@
 -- Each word is read at its place.
-use borrow.Author.Rules.{rules}
 use Rattle.model.specs.Image.{header_word, form, total_length, node_count, record_offset, dimension_offset, word_count, data_offset, data_length}
 use Rattle.records.proofs.Header.read.Goals as goal
 

@@ -1,5 +1,4 @@
 -- Each number is a word of the header.
-use borrow.Author.Rules.{rules}
 use Rattle.model.specs.Image.{header_word, node_count, word_count, data_length}
 use Rattle.records.proofs.TableSize.read.Goals as goal
 

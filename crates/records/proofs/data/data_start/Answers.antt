@@ -2,7 +2,6 @@
 use native.Mathlib.Omega.{arith}
 use Prim.Native.Nat.{◌<◌}
 use mathlib.Core.Path.{◌≡◌}
-use borrow.Author.Rules.{rules}
 use Rattle.model.specs.Image.{node_count, data_offset, tree_of, node}
 use Rattle.model.proofs.Reading.{data_at-at}
 use Rattle.model.proofs.Bounds.{node-placed}

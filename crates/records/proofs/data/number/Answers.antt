@@ -1,7 +1,6 @@
 -- The bytes at the number's place, at either width.
 use native.Mathlib.Omega.{arith}
 use mathlib.Core.Path.{◌≡◌}
-use borrow.Author.Rules.{rules}
 use Rattle.model.proofs.Reading.{number-at}
 use Rattle.words.proofs.Signed.{eight}
 use Rattle.records.proofs.Places.{area_at_lem}

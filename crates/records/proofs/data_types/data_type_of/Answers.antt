@@ -1,5 +1,4 @@
 -- It is the data type of the node in the image's table.
-use borrow.Author.Rules.{rules}
 use mathlib.Core.Path.{◌∙◌}
 use Rattle.model.proofs.SameNodes.{same-type}
 use Rattle.records.proofs.Tables.{image-node}

@@ -1,7 +1,6 @@
 -- Two bytes of a list, one after the other.
 use native.Mathlib.Omega.{arith}
 use mathlib.Core.Path.{sym}
-use borrow.Author.Rules.{rules}
 use Rattle.records.proofs.Codes.{pair_from}
 use Rattle.records.proofs.fields.pair_at.Goals as goal
 

@@ -5,7 +5,6 @@ use mathlib.Core.Path.{◌≡◌, ◌∙◌}
 use lib.Dec.{lit≤}
 use lib.ListN.{length, take, drop, replicate, length-drop}
 use lib.Seq.{length-take-le}
-use borrow.Author.Rules.{rules}
 use Rattle.words.proofs.Writes.{filled}
 use Rattle.records.proofs.fields.text_at.Goals as goal
 

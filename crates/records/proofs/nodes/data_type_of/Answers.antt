@@ -1,5 +1,4 @@
 -- The data type is that of its two bytes.
-use borrow.Author.Rules.{rules}
 use Rattle.model.specs.Image.{data_type_of}
 use Rattle.records.proofs.nodes.data_type_of.Goals as goal
 

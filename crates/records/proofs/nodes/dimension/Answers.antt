@@ -1,7 +1,5 @@
 -- The word at the node's first word and k more, after the records.
 use native.Mathlib.Omega.{arith}
-use borrow.Author.Rules.{rules}
-use Prim.Native.Nat.{ℕ, ◌+◌, ◌*◌}
 use mathlib.Core.Path.{◌≡◌, refl, sym, ◌∙◌}
 use Rattle.model.specs.Bytes.{le}
 use Rattle.model.specs.Image.{Node, node_of, node}

@@ -1,5 +1,4 @@
 -- LK is known by its two bytes.
-use borrow.Author.Rules.{rules}
 use Rattle.model.specs.Records.{link}
 use Rattle.records.proofs.Codes.{link_by_code}
 use Rattle.records.proofs.nodes.is_link.Goals as goal

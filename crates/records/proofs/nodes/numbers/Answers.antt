@@ -1,5 +1,4 @@
 -- Each number is read at its place in the record.
-use borrow.Author.Rules.{rules}
 use mathlib.Core.Path.{refl}
 use Rattle.model.specs.Bytes.{le}
 use Rattle.model.specs.Image.{Node, node_of, parent}

@@ -1,6 +1,5 @@
 -- The parent is read at its place in the record.
 use native.Mathlib.Omega.{arith}
-use borrow.Author.Rules.{rules}
 use mathlib.Core.Path.{refl, sym, ◌∙◌}
 use Rattle.model.specs.Bytes.{le}
 use Rattle.model.specs.Image.{Node, node_of, parent}

@@ -1,5 +1,4 @@
 -- Each field is read at its place in the record.
-use borrow.Author.Rules.{rules}
 use mathlib.Core.Path.{refl}
 use lib.ListN.{take}
 use Rattle.model.specs.Image.{Node, node_of, name, label}

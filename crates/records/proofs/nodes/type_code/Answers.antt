@@ -1,6 +1,5 @@
 -- The two bytes are read at the data type's place.
 use native.Mathlib.Omega.{arith}
-use borrow.Author.Rules.{rules}
 use Prim.Native.Nat.{◌+◌, ◌*◌}
 use mathlib.Core.Path.{refl, ◌∙◌}
 use lib.ListN.{take}

@@ -1,5 +1,4 @@
 -- The width is that of the data type.
-use borrow.Author.Rules.{rules}
 use mathlib.Core.Path.{◌∙◌, ap}
 use lib.ListN.{get_or}
 use Prim.Native.Nat.{ℕ}

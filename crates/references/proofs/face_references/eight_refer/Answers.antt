@@ -1,14 +1,9 @@
 -- Every number before j refers to a face.
-use Prim.Native.Nat.{◌+◌, ◌-◌, ◌≤◌}
+use Prim.Native.Nat.{◌+◌}
 use mathlib.Core.Path.{◌≡◌}
-use borrow.Author.Tests.{not-false}
-use Rattle.model.specs.Image.{tree_of}
 use Rattle.model.proofs.Logic.{untrue}
-use Rattle.section_data.specs.Passing.{Passed}
-use Rattle.references.specs.Arrays.{refers_face}
 use Rattle.section_data.proofs.Passing.{passed_none, passed_more}
 use native.Mathlib.Omega.{arith}
-use borrow.Author.Rules.{rules}
 use Rattle.references.proofs.face_references.eight_refer.Goals as goal
 
 pub loop-j-init : goal.loop-j-init

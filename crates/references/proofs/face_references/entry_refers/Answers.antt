@@ -1,7 +1,6 @@
 -- A number that is not too great is a face of the zone where an entry holds its key.
 use mathlib.Core.Path.{sym, ◌∙◌}
 use native.Mathlib.Omega.{arith}
-use borrow.Author.Rules.{rules}
 use Rattle.model.proofs.Logic.{untrue}
 use Rattle.section_data.proofs.TableLaws.{held-is}
 use Rattle.references.proofs.FaceLaws.{refers_by}

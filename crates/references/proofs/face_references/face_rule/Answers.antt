@@ -1,6 +1,5 @@
 -- The tests are those of the definition.
 use mathlib.Core.Path.{sym, ◌∙◌}
-use borrow.Author.Rules.{rules}
 use borrow.Author.Tests.{eq-eqb, ne_eqb}
 use Rattle.references.specs.Groups.{face_rule}
 use Rattle.references.proofs.face_references.face_rule.Goals as goal

@@ -1,16 +1,10 @@
 -- Every number before k refers to a face: numbers in the two intervals do, a number looked up where it is found, and so do those guessed.
-use Prim.Native.Nat.{◌-◌}
-use Rattle.model.specs.Image.{tree_of}
-use Rattle.ranges.specs.Tables.{Covered}
 use Rattle.ranges.proofs.Intervals.{none-covered}
-use Rattle.section_data.specs.Passing.{Passed}
-use Rattle.references.specs.Arrays.{refers_face}
 use Rattle.section_data.proofs.TableLaws.{found-is, missed_is}
 use Rattle.section_data.proofs.Passing.{passed_none, passed_more, passed_on}
 use Rattle.references.proofs.Failing.{failing_here, failing_none}
 use Rattle.references.proofs.FaceLaws.{refers_by, known_faces}
 use native.Mathlib.Omega.{arith}
-use borrow.Author.Rules.{rules}
 use Rattle.references.proofs.face_references.first_no_face.Goals as goal
 
 pub loop-k-init : goal.loop-k-init

@@ -2,15 +2,8 @@
 use Prim.Native.Nat.{◌-◌}
 use Rattle.model.specs.Image.{tree_of}
 use Rattle.ranges.specs.Tables.{Covered}
-use Rattle.ranges.proofs.Intervals.{none-covered}
 use Rattle.section_data.specs.Passing.{Passed}
 use Rattle.references.specs.Arrays.{refers_face}
-use Rattle.section_data.proofs.TableLaws.{found-is, missed_is}
-use Rattle.section_data.proofs.Passing.{passed_none, passed_more, passed_on}
-use Rattle.references.proofs.Failing.{failing_here, failing_none}
-use Rattle.references.proofs.FaceLaws.{refers_by, known_faces}
-use native.Mathlib.Omega.{arith}
-use borrow.Author.Rules.{rules}
 use Rattle.references.proofs.face_references.first_no_face.Given as goal
 
 abbrev pub invariant-loop-k : goal.invariant-loop-k

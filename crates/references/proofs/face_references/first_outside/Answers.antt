@@ -1,12 +1,7 @@
 -- Every number before j is known.
-use Prim.Native.Nat.{◌-◌}
 use mathlib.Core.Path.{sym, ◌∙◌}
-use borrow.Author.Tests.{not-false}
-use Rattle.section_data.specs.Passing.{Passed}
-use Rattle.references.specs.Arrays.{known_at}
 use Rattle.section_data.proofs.Passing.{passed_none, passed_more}
 use native.Mathlib.Omega.{arith}
-use borrow.Author.Rules.{rules}
 use Rattle.references.proofs.face_references.first_outside.Goals as goal
 
 pub loop-j-preserved : goal.loop-j-preserved

@@ -1,14 +1,7 @@
 -- Every number before j refers to a face.
-use Prim.Native.Nat.{◌-◌, ◌≤◌}
-use mathlib.Core.Path.{◌≡◌, refl, sym, ◌∙◌}
-use lib.ListN.{length}
-use borrow.Author.Tests.{not-false}
-use Rattle.model.specs.Image.{tree_of}
-use Rattle.section_data.specs.Passing.{Passed}
-use Rattle.references.specs.Arrays.{refers_face}
+use mathlib.Core.Path.{refl, sym, ◌∙◌}
 use Rattle.section_data.proofs.Passing.{passed_none, passed_on}
 use native.Mathlib.Omega.{arith}
-use borrow.Author.Rules.{rules}
 use Rattle.references.proofs.face_references.guessed_to.Goals as goal
 
 pub loop-j-init : goal.loop-j-init

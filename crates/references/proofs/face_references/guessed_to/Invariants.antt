@@ -1,14 +1,10 @@
 -- Every number before j refers to a face.
 use Prim.Native.Nat.{◌-◌, ◌≤◌}
-use mathlib.Core.Path.{◌≡◌, refl, sym, ◌∙◌}
+use mathlib.Core.Path.{◌≡◌}
 use lib.ListN.{length}
-use borrow.Author.Tests.{not-false}
 use Rattle.model.specs.Image.{tree_of}
 use Rattle.section_data.specs.Passing.{Passed}
 use Rattle.references.specs.Arrays.{refers_face}
-use Rattle.section_data.proofs.Passing.{passed_none, passed_on}
-use native.Mathlib.Omega.{arith}
-use borrow.Author.Rules.{rules}
 use Rattle.references.proofs.face_references.guessed_to.Given as goal
 
 abbrev pub invariant-loop-j : goal.invariant-loop-j

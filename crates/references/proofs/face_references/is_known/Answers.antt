@@ -1,6 +1,5 @@
 -- One of the two holds it.
 use mathlib.Core.Path.{sym, ◌∙◌}
-use borrow.Author.Rules.{rules}
 use Rattle.references.proofs.face_references.is_known.Goals as goal
 
 pub returns-then-within : goal.returns-then-within

@@ -2,7 +2,6 @@
 use mathlib.Core.Path.{refl, ap, ◌∙◌}
 use Rattle.model.specs.Image.{tree_of}
 use Rattle.model.specs.Values.{size}
-use borrow.Author.Rules.{rules}
 use Rattle.section_data.proofs.ArrayLaws.{row_is}
 use Rattle.section_data.proofs.ArrayLaws.{offsets_there, offsets-found}
 use Rattle.references.proofs.MixedLaws.{offsets_counted}

@@ -1,13 +1,7 @@
 -- Every node before k lies in 1 to limit; behind the type the nodes follow.
 use Prim.Native.Nat.{◌+◌, ◌-◌, ◌≤◌}
-use mathlib.Core.Path.{refl, sym, ◌∙◌}
-use native.Mathlib.Omega.{arith}
-use borrow.Author.Rules.{rules}
-use borrow.Author.Tests.{not-true, not-false}
 use Rattle.section_data.specs.Passing.{Passed}
 use Rattle.references.specs.Arrays.{is_within}
-use Rattle.section_data.proofs.Passing.{passed_none, passed_more}
-use Rattle.references.proofs.Failing.{failing_place, failing_no_place}
 use Rattle.references.proofs.mixed.place_outside.Given as goal
 
 abbrev pub invariant-loop-k : goal.invariant-loop-k

@@ -1,5 +1,4 @@
 -- The stored type has as many nodes as follow it.
-use borrow.Author.Rules.{rules}
 use Rattle.references.specs.Mixed.{fits_in}
 use Rattle.references.proofs.mixed.type_fits.Goals as goal
 

@@ -1,11 +1,6 @@
 -- Every number before k lies in 1 to limit.
-use Prim.Native.Nat.{◌-◌}
 use mathlib.Core.Path.{sym, ◌∙◌}
 use native.Mathlib.Omega.{arith}
-use borrow.Author.Rules.{rules}
-use borrow.Author.Tests.{not-true, not-false}
-use Rattle.section_data.specs.Passing.{Passed}
-use Rattle.references.specs.Arrays.{is_within}
 use Rattle.section_data.proofs.Passing.{passed_none}
 use Rattle.references.proofs.Failing.{passed-two, failing_two, failing_last, failing_none}
 use Rattle.references.proofs.nodes.first_no_node.Goals as goal

@@ -1,5 +1,4 @@
 -- The two tests are those of the definition.
-use borrow.Author.Rules.{rules}
 use borrow.Author.Tests.{lt-leb, le-leb}
 use Rattle.references.specs.Arrays.{is_within}
 use Rattle.references.proofs.nodes.is_within.Goals as goal

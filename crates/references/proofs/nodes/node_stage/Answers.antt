@@ -1,7 +1,6 @@
 -- The connectivity is a row of the bytes, and no entry of it is a type number: its first number outside 1 to VertexSize is the first entry that breaks rule 34.
 use mathlib.Core.Path.{ap, ◌∙◌}
 use native.Mathlib.Omega.{arith}
-use borrow.Author.Rules.{rules}
 use Rattle.model.specs.Rules.{rejected}
 use Rattle.section_data.proofs.ArrayLaws.{row-numbers}
 use Rattle.references.proofs.RuleLaws.{long-is, first-node, nodes-kept, nodes_broken}

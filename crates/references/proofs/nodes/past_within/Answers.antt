@@ -1,6 +1,5 @@
 -- The test is that of the definition.
 use mathlib.Core.Path.{sym, ◌∙◌}
-use borrow.Author.Rules.{rules}
 use Rattle.references.proofs.nodes.past_within.Goals as goal
 
 pub returns-then-is_within : goal.returns-then-is_within

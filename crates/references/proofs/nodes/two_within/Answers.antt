@@ -1,7 +1,5 @@
 -- One after the other.
 use mathlib.Core.Path.{sym, ◌∙◌}
-use borrow.Author.Rules.{rules}
-use borrow.Author.Tests.{not-true, not-false}
 use Rattle.references.proofs.nodes.two_within.Goals as goal
 
 pub returns-then-not-is_within : goal.returns-then-not-is_within

@@ -3,7 +3,6 @@ use mathlib.Core.Path.{◌∙◌, ap}
 use Prim.Native.Nat.{ℕ}
 use Rattle.model.specs.Image.{tree_of, number}
 use Rattle.model.specs.Values.{vertex_size}
-use borrow.Author.Rules.{rules}
 use Rattle.references.proofs.nodes.vertex_size.Goals as goal
 
 pub whole-requires : goal.whole-requires

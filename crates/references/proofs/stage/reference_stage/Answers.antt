@@ -1,7 +1,6 @@
 -- The type decides which of the rules is asked.
 use mathlib.Core.Path.{sym, ◌∙◌}
 use Rattle.references.proofs.RuleLaws.{types_fit}
-use borrow.Author.Rules.{rules}
 use Rattle.references.proofs.stage.reference_stage.Goals as goal
 
 pub mixed_stage-requires : goal.mixed_stage-requires

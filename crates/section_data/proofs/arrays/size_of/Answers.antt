@@ -1,7 +1,6 @@
 -- Past the last node nothing is stored; a node with one dimension has its word.
 use native.Mathlib.Omega.{arith}
 use mathlib.Core.Path.{sym}
-use borrow.Author.Rules.{rules}
 use Rattle.model.specs.Values.{size}
 use Rattle.section_data.proofs.ArrayLaws.{no_size, one_word, words_inside}
 use Rattle.section_data.proofs.arrays.size_of.Goals as goal

@@ -1,13 +1,7 @@
 -- No node before i meets an earlier one, and their ranges are gathered.
-use Prim.Native.Nat.{◌-◌}
-use mathlib.Core.Path.{◌≡◌, refl, sym, ◌∙◌}
-use lib.ListN.{length}
-use Rattle.model.specs.Lists.{seek_from}
-use Rattle.model.specs.Image.{tree_of}
-use Rattle.model.proofs.Loops.{SeekLeft, seek_start, seek_more, seek_stop, seek_done}
-use Rattle.ranges.specs.Tables.{Gathered}
+use mathlib.Core.Path.{refl, sym, ◌∙◌}
+use Rattle.model.proofs.Loops.{seek_start, seek_more, seek_stop, seek_done}
 use Rattle.ranges.proofs.Gathering.{gathered_start}
-use Rattle.section_data.specs.Ranges.{is_ranged, first_key, last_key, overlap_at}
 use native.Mathlib.Omega.{arith}
 use borrow.Author.Rules.{rules}
 use Rattle.section_data.proofs.element_ranges.first_overlap.Goals as goal

@@ -1,14 +1,10 @@
 -- The ranges of the nodes before i are gathered.
 use Prim.Native.Nat.{◌-◌, ◌≤◌}
-use mathlib.Core.Path.{◌≡◌, refl, ◌∙◌}
+use mathlib.Core.Path.{◌≡◌}
 use lib.ListN.{length}
 use Rattle.model.specs.Image.{tree_of}
 use Rattle.ranges.specs.Tables.{Gathered}
-use Rattle.ranges.proofs.Gathering.{gathered_start}
 use Rattle.section_data.specs.Ranges.{is_ranged, first_key, last_key}
-use Rattle.section_data.proofs.TableLaws.{table_by}
-use native.Mathlib.Omega.{arith}
-use borrow.Author.Rules.{rules}
 use Rattle.section_data.proofs.element_ranges.gather.Given as goal
 
 abbrev pub invariant-loop-i : goal.invariant-loop-i

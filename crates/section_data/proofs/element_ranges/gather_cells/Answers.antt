@@ -1,5 +1,4 @@
 -- They are the elements of one type.
-use borrow.Author.Rules.{rules}
 use Rattle.model.specs.Elements.{cell_section, has_cell, cell_of}
 use Rattle.section_data.specs.Ranges.{has_of, of_type}
 use Rattle.section_data.proofs.element_ranges.gather_cells.Goals as goal

@@ -1,5 +1,4 @@
 -- They are the elements of one type.
-use borrow.Author.Rules.{rules}
 use Rattle.model.specs.Elements.{face_section, has_face, face_of}
 use Rattle.section_data.specs.Ranges.{has_of, of_type}
 use Rattle.section_data.proofs.element_ranges.gather_faces.Goals as goal

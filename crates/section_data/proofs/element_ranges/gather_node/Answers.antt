@@ -6,7 +6,6 @@ use Rattle.ranges.proofs.Gathering.{gathered_skip, gathered_more}
 use Rattle.section_data.specs.Ranges.{is_ranged}
 use Rattle.section_data.proofs.RangeLaws.{has-range, no_range, ranged, zone-inside, room}
 use native.Mathlib.Omega.{arith}
-use borrow.Author.Rules.{rules}
 use Rattle.section_data.proofs.element_ranges.gather_node.Goals as goal
 use Rattle.section_data.proofs.element_ranges.gather_node.Goals.{Else-node_count-range}
 

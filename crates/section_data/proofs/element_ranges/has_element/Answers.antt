@@ -1,7 +1,6 @@
 -- A node of another zone, or one that is no section, has none; a section of the zone decides.
 use mathlib.Core.Path.{sym, ◌∙◌}
 use native.Mathlib.Omega.{arith}
-use borrow.Author.Rules.{rules}
 use borrow.Author.Tests.{eq-eqb, ne_eqb}
 use Rattle.index.proofs.Marking.{kind_as}
 use Rattle.section_data.proofs.RangeLaws.{other_zone, no_section, section_decides}

@@ -1,12 +1,8 @@
 -- No node before i brings the element to the zone.
-use Prim.Native.Nat.{◌-◌}
 use mathlib.Core.Path.{sym, ◌∙◌}
 use native.Mathlib.Omega.{arith}
-use borrow.Author.Rules.{rules}
-use Rattle.model.specs.Lists.{some_from}
-use Rattle.model.specs.Image.{tree_of}
 use Rattle.model.specs.Elements.{has_element}
-use Rattle.model.proofs.Loops.{SomeLeft, some_start, some_more, some_stop, some-done}
+use Rattle.model.proofs.Loops.{some_start, some_more, some_stop, some-done}
 use Rattle.section_data.proofs.RangeLaws.{element_by}
 use Rattle.section_data.proofs.element_ranges.is_element.Goals as goal
 

@@ -1,13 +1,9 @@
 -- No node before i brings the element to the zone.
 use Prim.Native.Nat.{◌-◌}
-use mathlib.Core.Path.{sym, ◌∙◌}
-use native.Mathlib.Omega.{arith}
-use borrow.Author.Rules.{rules}
 use Rattle.model.specs.Lists.{some_from}
 use Rattle.model.specs.Image.{tree_of}
 use Rattle.model.specs.Elements.{has_element}
-use Rattle.model.proofs.Loops.{SomeLeft, some_start, some_more, some_stop, some-done}
-use Rattle.section_data.proofs.RangeLaws.{element_by}
+use Rattle.model.proofs.Loops.{SomeLeft}
 use Rattle.section_data.proofs.element_ranges.is_element.Given as goal
 
 abbrev pub invariant-loop-i : goal.invariant-loop-i

@@ -1,7 +1,5 @@
 -- Rules 24 and 25 of a section are three tests.
 use mathlib.Core.Path.{sym, ◌∙◌}
-use borrow.Author.Rules.{rules}
-use borrow.Author.Tests.{not-true, not-false}
 use Rattle.types.proofs.StoredNumbers.{whole_four, has_pair}
 use Rattle.section_data.proofs.RangeLaws.{lawful_is}
 use Rattle.section_data.proofs.element_ranges.is_lawful.Goals as goal

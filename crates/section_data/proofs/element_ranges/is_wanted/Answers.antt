@@ -1,8 +1,7 @@
 -- Any section counts, or its first number is the type.
 use mathlib.Core.Path.{sym, ◌∙◌}
 use native.Mathlib.Omega.{arith}
-use borrow.Author.Rules.{rules}
-use borrow.Author.Tests.{lt-ltb, not-true, not-false}
+use borrow.Author.Tests.{lt-ltb}
 use Rattle.model.specs.Lists.{◌⊃◌}
 use Rattle.model.specs.Elements.{element_type_of}
 use Rattle.section_data.specs.Ranges.{is_wanted}

@@ -3,7 +3,6 @@ use Rattle.section_data.proofs.Stored.{stores-has}
 use Rattle.section_data.proofs.ArrayLaws.{first_by, last_by}
 use Rattle.section_data.proofs.RangeLaws.{first_key_lem, last-key}
 use native.Mathlib.Omega.{arith}
-use borrow.Author.Rules.{rules}
 use Rattle.section_data.proofs.element_ranges.keys_of.Goals as goal
 
 pub whole-requires : goal.whole-requires

@@ -5,7 +5,6 @@ use Rattle.model.specs.Image.{tree_of}
 use Rattle.section_data.specs.Ranges.{is_ranged}
 use Rattle.section_data.proofs.RangeLaws.{has-range, no_range, ranged, zone-inside, overlap_by, no_overlap}
 use native.Mathlib.Omega.{arith}
-use borrow.Author.Rules.{rules}
 use Rattle.section_data.proofs.element_ranges.meets_earlier.Goals as goal
 use Rattle.section_data.proofs.element_ranges.meets_earlier.Goals.{Else-node_count-range}
 

@@ -1,13 +1,12 @@
 -- What is no section, and what does not count, has no range; else the conforming one.
 use mathlib.Core.Path.{◌≡◌, sym, ◌∙◌}
 use mathlib.Core.Bool.{true}
-use borrow.Author.Tests.{eq-eqb, ne_eqb, not-true, not-false}
+use borrow.Author.Tests.{eq-eqb, ne_eqb}
 use Rattle.model.specs.Image.{tree_of}
 use Rattle.model.specs.Containment.{role, validated_as, Elements}
 use Rattle.index.proofs.Marking.{kind_as, kind_parts}
 use Rattle.section_data.proofs.RangeLaws.{range_none, not-section, not_wanted, range_by}
 use native.Mathlib.Omega.{arith}
-use borrow.Author.Rules.{rules}
 use Rattle.section_data.proofs.element_ranges.range_if.Goals as goal
 use Rattle.section_data.proofs.element_ranges.range_if.Goals.{After-kind_of}
 

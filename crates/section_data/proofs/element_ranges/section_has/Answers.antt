@@ -1,8 +1,6 @@
 -- Rules 24 and 25, then the range, then its numbers.
 use mathlib.Core.Path.{sym, ◌∙◌}
 use native.Mathlib.Omega.{arith}
-use borrow.Author.Rules.{rules}
-use borrow.Author.Tests.{not-true, not-false}
 use Rattle.index.proofs.Marking.{kind_parts}
 use Rattle.section_data.proofs.Stored.{range_ready}
 use Rattle.section_data.proofs.RangeLaws.{found_by, missing_by}

@@ -4,7 +4,6 @@ use Rattle.model.specs.Rules.{rejected}
 use Rattle.model.specs.Answers.{stage_tells}
 use Rattle.model.proofs.Staging as stage
 use Rattle.sections.proofs.Room.{image-off, image-on}
-use borrow.Author.Rules.{rules}
 use Rattle.sections.proofs.answers.answer_after.Goals as goal
 
 pub returns-in_default : goal.returns-in_default

@@ -1,6 +1,5 @@
 -- Validation fills the index where it accepts, and from there on it is only read.
 use mathlib.Core.Path.{◌∙◌}
-use borrow.Author.Rules.{rules}
 use Rattle.sections.proofs.answers.sections_answer.Goals as goal
 
 pub answer_after-requires : goal.answer_after-requires

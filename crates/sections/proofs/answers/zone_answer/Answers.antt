@@ -1,12 +1,10 @@
 -- Rule 40, then 46, each by its test; else the sections are counted.
 use mathlib.Core.Path.{sym, ap, ◌∙◌}
-use borrow.Author.Tests.{not-true, not-false}
 use Rattle.model.specs.Rules.{rejected, answer, ◌gives◌}
 use Rattle.model.proofs.Passed.{then-on, then-off}
 use Rattle.model.proofs.Sections.{zone-is}
 use Rattle.sections.proofs.Room.{no_zone, no_room, room_enough}
 use native.Mathlib.Omega.{arith}
-use borrow.Author.Rules.{rules}
 use Rattle.sections.proofs.answers.zone_answer.Goals as goal
 
 pub returns-then-not-is_zone : goal.returns-then-not-is_zone

@@ -24,9 +24,10 @@ loop-i-preserved c =
     one-stored d c.loop-i.invariant (omega arith) c.entry_after-e.ensures
 
 pub returns : goal.returns
-returns c =
-    (c.sections_answer-answer.ensures.result_value,
-      answered_memory c.loop-i.invariant (omega arith) _ c.sections_answer-answer.ensures.result_value c.answered_count-n.ensures)
+returns c = (
+  c.sections_answer-answer.ensures.result_value,
+  answered_memory c.loop-i.invariant (omega arith) _ c.sections_answer-answer.ensures.result_value c.answered_count-n.ensures,
+)
 
 pub offset_bounds-out-i : goal.offset_bounds-out-i
 offset_bounds-out-i c =

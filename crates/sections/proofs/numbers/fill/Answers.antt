@@ -1,13 +1,11 @@
 -- Each turn stores the entry of the next section: what is written are the entries of the sections visited.
-use Prim.Native.Nat.{◌-◌, ◌≤◌}
 use mathlib.Core.Path.{◌≡◌, refl, ◌∙◌}
 use lib.ListN.{length}
 use Rattle.model.specs.Lists.{over}
 use Rattle.model.specs.Image.{tree_of}
 use Rattle.model.specs.Sections.{section_nodes, entries, all_numbers}
-use Rattle.sections.proofs.Filling.{first_entries, Visited, none_visited, some_left, next-entry, one_visited, store_numbers, all_taken}
+use Rattle.sections.proofs.Filling.{none_visited, some_left, next-entry, one_visited, store_numbers, all_taken}
 use native.Mathlib.Omega.{arith}
-use borrow.Author.Rules.{rules}
 use Rattle.sections.proofs.numbers.fill.Goals as goal
 
 pub loop-k-init : goal.loop-k-init

@@ -1,6 +1,5 @@
 -- The answer is that of the call, and what it tells of is written.
 use mathlib.Core.Path.{refl}
-use borrow.Author.Rules.{rules}
 use Rattle.sections.proofs.numbers.section_entries.Goals as goal
 
 pub write_entries-requires : goal.write_entries-requires

@@ -4,7 +4,6 @@ use Rattle.model.specs.Sections.{section_numbers_memory}
 use Rattle.model.specs.Answers.{count_tells}
 use Rattle.sections.proofs.Answered.{counts, count-leaves, rejection-leaves}
 use native.Mathlib.Omega.{arith}
-use borrow.Author.Rules.{rules}
 use Rattle.sections.proofs.numbers.write_entries.Goals as goal
 
 pub returns-in_default : goal.returns-in_default

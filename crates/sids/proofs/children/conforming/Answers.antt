@@ -2,7 +2,6 @@
 use mathlib.Core.Path.{sym, ◌∙◌}
 use native.Mathlib.Omega.{arith}
 use borrow.Author.Rules.{rules}
-use borrow.Author.Tests.{not-true, not-false}
 use Rattle.model.specs.Image.{tree_of}
 use Rattle.model.specs.Containment.{or_missing}
 use Rattle.types.proofs.Missing.{missing_none}

@@ -1,6 +1,5 @@
 -- What a section looks up has a known label: it can be judged.
 use mathlib.Core.Path.{refl}
-use borrow.Author.Rules.{rules}
 use Rattle.model.specs.Bytes.{text}
 use Rattle.model.specs.Values.{offsets_of}
 use Rattle.model.proofs.Logic.{untrue}

@@ -1,7 +1,6 @@
 -- Only a FlowSolution_t has a GridLocation.
 use mathlib.Core.Path.{refl, sym, ◌∙◌}
 use native.Mathlib.Omega.{arith}
-use borrow.Author.Rules.{rules}
 use Rattle.model.specs.Bytes.{text}
 use Rattle.model.specs.Values.{cell_centred}
 use Rattle.index.proofs.Marking.{kind_parts}

@@ -3,7 +3,6 @@ use Prim.Native.Nat.{ℕ, ◌≤◌, ◌<◌}
 use mathlib.Core.Path.{◌≡◌, sym, ap, ◌∙◌}
 use mathlib.Core.List.{List}
 use native.Mathlib.Omega.{arith}
-use borrow.Author.Rules.{rules}
 use Rattle.model.specs.Image.{tree_of, node_count}
 use Rattle.model.specs.Containment.{role, FlowSolution}
 use Rattle.model.specs.Values.{shaped, list_count, point_range_of, point_list_of}

@@ -1,7 +1,6 @@
 -- The first row of the zone's sizes, or the second.
 use mathlib.Core.Path.{sym, ◌∙◌}
 use native.Mathlib.Omega.{arith}
-use borrow.Author.Rules.{rules}
 use Rattle.sids.proofs.Zones.{inner_vertex, inner_cell}
 use Rattle.sids.proofs.data_size.inner_sizes.Goals as goal
 

@@ -1,6 +1,5 @@
 -- The zone's sizes, direction by direction.
 use mathlib.Core.Path.{ap, ◌∙◌}
-use borrow.Author.Rules.{rules}
 use Rattle.model.specs.Image.{tree_of}
 use Rattle.model.specs.Values.{shaped, index_dimension}
 use Rattle.sids.proofs.Zones.{data_sizes_are}

@@ -1,5 +1,4 @@
 -- The parent, then the role.
-use borrow.Author.Rules.{rules}
 use borrow.Author.Tests.{eq-eqb, ne_eqb}
 use Rattle.model.specs.Values.{base_child}
 use Rattle.sids.proofs.required.base_child.Goals as goal

@@ -1,6 +1,5 @@
 -- The role decides which children are required.
 use mathlib.Core.Path.{sym, ◌∙◌}
-use borrow.Author.Rules.{rules}
 use borrow.Author.Tests.{ne_eqb}
 use Rattle.model.specs.Lists.{row}
 use Rattle.model.specs.Image.{tree_of}

@@ -1,12 +1,9 @@
 -- What is left of the nodes decides.
 use native.Mathlib.Omega.{arith}
-use Prim.Native.Nat.{◌-◌}
 use mathlib.Core.Path.{sym, ◌∙◌}
 use borrow.Author.Rules.{rules}
-use Rattle.model.specs.Image.{tree_of}
-use Rattle.model.specs.Lists.{some_from}
 use Rattle.model.specs.Values.{base_child}
-use Rattle.model.proofs.Loops.{SomeLeft, some_start, some_more, some_stop, some-done}
+use Rattle.model.proofs.Loops.{some_start, some_more, some_stop, some-done}
 use Rattle.sids.proofs.required.has_base.Goals as goal
 
 pub loop-j-init : goal.loop-j-init

@@ -1,16 +1,14 @@
 -- The slot of the parent tells it.
 use mathlib.Core.Path.{◌≡◌, refl, sym, ◌∙◌}
-use Prim.Native.Nat.{ℕ, ◌<◌}
-use borrow.Author.Rules.{rules}
+use Prim.Native.Nat.{ℕ}
 use borrow.Author.Tests.{eq-eqb, ne_eqb}
 use Rattle.model.specs.Lists.{row}
 use Rattle.model.specs.Bytes.{text}
-use Rattle.model.specs.Image.{tree_of, node_count}
-use Rattle.index.specs.Index.{kind, Index}
+use Rattle.model.specs.Image.{tree_of}
 use Rattle.labels.proofs.Nodes.{parent-inside}
 use Rattle.sids.specs.Groups.{required_under, is_required}
 use Rattle.sids.proofs.required.is_required.Goals as goal
-use Rattle.sids.proofs.required.is_required.Goals.{After-kind_of-kind, After-parent_of-up, After-range, In-7}
+use Rattle.sids.proofs.required.is_required.Goals.{After-kind_of-kind, After-range}
 
 pub returns-then-i-eq0 : goal.returns-then-i-eq0
 unfolding is_required

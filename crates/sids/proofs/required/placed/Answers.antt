@@ -1,7 +1,6 @@
 -- The table decides, then for a section the zone's type: only a zone may hold one.
 use mathlib.Core.Path.{sym, ◌∙◌}
-use borrow.Author.Rules.{rules}
-use borrow.Author.Tests.{eq-eqb, ne_eqb, not-true, not-false}
+use borrow.Author.Tests.{eq-eqb, ne_eqb}
 use Rattle.model.specs.Lists.{◌⊃◌}
 use Rattle.index.proofs.Marking.{kind-role}
 use Rattle.sids.proofs.Context.{section-zone}

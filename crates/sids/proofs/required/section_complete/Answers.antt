@@ -1,5 +1,4 @@
 -- Both are found.
-use borrow.Author.Rules.{rules}
 use borrow.Author.Tests.{lt-ltb, le-ltb}
 use Rattle.model.specs.Image.{tree_of}
 use Rattle.model.specs.Containment.{found}

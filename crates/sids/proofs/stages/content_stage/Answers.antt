@@ -1,9 +1,6 @@
 -- A required child meets them; else one rule after the other.
-use mathlib.Core.Path.{◌≡◌, sym, ◌∙◌}
+use mathlib.Core.Path.{sym, ◌∙◌}
 use mathlib.Core.Bool.{true}
-use borrow.Author.Rules.{rules}
-use borrow.Author.Tests.{not-true, not-false}
-use Rattle.model.specs.Image.{tree_of}
 use Rattle.model.specs.Values.{complete, type_lawful}
 use Rattle.model.proofs.Staging.{broken, kept, no_rule}
 use Rattle.sids.proofs.RequiredChild.{required_kept}

@@ -1,6 +1,5 @@
 -- The parent first, then what the node is validated as.
 use mathlib.Core.Path.{◌∙◌}
-use borrow.Author.Rules.{rules}
 use borrow.Author.Tests.{ne_eqb}
 use Rattle.labels.proofs.Nodes.{unlike, alike}
 use Rattle.sids.proofs.stages.follows_array.Goals as goal

@@ -1,7 +1,5 @@
 -- Three groups of rules, one after the other.
 use mathlib.Core.Path.{sym, ◌∙◌}
-use borrow.Author.Rules.{rules}
-use borrow.Author.Tests.{not-true, not-false}
 use Rattle.model.proofs.Passed.{check_pass}
 use Rattle.model.proofs.Staging.{passes, stop, go, broken, kept, no_rule}
 use Rattle.sids.proofs.Context.{ready, sized, sids_groups}

@@ -2,8 +2,6 @@
 use native.Mathlib.Omega.{arith}
 use mathlib.Core.Path.{◌≡◌, sym, ap, ◌∙◌}
 use mathlib.Core.Bool.{true}
-use borrow.Author.Rules.{rules}
-use borrow.Author.Tests.{not-true, not-false}
 use Rattle.model.specs.Lists.{◌⊃◌}
 use Rattle.model.specs.Image.{tree_of, parent}
 use Rattle.model.specs.Values.{sizes_lawful, sized_array, shaped}

@@ -1,5 +1,4 @@
 -- Direction by direction.
-use borrow.Author.Rules.{rules}
 use Rattle.sids.proofs.zone.sizes_from.Goals as goal
 
 pub returns : goal.returns

@@ -1,5 +1,4 @@
 -- The zone's type decides.
-use borrow.Author.Rules.{rules}
 use Rattle.sids.proofs.zone.sizes_permitted.Goals as goal
 
 pub returns-then-structured : goal.returns-then-structured

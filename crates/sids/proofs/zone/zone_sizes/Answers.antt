@@ -1,5 +1,4 @@
 -- One row after the other.
-use borrow.Author.Rules.{rules}
 use Rattle.model.specs.Values.{vertex_size, cell_size, boundary_size}
 use Rattle.sids.proofs.zone.zone_sizes.Goals as goal
 

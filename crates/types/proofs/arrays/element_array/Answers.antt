@@ -1,6 +1,5 @@
 -- One of the two names.
 use mathlib.Core.Path.{◌∙◌}
-use borrow.Author.Rules.{rules}
 use Rattle.model.specs.Bytes.{text}
 use Rattle.model.specs.Values.{element_array}
 use Rattle.model.proofs.Joins.{or_done, or_on}

@@ -1,6 +1,5 @@
 -- Four data types, two by two.
 use mathlib.Core.Path.{◌∙◌}
-use borrow.Author.Rules.{rules}
 use Rattle.model.proofs.Joins.{or_done, or_on}
 use Rattle.types.proofs.StoredNumbers.{four_types}
 use Rattle.types.proofs.arrays.number_type.Goals as goal

@@ -1,7 +1,5 @@
 -- The name decides which types are lawful.
 use mathlib.Core.Path.{◌∙◌, sym}
-use borrow.Author.Rules.{rules}
-use borrow.Author.Tests.{not-true, not-false}
 use Rattle.model.specs.Values.{section_array_type}
 use Rattle.model.proofs.Joins.{and_done, and_on}
 use Rattle.types.proofs.arrays.section_array_type.Goals as goal

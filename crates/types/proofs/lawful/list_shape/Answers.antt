@@ -4,7 +4,6 @@ use mathlib.Core.Bool.{false, and-false}
 use mathlib.Core.List.{[], ◌∷◌}
 use lib.Dec.{eqb}
 use native.Mathlib.Omega.{arith}
-use borrow.Author.Rules.{rules}
 use borrow.Author.Tests.{ne_eqb}
 use Rattle.model.specs.Image.{tree_of, parent, node, dimensions, I4, I8}
 use Rattle.model.specs.Containment.{role}

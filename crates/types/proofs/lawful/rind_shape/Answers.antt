@@ -1,5 +1,4 @@
 -- IndexDimension of the zone two above tells the one dimension.
-use borrow.Author.Rules.{rules}
 use Rattle.types.proofs.lawful.rind_shape.Goals as goal
 
 pub returns : goal.returns

@@ -1,6 +1,5 @@
 -- The data type, then the dimensions.
 use mathlib.Core.Path.{◌∙◌}
-use borrow.Author.Rules.{rules}
 use Rattle.model.proofs.Joins.{and_done, and_on}
 use Rattle.types.proofs.lawful.whole_shaped.Goals as goal
 

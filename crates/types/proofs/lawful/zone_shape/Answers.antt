@@ -1,5 +1,4 @@
 -- IndexDimension tells the first dimension.
-use borrow.Author.Rules.{rules}
 use Rattle.types.proofs.lawful.zone_shape.Goals as goal
 
 pub returns : goal.returns

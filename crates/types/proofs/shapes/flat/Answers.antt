@@ -1,6 +1,5 @@
 -- The record says how many dimensions there are.
 use mathlib.Core.Path.{ap}
-use borrow.Author.Rules.{rules}
 use Rattle.model.specs.Values.{flat}
 use Rattle.model.proofs.Reading.{rank_is}
 use Rattle.types.proofs.shapes.flat.Goals as goal

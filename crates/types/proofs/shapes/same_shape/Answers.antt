@@ -1,11 +1,8 @@
 -- What is left of the dimensions decides.
 use native.Mathlib.Omega.{arith}
-use Prim.Native.Nat.{◌≤◌, ◌<◌, ◌-◌}
-use mathlib.Core.Path.{◌≡◌, refl, sym, ap, ◌∙◌}
-use lib.ListN.{length, drop}
+use mathlib.Core.Path.{refl, sym, ap, ◌∙◌}
 use borrow.Author.Rules.{rules}
-use Rattle.model.specs.Bytes.{same}
-use Rattle.model.specs.Image.{tree_of, node, dimensions}
+use Rattle.model.specs.Image.{tree_of}
 use Rattle.model.specs.Values.{shaped}
 use Rattle.model.proofs.Bounds.{node-placed}
 use Rattle.labels.proofs.Fields.{same_not}

@@ -1,16 +1,10 @@
 -- What is left of the dimensions decides.
-use native.Mathlib.Omega.{arith}
-use Prim.Native.Nat.{◌≤◌, ◌<◌, ◌-◌}
-use mathlib.Core.Path.{◌≡◌, refl, sym, ap, ◌∙◌}
+use Prim.Native.Nat.{◌≤◌, ◌-◌}
+use mathlib.Core.Path.{◌≡◌}
 use lib.ListN.{length, drop}
-use borrow.Author.Rules.{rules}
 use Rattle.model.specs.Bytes.{same}
-use Rattle.model.specs.Image.{tree_of, node, dimensions}
+use Rattle.model.specs.Image.{tree_of, dimensions}
 use Rattle.model.specs.Values.{shaped}
-use Rattle.model.proofs.Bounds.{node-placed}
-use Rattle.labels.proofs.Fields.{same_not}
-use Rattle.types.proofs.Same.{same-on, same-off, same_end}
-use Rattle.model.proofs.Reading.{rank_is}
 use Rattle.types.proofs.shapes.same_shape.Given as goal
 
 abbrev pub invariant-loop-k : goal.invariant-loop-k

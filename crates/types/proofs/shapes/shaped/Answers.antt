@@ -1,11 +1,10 @@
 -- What is left of the dimensions decides.
-use Prim.Native.Nat.{◌≤◌, ◌-◌}
+use Prim.Native.Nat.{◌≤◌}
 use mathlib.Core.Path.{◌≡◌, refl, sym, ap, ◌∙◌}
-use lib.ListN.{length, take, drop}
+use lib.ListN.{length}
 use lib.Seq.{length-take-le}
 use borrow.Author.Rules.{rules}
-use Rattle.model.specs.Bytes.{same}
-use Rattle.model.specs.Image.{tree_of, node, dimensions}
+use Rattle.model.specs.Image.{tree_of, node}
 use Rattle.model.specs.Values.{shaped}
 use Rattle.labels.proofs.Fields.{same_not}
 use Rattle.types.proofs.Same.{first_on, first_off, first-end}

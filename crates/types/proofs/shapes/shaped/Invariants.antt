@@ -1,16 +1,9 @@
 -- What is left of the dimensions decides.
 use Prim.Native.Nat.{◌≤◌, ◌-◌}
-use mathlib.Core.Path.{◌≡◌, refl, sym, ap, ◌∙◌}
+use mathlib.Core.Path.{◌≡◌}
 use lib.ListN.{length, take, drop}
-use lib.Seq.{length-take-le}
-use borrow.Author.Rules.{rules}
 use Rattle.model.specs.Bytes.{same}
 use Rattle.model.specs.Image.{tree_of, node, dimensions}
-use Rattle.model.specs.Values.{shaped}
-use Rattle.labels.proofs.Fields.{same_not}
-use Rattle.types.proofs.Same.{first_on, first_off, first-end}
-use Rattle.model.proofs.Bounds.{node-placed}
-use Rattle.model.proofs.Reading.{rank_is}
 use Rattle.types.proofs.shapes.shaped.Given as goal
 
 abbrev pub invariant-loop-k : goal.invariant-loop-k

@@ -1,6 +1,5 @@
 -- The data type, then the number of dimensions.
 use mathlib.Core.Path.{◌∙◌}
-use borrow.Author.Rules.{rules}
 use Rattle.model.specs.Values.{zone_type_shape}
 use Rattle.model.proofs.Joins.{and_done, and_on}
 use Rattle.types.proofs.shapes.text_shape.Goals as goal

@@ -1,6 +1,5 @@
 -- A list of one data type.
 use mathlib.Core.Bool.{or-false}
-use borrow.Author.Rules.{rules}
 use Rattle.model.specs.Lists.{among}
 use Rattle.model.specs.Values.{typed}
 use Rattle.types.proofs.shapes.typed.Goals as goal

@@ -1,6 +1,5 @@
 -- A list of two data types.
 use mathlib.Core.Bool.{or-false}
-use borrow.Author.Rules.{rules}
 use borrow.Author.Tests.{eq-eqb, ne_eqb}
 use Rattle.model.specs.Lists.{among}
 use Rattle.model.specs.Values.{typed}

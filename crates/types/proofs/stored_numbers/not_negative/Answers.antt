@@ -1,5 +1,4 @@
 -- Numbers from half of the patterns on are negative.
-use borrow.Author.Rules.{rules}
 use Rattle.model.specs.Values.{not_negative}
 use Rattle.types.proofs.stored_numbers.not_negative.Goals as goal
 

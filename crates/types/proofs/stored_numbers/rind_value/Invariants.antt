@@ -1,15 +1,9 @@
 -- What is left of the numbers decides.
 use Prim.Native.Nat.{◌-◌}
-use mathlib.Core.Path.{◌≡◌, sym, ap, ◌∙◌}
-use lib.ListN.{length}
-use borrow.Author.Rules.{rules}
-use borrow.Author.Tests.{not-true, not-false}
-use Rattle.model.specs.Image.{tree_of, node}
+use mathlib.Core.Path.{◌≡◌}
+use Rattle.model.specs.Image.{tree_of}
 use Rattle.model.specs.Values.{rind_value, not_negative, size}
-use Rattle.model.proofs.Bounds.{node-placed}
-use Rattle.types.proofs.StoredNumbers.{flat-is, whole_four, has_flat}
-use Rattle.model.proofs.Loops.{EveryLeft, every_start, every_more, every_stop, every_done}
-use Rattle.model.proofs.Reading.{rank_is}
+use Rattle.model.proofs.Loops.{EveryLeft}
 use Rattle.types.proofs.stored_numbers.rind_value.Given as goal
 
 abbrev pub invariant-loop-k : goal.invariant-loop-k

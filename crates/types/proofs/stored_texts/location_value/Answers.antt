@@ -1,5 +1,4 @@
 -- One of the two texts.
-use borrow.Author.Rules.{rules}
 use Rattle.model.specs.Bytes.{text}
 use Rattle.model.specs.Values.{location_value}
 use Rattle.types.proofs.stored_texts.location_value.Goals as goal

@@ -1,7 +1,6 @@
 -- The data bytes against the text.
 use native.Mathlib.Omega.{arith}
 use mathlib.Core.Path.{◌≡◌, ap}
-use borrow.Author.Rules.{rules}
 use Rattle.model.specs.Image.{tree_of, node}
 use Rattle.model.specs.Values.{reads}
 use Rattle.types.proofs.StoredNumbers.{stored_is}

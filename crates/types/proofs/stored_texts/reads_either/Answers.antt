@@ -1,6 +1,5 @@
 -- One text, then the other.
 use mathlib.Core.Path.{◌∙◌}
-use borrow.Author.Rules.{rules}
 use Rattle.model.proofs.Joins.{or_done, or_on}
 use Rattle.types.proofs.stored_texts.reads_either.Goals as goal
 

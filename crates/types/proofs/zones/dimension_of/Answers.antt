@@ -1,7 +1,6 @@
 -- CellDimension of the base, or 1.
 use mathlib.Core.Path.{sym, ◌∙◌}
 use borrow.Author.Rules.{rules}
-use borrow.Author.Tests.{not-true, not-false}
 use Rattle.model.specs.Values.{index_dimension, cell_dimension}
 use Rattle.types.proofs.Roles.{based-has, cell_dimension_lem}
 use Rattle.types.proofs.zones.dimension_of.Goals as goal

@@ -1,6 +1,5 @@
 -- A ZoneType that reads this text reads a permitted one.
 use mathlib.Core.Path.{◌∙◌}
-use borrow.Author.Rules.{rules}
 use Rattle.model.specs.Bytes.{text}
 use Rattle.types.proofs.ZoneTypes.{is-structured}
 use Rattle.types.proofs.zones.structured.Goals as goal

@@ -1,6 +1,5 @@
 -- A ZoneType that reads this text reads a permitted one.
 use mathlib.Core.Path.{◌∙◌}
-use borrow.Author.Rules.{rules}
 use Rattle.model.specs.Bytes.{text}
 use Rattle.types.proofs.ZoneTypes.{is-unstructured}
 use Rattle.types.proofs.zones.unstructured.Goals as goal

@@ -1,7 +1,6 @@
 -- The tests of shape and value, one after the other; a missing child stays missing.
 use mathlib.Core.Path.{sym, ◌∙◌}
 use borrow.Author.Rules.{rules}
-use borrow.Author.Tests.{not-true, not-false}
 use Rattle.model.specs.Bytes.{text}
 use Rattle.model.specs.Image.{tree_of}
 use Rattle.model.specs.Containment.{or_missing}

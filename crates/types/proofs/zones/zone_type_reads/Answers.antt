@@ -1,7 +1,6 @@
 -- A missing ZoneType has no shape.
 use mathlib.Core.Path.{refl, sym, ◌∙◌}
 use native.Mathlib.Omega.{arith}
-use borrow.Author.Rules.{rules}
 use Rattle.model.specs.Bytes.{text}
 use Rattle.model.proofs.Joins.{and_done, and_on}
 use Rattle.types.proofs.Missing.{shape_past}

@@ -1,6 +1,5 @@
 -- The array's own dimensions are DataSize.
 use mathlib.Core.Path.{ap}
-use borrow.Author.Rules.{rules}
 use Rattle.validation.proofs.Laws.{array_dimensions, sizes-answered}
 use Rattle.validation.proofs.sizes.array_sizes.Goals as goal
 

@@ -1,7 +1,5 @@
 -- The verdict's refusal, 40, or the sizes.
 use mathlib.Core.Path.{refl, ap, sym, ◌∙◌}
-use borrow.Author.Rules.{rules}
-use borrow.Author.Tests.{not-true, not-false}
 use Rattle.model.specs.Answers.{stage_tells}
 use Rattle.model.proofs.Staging.{passes, rejects}
 use Rattle.model.proofs.Bounds.{accepted-image}

@@ -2,7 +2,6 @@
 use Prim.Native.Nat.{◌≤◌}
 use mathlib.Core.Path.{◌≡◌, sym, ap}
 use lib.ListN.{length, get_or-eq_default}
-use borrow.Author.Rules.{rules}
 use Rattle.model.specs.Image.{tree_of, node, dimensions}
 use Rattle.model.proofs.Bounds.{node-placed}
 use Rattle.model.proofs.Reading.{rank_is}

@@ -1,7 +1,6 @@
 -- The children are where the index has them; an accepted image has them conforming, so that their numbers are the entry's.
 use Rattle.zone_sections.proofs.Parts.{section-kind, own-has, first-has, last_has, found_inside, found-flat, entry_made}
 use native.Mathlib.Omega.{arith}
-use borrow.Author.Rules.{rules}
 use Rattle.model.specs.Elements.{element_type_of}
 use Rattle.zone_sections.proofs.entry.entry_of.Goals as goal
 use Rattle.zone_sections.proofs.entry.entry_of.Goals.{After-size_of}

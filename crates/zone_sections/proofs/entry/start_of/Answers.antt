@@ -2,7 +2,6 @@
 use mathlib.Core.Path.{◌∙◌}
 use Rattle.zone_sections.proofs.Parts.{present_start, absent_start}
 use native.Mathlib.Omega.{arith}
-use borrow.Author.Rules.{rules}
 use Rattle.zone_sections.proofs.entry.start_of.Goals as goal
 
 pub returns-then-j-node_count : goal.returns-then-j-node_count

@@ -2,7 +2,6 @@
 use mathlib.Core.Path.{sym}
 use Rattle.model.proofs.Absent.{absent_width}
 use native.Mathlib.Omega.{arith}
-use borrow.Author.Rules.{rules}
 use Rattle.zone_sections.proofs.entry.width_at.Goals as goal
 
 pub returns-else-j-node_count : goal.returns-else-j-node_count

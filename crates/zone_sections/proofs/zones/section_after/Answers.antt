@@ -1,12 +1,8 @@
 -- The nodes after i, one after the other: the first that is a section of the zone is the one.
-use Prim.Native.Nat.{◌+◌, ◌-◌}
 use mathlib.Core.Path.{refl, sym, ◌∙◌}
-use Rattle.model.specs.Lists.{seek_from}
-use Rattle.model.specs.Image.{tree_of, node_count}
 use Rattle.model.specs.Containment.{section_of}
-use Rattle.model.proofs.Loops.{SeekLeft, seek_more, seek_stop, seek_done}
+use Rattle.model.proofs.Loops.{seek_more, seek_stop, seek_done}
 use native.Mathlib.Omega.{arith}
-use borrow.Author.Rules.{rules}
 use Rattle.zone_sections.proofs.zones.section_after.Goals as goal
 
 pub loop-j-init : goal.loop-j-init

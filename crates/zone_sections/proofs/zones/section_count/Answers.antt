@@ -1,14 +1,9 @@
 -- Each node after the zone counts as one section or as none.
-use Prim.Native.Nat.{◌-◌}
 use mathlib.Core.Path.{sym, ◌∙◌}
-use lib.ListN.{length}
-use Rattle.model.specs.Image.{tree_of, node_count}
 use Rattle.model.specs.Containment.{section_of}
-use Rattle.model.specs.Sections.{section_nodes}
-use Rattle.zone_sections.proofs.Walk.{Counted, count-one, count_none, count_all}
+use Rattle.zone_sections.proofs.Walk.{count-one, count_none, count_all}
 use Rattle.zone_sections.proofs.After.{none_counted}
 use native.Mathlib.Omega.{arith}
-use borrow.Author.Rules.{rules}
 use Rattle.zone_sections.proofs.zones.section_count.Goals as goal
 use Rattle.zone_sections.proofs.zones.section_count.Goals.{then-section_of, else-section_of}
 
@@ -18,8 +13,8 @@ loop-j-init c = none_counted _ c.requires.0.sound _ (omega arith)
 pub loop-j-preserved : goal.loop-j-preserved
 loop-j-preserved c =
     elim c.if-section_of.branch [
-      then-section_of w ↦ rw w.count-is (count-one c.loop-j.invariant (omega arith) (sym c.section_of.ensures ∙ w.if-section_of.true))
-    | else-section_of w ↦ rw w.count-is (count_none c.loop-j.invariant (omega arith) (sym c.section_of.ensures ∙ w.if-section_of.false))
+      | then-section_of w ↦ rw w.count-is (count-one c.loop-j.invariant (omega arith) (sym c.section_of.ensures ∙ w.if-section_of.true))
+      | else-section_of w ↦ rw w.count-is (count_none c.loop-j.invariant (omega arith) (sym c.section_of.ensures ∙ w.if-section_of.false))
     ]
 
 pub returns : goal.returns

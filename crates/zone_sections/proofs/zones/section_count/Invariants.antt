@@ -1,15 +1,10 @@
 -- Each node after the zone counts as one section or as none.
 use Prim.Native.Nat.{◌-◌}
-use mathlib.Core.Path.{sym, ◌∙◌}
-use mathlib.Core.Logic.{⊎_elim}
 use lib.ListN.{length}
 use Rattle.model.specs.Image.{tree_of, node_count}
 use Rattle.model.specs.Containment.{section_of}
 use Rattle.model.specs.Sections.{section_nodes}
-use Rattle.zone_sections.proofs.Walk.{Counted, count-one, count_none, count_all}
-use Rattle.zone_sections.proofs.After.{none_counted}
-use native.Mathlib.Omega.{arith}
-use borrow.Author.Rules.{rules}
+use Rattle.zone_sections.proofs.Walk.{Counted}
 use Rattle.zone_sections.proofs.zones.section_count.Given as goal
 
 abbrev pub invariant-loop-j : goal.invariant-loop-j
