@@ -1,5 +1,7 @@
 // The C interface: each call on numbers and slices, with no `requires`. An export answers the rule, 0 where there is none; the other numbers of its answer
 // are 64-bit words in lent bytes, little-endian. Where these are too short it answers 46 and writes nothing at all.
+#![tactic(auto)]
+
 ghost use Rattle.std.specs.Prelude.{◌≡◌, ◌/◌, length};
 ghost use Rattle.model.specs.Validation.{validation};
 ghost use Rattle.model.specs.Sections.{sections_answer, section_numbers_memory};

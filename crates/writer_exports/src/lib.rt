@@ -1,5 +1,7 @@
 // The writer's calls as they are exported for C. A state is six numbers, which a start and an addition change where they succeed. Where these are fewer, or the lent
 // bytes too few for the answer's words, an export answers 46 and writes nothing at all.
+#![tactic(auto)]
+
 ghost use Rattle.std.specs.Prelude.{◌≡◌, ◌≤◌, length, take};
 ghost use Rattle.model.specs.Lists.{over};
 ghost use Rattle.model.specs.Bytes.{all_bytes};

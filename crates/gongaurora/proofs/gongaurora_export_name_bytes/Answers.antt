@@ -1,0 +1,20 @@
+-- Too few bytes for the answer: 46; else the call's rule, its words in front.
+use native.Mathlib.Omega.{arith}
+use mathlib.Core.Path.{ap, ◌∙◌}
+use borrow.Author.Rules.{rules}
+use lib.ListN.{length}
+use Rattle.model.specs.Exports.{count_words}
+use Rattle.gongaurora.proofs.Laws.{count_three, short, enough}
+use Rattle.gongaurora.proofs.gongaurora_export_name_bytes.Goals as goal
+
+pub returns-then-answer : goal.returns-then-answer
+returns-then-answer c = let w = short count_words 3 count_three _ _ c.if-answer.true in record { value = w.0; answer_after = w.1 }
+
+pub put_answer-requires : goal.put_answer-requires
+put_answer-requires c = (ap length c.count_answer.ensures.1 ∙ count_three _, omega arith)
+
+pub returns : goal.returns
+returns c =
+    let call = c.name_bytes.ensures in
+    let w = enough count_words 3 count_three _ _ c.if-answer.false call c.count_answer.ensures c.put_answer.ensures in
+    record { value = w.0; answer_after = w.1 }

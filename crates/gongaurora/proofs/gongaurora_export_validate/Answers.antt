@@ -1,0 +1,21 @@
+-- Too few bytes for the answer: 46; else the call's rule, its words in front.
+use native.Mathlib.Omega.{arith}
+use mathlib.Core.Path.{ap, ◌∙◌}
+use borrow.Author.Rules.{rules}
+use lib.ListN.{length}
+use Rattle.model.specs.Exports.{validation_words}
+use Rattle.gongaurora.proofs.Laws.{validation_six, short, enough}
+use Rattle.gongaurora.proofs.gongaurora_export_validate.Goals as goal
+
+pub returns-then-answer : goal.returns-then-answer
+returns-then-answer c = let w = short validation_words 6 validation_six _ _ c.if-answer.true in record { value = w.0; answer_after = w.1 }
+
+pub put_answer-requires : goal.put_answer-requires
+put_answer-requires c = (ap length c.validation_answer.ensures.1 ∙ validation_six _, omega arith)
+
+pub returns : goal.returns
+returns c =
+    let call = c.validate.ensures in
+    let room = c.if-answer.false in
+    let w = enough validation_words 6 validation_six _ _ room call c.validation_answer.ensures c.put_answer.ensures in
+    record { value = w.0; answer_after = w.1 }
