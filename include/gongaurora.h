@@ -52,9 +52,9 @@
 
 /* The version of this header and of the archive beside it. */
 #define GONGAURORA_VERSION_MAJOR 0
-#define GONGAURORA_VERSION_MINOR 10
+#define GONGAURORA_VERSION_MINOR 9
 #define GONGAURORA_VERSION_PATCH 0
-#define GONGAURORA_VERSION "0.10.0"
+#define GONGAURORA_VERSION "0.9.0"
 
 #ifdef __cplusplus
 extern "C" {
@@ -77,7 +77,7 @@ enum gongaurora_rule {
     GONGAURORA_RULE_LAYOUT = 6,           /* an offset or the data length not as laid down */
 
     /* the records, and an addition of the writer; the node itself */
-    GONGAURORA_RULE_PARENT = 7,           /* the parent is not a lower node; an addition: or that of a node above it is not */
+    GONGAURORA_RULE_PARENT = 7,           /* the parent is not a lower node */
     GONGAURORA_RULE_DEPTH = 8,            /* deeper than 32 */
     GONGAURORA_RULE_NAME = 9,             /* an unlawful name */
     GONGAURORA_RULE_LABEL = 10,           /* an unlawful label */
@@ -85,11 +85,9 @@ enum gongaurora_rule {
     GONGAURORA_RULE_LINK = 12,            /* a link */
     GONGAURORA_RULE_DATA_TYPE = 13,       /* an unknown data type */
     GONGAURORA_RULE_DIMENSION_COUNT = 14, /* MT with dimensions, another type with none or over 12 */
-    GONGAURORA_RULE_FIRST_DIMENSION = 15, /* dimensions not behind those of the node before, or past the end; an addition: more
-                                             dimension words than were stated */
+    GONGAURORA_RULE_FIRST_DIMENSION = 15, /* dimensions not behind those of the node before, or past the end */
     GONGAURORA_RULE_DATA_LENGTH = 16,     /* a dimension of 0, or a data length that does not fit the dimensions */
-    GONGAURORA_RULE_DATA_OFFSET = 17,     /* data not behind those of the node before, or past the end; an addition: more data
-                                             bytes than were stated */
+    GONGAURORA_RULE_DATA_OFFSET = 17,     /* data not behind those of the node before, or past the end */
     GONGAURORA_RULE_TRAILING = 18,        /* words or bytes left over; the node is the node count */
 
     /* the meaning; the node itself, for 23 the parent, from 27 on the section */
@@ -142,23 +140,18 @@ static inline const char *gongaurora_rule_text(uint64_t rule)
     case 4: return "The image has no node or over 4,096.";
     case 5: return "The image has over 49,152 dimension words.";
     case 6: return "An offset or the data length in the header is not as laid down.";
-    case 7: return "The node's parent is not a node with a lower number, or the root's is not 4294967295. In the writer look "
-                   "for a child that is added before its parent, and for records that were changed in the room.";
+    case 7: return "The node's parent is not a node with a lower number.";
     case 8: return "The node is deeper than 32 levels below the root.";
-    case 9: return "The node's name is not lawful: not 1 to 32 bytes from 32 to 126, or with a blank first, or with a slash.";
-    case 10: return "The node's label is not lawful: not 1 to 32 bytes from 32 to 126, or with a blank first.";
+    case 9: return "The node's name is not lawful.";
+    case 10: return "The node's label is not lawful.";
     case 11: return "An earlier sibling has the node's name.";
     case 12: return "The node is a link.";
-    case 13: return "The node's data type is unknown: none of MT, C1, B1, I4, U4, R4, I8, U8, R8, X4 and X8.";
-    case 14: return "The node's number of dimensions does not fit its data type: MT has none, others have 1 to 12.";
-    case 15: return "The node's dimensions do not follow those of the nodes before it, or lie past the end. In the writer: "
-                    "with them there are more dimension words than were stated at the start.";
-    case 16: return "A dimension of the node is 0, or its data length is not the product of its dimensions times the width of "
-                    "its data type; MT has no data.";
-    case 17: return "The node's data do not follow those of the nodes before it, or lie past the end. In the writer: with them "
-                    "there are more data bytes than were stated at the start.";
-    case 18: return "Dimension words or data bytes are left over that belong to no node. In the writer: more were stated at "
-                    "the start than were added.";
+    case 13: return "The node's data type is unknown.";
+    case 14: return "The node's number of dimensions does not fit its data type.";
+    case 15: return "The node's dimensions do not follow those of the nodes before it, or lie past the end.";
+    case 16: return "A dimension of the node is 0, or its data length does not fit its dimensions.";
+    case 17: return "The node's data do not follow those of the nodes before it, or lie past the end.";
+    case 18: return "Dimension words or data bytes are left over that belong to no node.";
     case 20: return "A node with this label may not stand under this parent.";
     case 21: return "The node does not have the name that its label asks for.";
     case 23: return "A required child of the node is missing or not as it has to be.";
@@ -191,8 +184,7 @@ static inline const char *gongaurora_rule_text(uint64_t rule)
     case 43: return "The section asks for bytes that cannot be read, or for a MIXED element whose type does not fit.";
     case 44: return "The lent memory is shorter than the zone's number of faces.";
     case 45: return "A face is used twice with the same sign.";
-    case 46: return "The lent memory is too short. The writer needs 32 + 84 bytes for each node + 8 for each dimension word + "
-                    "the data bytes, as stated at the start, in every call.";
+    case 46: return "The lent memory is too short.";
     case 47: return "Values of the node's data type are not handed out.";
     case 50: return "All nodes that were stated at the writer's start are added already. Look for a count of nodes that leaves "
                     "out the root, and for a node that is added twice.";
