@@ -50,7 +50,7 @@ def spec_args(text):
                 depth -= 1
             if depth == 0 and rest[j].isspace(): break
             j += 1
-        out.append(rest[i:j + 1] if rest[i] == '(' and depth == 0 and j < len(rest) and rest[j] == ')' and False else rest[i:j])
+        out.append(rest[i:j])
         i = j
     return out
 
@@ -409,7 +409,6 @@ def turn(path, d):
             arg = params[0] if params else 'c'
             bb = rest[mm.end():]
             if arg != 'c' and params: bb = re.sub(r"(?<![\w.'-])%s(?![\w'-])" % re.escape(arg), 'c', bb)
-            if not params: bb = ' λ c. ' + bb if False else bb
             if g is None:
                 say('lost: ' + m[1]); continue
             if re.fullmatch(r'\s*search rules', bb): continue
