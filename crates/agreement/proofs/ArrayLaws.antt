@@ -16,7 +16,6 @@ use Rattle.model.specs.ParentElements.{has_parents}
 use Rattle.model.proofs.Logic.{untrue, and_first, and_both, and-false, between}
 use Rattle.model.proofs.Walks.{some_by}
 use Rattle.ranges.specs.Tables.{Found}
-use Rattle.face_places.specs.Ranges.{Ranges}
 use Rattle.face_places.proofs.Accepted.{face-ranged, apart, found-is}
 use Rattle.face_places.proofs.Gathering.{At, face-found}
 use Rattle.rows.specs.declared.Row.{Row}

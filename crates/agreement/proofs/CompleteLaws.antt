@@ -1,15 +1,14 @@
 -- After all uses a section agrees where the parents of each of its faces are matched.
-use Prim.Native.Nat.{ℕ, zero, suc, ◌+◌, ◌*◌, ◌-◌, ◌/◌, ◌≤◌, ◌<◌}
+use Prim.Native.Nat.{ℕ, zero, suc, ◌+◌, ◌*◌, ◌-◌, ◌≤◌, ◌<◌}
 use mathlib.Core.Path.{◌≡◌, refl, sym, ap, ◌∙◌}
 use mathlib.Core.Bool.{Bool, true, false, cond, ◌&&◌}
 use mathlib.Core.List.{List, []}
 use native.Mathlib.Omega.{arith}
 use native.Mathlib.Decide.{dec_lt}
-use lib.Dec.{eqb, ltb}
-use lib.ListN.{length, get_or}
-use borrow.Author.Tests.{lt-ltb, le-ltb, ltb-true, eqb-true}
+use lib.Dec.{eqb}
+use borrow.Author.Tests.{lt-ltb, le-ltb, eqb-true}
 use Rattle.model.specs.Lists.{◌⊃◌, every_from, sum_before}
-use Rattle.model.specs.Image.{tree_of, node_count, dimensions, number}
+use Rattle.model.specs.Image.{tree_of, node_count, number}
 use Rattle.model.specs.Given.{Accepted}
 use Rattle.model.specs.Containment.{section_of, found, Elements}
 use Rattle.model.specs.Elements.{NGON, element_type_of, first_element, last_element, element_count, in_range, face_section, has_face, parents_of, second_parent}
@@ -20,9 +19,7 @@ use Rattle.model.proofs.Logic.{and_first, and_second, and_both, and-false, betwe
 use Rattle.model.proofs.Walks.{sum_part}
 use Rattle.rows.specs.declared.Row.{Row}
 use Rattle.index.specs.Index.{Index, kind}
-use Rattle.usage_bytes.specs.ParentMarks.{complete}
 use Rattle.face_places.proofs.Accepted.{section_by, section-kind, face-section-is, face-ranged, faces_are, place_is}
-use Rattle.face_parents.specs.Parents.{ParentRow}
 use Rattle.face_parents.proofs.Columns.{columns}
 use Rattle.agreement.specs.Arrays.{StoresColumns, ArrayRow}
 use Rattle.agreement.specs.Matching.{settles, complete_at, Matching}

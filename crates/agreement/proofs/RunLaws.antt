@@ -1,27 +1,27 @@
 -- The cells still to come, entry by entry and node by node; the cell of an entry by the start offsets of its section.
-use Prim.Native.Nat.{ℕ, zero, suc, ◌+◌, ◌*◌, ◌-◌, ◌≤◌, ◌<◌}
-use mathlib.Core.Path.{◌≡◌, refl, sym, ap, ◌∙◌}
+use Prim.Native.Nat.{ℕ, zero, suc, ◌+◌, ◌-◌, ◌≤◌, ◌<◌}
+use mathlib.Core.Path.{◌≡◌, refl, sym, ◌∙◌}
 use mathlib.Core.Bool.{Bool, true, false, cond, ◌&&◌}
 use mathlib.Core.List.{List, [], ◌∷◌, ◌++◌}
 use native.Mathlib.Omega.{arith}
 use native.Mathlib.Numerals.{add-one}
 use native.Mathlib.Decide.{dec_lt}
 use lib.Dec.{eqb, ltb}
-use lib.ListN.{length, get_or}
+use lib.ListN.{get_or}
 use borrow.Author.Tests.{lt-ltb, ltb-true}
 use Rattle.model.specs.Lists.{seek_from}
 use Rattle.model.specs.Bytes.{magnitude, text}
-use Rattle.model.specs.Image.{Tree, tree_of, node_count, dimensions}
+use Rattle.model.specs.Image.{Tree, tree_of, node_count}
 use Rattle.model.specs.Containment.{section_of, is_child, child, or_missing, DataArray}
-use Rattle.model.specs.Values.{offsets_of, connectivity_of}
-use Rattle.model.specs.Elements.{NFACE, NGON, element_type_of, element_count, start_offset, starts_at_zero, all_rise, ends_at_length, connectivity_length, element_rules, face_number, section_with_face, parents_of}
+use Rattle.model.specs.Values.{offsets_of}
+use Rattle.model.specs.Elements.{NFACE, NGON, element_type_of, element_count, start_offset, starts_at_zero, all_rise, ends_at_length, connectivity_length, element_rules, face_number, parents_of}
 use Rattle.model.specs.Corner.{number_at}
 use Rattle.model.specs.FaceUsage.{element_holding, uses_in}
 use Rattle.model.specs.ParentElements.{users_in, users_from}
 use Rattle.model.proofs.Logic.{when}
 use Rattle.model.proofs.Walks.{seek_before, seek_holds}
 use Rattle.model.proofs.LookedUp.{seek_within}
-use Rattle.model.proofs.InZone.{InZone, section-rule}
+use Rattle.model.proofs.InZone.{section-rule}
 use Rattle.model.proofs.StartOffsets.{offsets-first, offsets-next, offsets-last}
 use Rattle.rows.specs.declared.Row.{Row}
 use Rattle.rows.specs.Rows.{ends_after_at}
@@ -162,10 +162,7 @@ module _ {b index : List ℕ} {z s : ℕ} {row : Row} (r : References b index z 
   element-is {k} m = element_read own-cells g refl w k (cell_is cells_filled m.0 m.1)
 
 -- the run over the entries of section s has come to entry k
-pub record Going (b : List ℕ) (z s : ℕ) (offsets : Row) (arrays start : List ℕ) (n : ℕ) (out : List ℕ) (cell : Cell) (guesses : List ℕ) (last : ℕ) (array : Row)
-    (k : ℕ) : Type 0 where
-  pub to : k ≤ n
-  pub nine : length guesses ≡ 9
+pub record Going (b : List ℕ) (z s : ℕ) (offsets : Row) (arrays start out : List ℕ) (cell : Cell) (last : ℕ) (array : Row) (k : ℕ) : Type 0 where
   pub at : AtMost b offsets k cell
   pub known : last < 2048 → ArrayRow b (get_or arrays last 0) array
   pub done : Matched b z (users_on (tree_of b) z s) (users_after (tree_of b) z s k) start true out

@@ -1,19 +1,18 @@
 -- Parts of the uses matched one after the other, and one use.
-use Prim.Native.Nat.{ℕ, suc, ◌+◌, ◌*◌, ◌-◌, ◌/◌, ◌%◌, ◌≤◌, ◌<◌}
+use Prim.Native.Nat.{ℕ, ◌+◌, ◌*◌, ◌-◌, ◌/◌, ◌%◌, ◌≤◌, ◌<◌}
 use mathlib.Core.Path.{◌≡◌, refl, sym, ap, ◌∙◌}
-use mathlib.Core.Bool.{Bool, true, false, cond, ◌&&◌}
-use mathlib.Core.List.{List, [], ◌∷◌}
+use mathlib.Core.Bool.{Bool, true, false, cond}
+use mathlib.Core.List.{List, ◌∷◌}
 use native.Mathlib.Omega.{arith}
 use native.Mathlib.Decide.{ℕ_discrete, dec_lt}
 use lib.Dec.{eqb, leb, ltb}
-use lib.ListN.{length, get_or, set, drop, length-set}
-use lib.Seq.{get_or-set_same, get_or-set_other, drop-set-lt, set_out}
-use borrow.Author.Tests.{eq-eqb, ne_eqb, leb-true, ltb-true, ltb-false}
-use Rattle.model.specs.Lists.{every_from, sum_before}
+use lib.ListN.{length, get_or, set, length-set}
+use lib.Seq.{get_or-set_same, get_or-set_other, drop-set-lt}
+use borrow.Author.Tests.{eq-eqb, ne_eqb, leb-true}
+use Rattle.model.specs.Lists.{every_from}
 use Rattle.model.specs.Image.{tree_of, node_count}
 use Rattle.model.specs.Given.{Accepted}
-use Rattle.model.specs.Containment.{found}
-use Rattle.model.specs.Elements.{first_element, last_element, element_count, in_range, face_section, has_face, section_with_face, parents_of}
+use Rattle.model.specs.Elements.{first_element, element_count, in_range, face_section, has_face}
 use Rattle.model.specs.FaceUsage.{faces_in, face_count, face_place}
 use Rattle.model.specs.ParentElements.{FaceParents, stored_parents, face_agrees, has_parents, section_agrees, all_agree}
 use Rattle.model.proofs.Logic.{untrue, and_first, and_second, and_both, when}

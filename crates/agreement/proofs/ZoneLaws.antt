@@ -4,7 +4,7 @@ use mathlib.Core.Path.{◌≡◌, ap, ◌∙◌}
 use mathlib.Core.List.{List, []}
 use native.Mathlib.Omega.{arith}
 use native.Mathlib.Decide.{dec_lt}
-use lib.ListN.{length, get_or, drop}
+use lib.ListN.{get_or}
 use lib.Seq.{get_or-drop, ext_get_or}
 use Rattle.model.specs.Image.{tree_of, node_count}
 use Rattle.model.specs.Given.{Accepted}
@@ -12,7 +12,7 @@ use Rattle.model.specs.FaceUsage.{face_count, face_place}
 use Rattle.model.specs.ParentElements.{users, stored_parents, face_agrees}
 use Rattle.usage_bytes.specs.ParentMarks.{Unmarked}
 use Rattle.face_places.proofs.Accepted.{place_is}
-use Rattle.agreement.specs.Matching.{settles, Matching, Signs, users_on}
+use Rattle.agreement.specs.Matching.{Matching, Signs, users_on}
 use Rattle.agreement.proofs.RunLaws.{users-none}
 use Rattle.agreement.proofs.Settling.{agree-settles}
 use Rattle.agreement.proofs.Steps.{matching_same, has-face}

@@ -48,11 +48,8 @@ pub fn gather_arrays(
     requires in_tables { InTables image.now z firsts.now reach.now n }
     ensures { Arrays (tree_of image.now) z (node_count image.now) n firsts.now arrays.new }
 {
-    let nodes = labels::node_count(image);
-    let mut i: usize = 0;
-    while i < nodes {
+    for i in 0..labels::node_count(image) {
         put_array(image, index, z, i, firsts, reach, n, arrays);
-        i += 1;
     }
 }
 

@@ -20,15 +20,7 @@ fn faces_complete(image: &[u8], row: Row, n: usize, place: usize, out: &[u8]) ->
     requires { Numbers image.now row.at row.width row.n × ((row.n ≡ n * 2) × (place + n ≤ length out.now)) }
     ensures { result ≡ every_from (complete_at image.now row n place out.now) n 0 }
 {
-    let mut d: usize = 0;
-    while d < n {
-        let single = rows::number_at(image, row, n + d) == 0;
-        if !is_complete(out[place + d], single) {
-            return false;
-        }
-        d += 1;
-    }
-    true
+    (0..n).all(|d| is_complete(out[place + d], rows::number_at(image, row, n + d) == 0))
 }
 
 // The faces that node s brings to zone z.
@@ -74,16 +66,13 @@ pub fn zone_complete(image: &[u8], index: &[u16], z: usize, out: &[u8]) -> bool
     requires z_in_bounds { (face_count (tree_of image.now) z ≤ length out.now) × Matching image.now z (λ (f : ℕ). []) out.now }
     ensures { result ≡ all_agree (tree_of image.now) z }
 {
-    let nodes = labels::node_count(image);
     let mut place: usize = 0;
-    let mut i: usize = 0;
-    while i < nodes {
+    for i in 0..labels::node_count(image) {
         let n = faces_of(image, index, z, i);
         if !section_agrees(image, index, z, i, n, place, out) {
             return false;
         }
         place += n;
-        i += 1;
     }
     true
 }

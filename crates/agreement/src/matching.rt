@@ -89,8 +89,7 @@ fn match_entries(
         width: 4,
         n: 0,
     };
-    let mut k: usize = 0;
-    while k < row.n {
+    for k in 0..row.n {
         cell = cell_at(image, offsets, row.n, k, cell);
         let j = entry_of(
             image,
@@ -111,7 +110,6 @@ fn match_entries(
             return false;
         }
         last = j;
-        k += 1;
     }
     true
 }
@@ -134,15 +132,12 @@ pub fn match_nodes(
     ensures { Matched image.now faces.zone (users_on (tree_of image.now) faces.zone 0)
         (users_on (tree_of image.now) faces.zone (node_count image.now)) out.old result out.new }
 {
-    let nodes = labels::node_count(image);
-    let mut i: usize = 0;
-    while i < nodes {
+    for i in 0..labels::node_count(image) {
         if !match_entries(
             image, index, faces, i, firsts, reach, places, levels, arrays, out,
         ) {
             return false;
         }
-        i += 1;
     }
     true
 }

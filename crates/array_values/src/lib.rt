@@ -6,16 +6,15 @@ ghost use Rattle.std.specs.Float.{binary32, binary64};
 ghost use Rattle.std.specs.Float.Ieee.{nan_bits};
 ghost use Rattle.model.specs.Lists.{among};
 ghost use Rattle.model.specs.Bytes.{signed};
-ghost use Rattle.model.specs.Rules.{answer};
 ghost use Rattle.model.specs.Image.{tree_of, node_count, node, dimensions, data_type_of, width, number};
 ghost use Rattle.model.specs.Records.{product};
 ghost use Rattle.model.specs.ArrayValue.{single, double, value_at, value_answer};
-ghost use Rattle.model.specs.Answers.{value_tells, NanCases};
+ghost use Rattle.model.specs.Answers.{value_of, value_tells, NanCase, NanCases};
 ghost use Rattle.model.specs.Given.{Sound};
 ghost use Rattle.words.specs.Width.{is_width};
 ghost use Rattle.array_values.specs.Readable.{readable};
 
-use model::{ArrayValue, Rejection, Stage};
+use model::{ArrayValue, Rejection};
 use records::{Header, RecordNumbers, data_types};
 
 // Whether the bits of a single are a NaN's.
@@ -34,7 +33,7 @@ fn nan_double(bits: u64) -> bool
 
 // The single with these bits; the bits themselves where they are a NaN's.
 fn single_of(bits: u32) -> ArrayValue
-    ensures { (value_tells result ≡ answer (single bits)) × NanCases result }
+    ensures { (value_of result ≡ single bits) × NanCase result }
 {
     if nan_single(bits) {
         return ArrayValue::SingleNan(bits);
@@ -44,7 +43,7 @@ fn single_of(bits: u32) -> ArrayValue
 
 // The double with these bits; the bits themselves where they are a NaN's.
 fn double_of(bits: u64) -> ArrayValue
-    ensures { (value_tells result ≡ answer (double bits)) × NanCases result }
+    ensures { (value_of result ≡ double bits) × NanCase result }
 {
     if nan_double(bits) {
         return ArrayValue::DoubleNan(bits);
@@ -90,7 +89,7 @@ fn whole_at(image: &[u8], i: usize, k: usize, wide: usize) -> i64
 fn value_at(image: &[u8], i: usize, k: usize, data_type: u64) -> ArrayValue
     requires sound { (Sound image.now × (i < node_count image.now)) × ((among data_type readable ≡ true) × (data_type ≡ data_type_of (tree_of image.now) i)) }
     requires k_bound { k < product (dimensions (tree_of image.now) i) }
-    ensures { (value_tells result ≡ answer (value_at (tree_of image.now) i k)) × NanCases result }
+    ensures { (value_of result ≡ value_at (tree_of image.now) i k) × NanCase result }
 {
     if data_type == data_types::R4 {
         return single_of(records::number(image, i, k, 4) as u32);
@@ -103,42 +102,39 @@ fn value_at(image: &[u8], i: usize, k: usize, data_type: u64) -> ArrayValue
 }
 
 // Value k of node i, counted from 1: rule 47, then 42, then the value.
-fn node_value(image: &[u8], i: usize, k: u64) -> ArrayValue
+fn node_value(image: &[u8], i: usize, k: u64) -> Result<ArrayValue, Rejection>
     requires { Sound image.now × (i < node_count image.now) }
     ensures { (value_tells result ≡ value_answer image.now i k) × NanCases result }
 {
     let data_type = records::data_type_of(image, i);
     if !is_readable(data_type) {
-        return ArrayValue::Rejected(Rejection::at(47, 0));
+        return Err(Rejection::at(47, 0));
     }
     if k < 1 {
-        return ArrayValue::Rejected(Rejection::at(42, 0));
+        return Err(Rejection::at(42, 0));
     }
     if array_length(image, i, records::width_of(data_type)) < k {
-        return ArrayValue::Rejected(Rejection::at(42, 0));
+        return Err(Rejection::at(42, 0));
     }
-    value_at(image, i, (k - 1) as usize, data_type)
+    Ok(value_at(image, i, (k - 1) as usize, data_type))
 }
 
 // Value k of a node of an image in which rules 1 to 18 hold: rule 40, then 47 and 42, then the value.
-fn sound_value(image: &[u8], node: u64, k: u64) -> ArrayValue
+fn sound_value(image: &[u8], node: u64, k: u64) -> Result<ArrayValue, Rejection>
     requires { Sound image.now }
     ensures { (value_tells result ≡ value_answer image.now node k) × NanCases result }
 {
     let count = words::u32_at(image, Header::NODE_COUNT);
     if count <= node {
-        return ArrayValue::Rejected(Rejection::at(40, 0));
+        return Err(Rejection::at(40, 0));
     }
     node_value(image, node as usize, k)
 }
 
 // Value k of a node's array, counted from 1: rules 1 to 18, then 40, 47 and 42, then the value.
-pub fn array_value(image: &[u8], node: u64, k: u64) -> ArrayValue
+pub fn array_value(image: &[u8], node: u64, k: u64) -> Result<ArrayValue, Rejection>
     ensures { (value_tells result ≡ value_answer image.now node k) × NanCases result }
 {
-    let stage = table::table_stage(image);
-    let Stage::Pass = stage else {
-        return ArrayValue::Rejected(stage.rejection());
-    };
+    table::table_stage(image)?;
     sound_value(image, node, k)
 }

@@ -3,14 +3,14 @@
 
 ghost use Rattle.std.specs.Prelude.{◌≤◌, length, IfOk};
 
-use model::Validation;
 use std::io;
-use std::io::{Print, Read};
+use std::io::Read;
 
 // How many bytes the reader put in front of the buffer: all, or as many as there were up to the input's end.
 fn read_full<R: Read>(input: &mut R, buffer: &mut [u8]) -> io::Result<usize>
     ensures { IfOk result (λ n. n ≤ length buffer.new) }
 {
+    // No method of `std` fills a buffer as far as the input goes and says how far: `read_exact` tells no count.
     let mut done = 0;
     while done < buffer.len() {
         let n = input.read(&mut buffer[done..])?;
@@ -22,31 +22,18 @@ fn read_full<R: Read>(input: &mut R, buffer: &mut [u8]) -> io::Result<usize>
     Ok(done)
 }
 
-// The line that tells a validation.
-fn print<P: Print>(to: &P, v: Validation) -> io::Result<()> {
-    match v {
-        Validation::Accepted {
-            validated,
-            skipped,
-            zones,
-            sections,
-        } => println!(to; "accept {validated} {skipped} {zones} {sections}"),
-        Validation::Rejected(r) => println!(to; "refuse {} {}", r.rule, r.node),
-    }
-}
-
-// Whether the input has another byte.
-fn goes_on<R: Read>(input: &mut R) -> io::Result<bool> {
-    let mut next = [0u8; 1];
-    Ok(read_full(input, &mut next)? == 1)
-}
-
 fn main(rt: HostRuntime) -> io::Result<()> {
     let mut buffer = [0u8; 65536];
     let mut input = rt.stdin();
     let n = read_full(&mut input, &mut buffer)?;
-    if n == 65536 && goes_on(&mut input)? {
+    if n == buffer.len() && input.read(&mut [0])? != 0 {
         return println!(rt; "too long");
     }
-    print(&rt, validation::validate(&buffer[..n]))
+    match validation::validate(&buffer[..n]) {
+        Ok(v) => println!(rt;
+            "accept {} {} {} {}",
+            v.validated, v.skipped, v.zones, v.sections
+        ),
+        Err(r) => println!(rt; "refuse {} {}", r.rule, r.node),
+    }
 }

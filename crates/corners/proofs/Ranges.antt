@@ -1,11 +1,13 @@
 -- An element's range: by a product with no overflow, by its start offsets, and that both make what the model reads.
-use Prim.Native.Nat.{ℕ, suc, ◌+◌, ◌*◌, ◌-◌, ◌/◌, ◌^◌, ◌≤◌, ◌<◌}
+use Prim.Native.Nat.{ℕ, suc, ◌+◌, ◌*◌, ◌-◌, ◌≤◌, ◌<◌}
 use mathlib.Core.Path.{◌≡◌, refl, sym, ◌∙◌}
-use mathlib.Core.Bool.{Bool, true, false, cond, not, ◌&&◌, ◌||◌, or-true}
+use mathlib.Core.Bool.{Bool, true, false, cond, not, ◌&&◌, ◌||◌, and-false, or-true}
 use mathlib.Core.List.{List}
 use native.Mathlib.Omega.{arith}
-use native.Mathlib.Nat.{add-zero, mul-le-mul_left, mul-le-mul_right, suc-mul, add-mul, mul_assoc}
+use native.Mathlib.Nat.{add-zero, suc-mul}
 use lib.Dec.{eqb, leb, ltb}
+use Rattle.std.specs.Prelude.{Option, Some, None}
+use Rattle.std.proofs.lemmas.Option.{IfSome_then}
 use borrow.Author.Tests.{eqb-true, eq-eqb, ltb-true, lt-ltb, le-ltb, le-leb, lt-leb}
 use Rattle.model.specs.declared.Section.{Section}
 use Rattle.model.specs.Lists.{◌⊃◌, row}
@@ -17,72 +19,50 @@ use Rattle.corners.specs.Spans.{provided, held, fixed_span, range_between, offse
 use Rattle.model.proofs.Logic.{and_first, and_second, or_cases}
 use Rattle.rows.proofs.Rows.{same_test}
 
--- the product of k and at most 27 nodes, from the product of k / 32
-module _ (k m : ℕ) (few : m ≤ 27) where
-  pub product_low : 32 * (k / 32 * m) ≤ k * m
-  product_low =
-      let l : 32 * (k / 32) ≤ k = omega arith in
-      let h = mul-le-mul_right {m = 32 * (k / 32)} {n = k} m l in
-      let e = mul_assoc 32 (k / 32) m in
-      omega arith
-
-  pub product_high : k * m ≤ 32 * (k / 32 * m) + 837
-  product_high =
-      let l : k ≤ 32 * (k / 32) + 31 = omega arith in
-      let h = mul-le-mul_right {m = k} {n = 32 * (k / 32) + 31} m l in
-      let e = mul_assoc 32 (k / 32) m in
-      let f = add-mul (32 * (k / 32)) 31 m in
-      omega arith
-
-  pub product_fits : k < 2 ^ 64 → k / 32 * m < 2 ^ 64
-  product_fits s =
-      let h = mul-le-mul_left {m = m} {n = 27} (k / 32) few in
-      omega arith
-
 module _ (k m n : ℕ) where
-  pub fixed_none : m ≡ 0 → Span.Unreadable ≡ fixed_span k m n
+  pub fixed_none : m ≡ 0 → None ≡ fixed_span k m n
   unfolding fixed_span
   fixed_none e = let z : suc k * m ≤ k * m = omega (arith, suc-mul k m) in simp (le-ltb _ _ z)
 
-  pub fixed_beyond : 0 < m → n < k * m + m → Span.Unreadable ≡ fixed_span k m n
+  pub fixed_beyond : n < k * m + m → None ≡ fixed_span k m n
   unfolding fixed_span
-  fixed_beyond p h = rw suc-mul (let l : k * m < k * m + m = omega arith in simp (lt-ltb _ _ l, lt-leb _ _ h))
+  fixed_beyond h = rw (suc-mul, lt-leb _ _ h, and-false)
 
-  pub fixed_range : 0 < m → k * m + m ≤ n → Span.Range (k * m) (k * m + m) ≡ fixed_span k m n
+  pub fixed_range : 0 < m → k * m + m ≤ n → Some (record { start = k * m; end = k * m + m }) ≡ fixed_span k m n
   unfolding fixed_span
   fixed_range p h = rw suc-mul (let l : k * m < k * m + m = omega arith in simp (lt-ltb _ _ l, le-leb _ _ h))
 
 -- start offsets by their bits
 module _ (w start end n : ℕ) where
-  pub end-negative : half w ≤ end → Span.Unreadable ≡ range_between w start end n
+  pub end-negative : half w ≤ end → None ≡ range_between w start end n
   unfolding range_between negative below
   end-negative h = simp (le-leb _ _ h) (by_test (leb (half w) start))
     where
-      by_test : (t : Bool) → Span.Unreadable ≡ provided ((not t && cond t (ltb start end) false) && leb end n) (Span.Range start end)
+      by_test : (t : Bool) → None ≡ provided ((not t && cond t (ltb start end) false) && leb end n) (Some (record { start = start; end = end }))
       by_test true = refl
       by_test false = refl
 
-  pub not_rising : end ≤ start → Span.Unreadable ≡ range_between w start end n
+  pub not_rising : end ≤ start → None ≡ range_between w start end n
   unfolding range_between negative below
   not_rising h = simp (le-ltb _ _ h) (by_test (leb (half w) start) (leb (half w) end))
     where
-      by_test : (t u : Bool) → Span.Unreadable ≡ provided ((not t && cond t (not u || false) (not u && false)) && leb end n) (Span.Range start end)
+      by_test : (t u : Bool) → None ≡ provided ((not t && cond t (not u || false) (not u && false)) && leb end n) (Some (record { start = start; end = end }))
       by_test true u = refl
       by_test false true = refl
       by_test false false = refl
 
-  pub rising : start < end → end < half w → range_between w start end n ≡ provided (leb end n) (Span.Range start end)
+  pub rising : start < end → end < half w → range_between w start end n ≡ provided (leb end n) (Some (record { start = start; end = end }))
   unfolding range_between negative below
   rising h l = let m : start < half w = omega arith in simp (lt-leb _ _ m, lt-leb _ _ l, lt-ltb _ _ h)
 
 -- an element of a MIXED section by whether its own type fits
 module _ (b : List ℕ) {y : ℕ} (at w start end : ℕ) {own : ℕ} {fits : Bool} (m : y ≡ MIXED) (p : own ≡ number_at b at w start)
     (q : fits ≡ fits_length own (end - start)) where
-  pub type_apart : fits ≡ false → Span.Unreadable ≡ mixed_span b y at w (Span.Range start end)
+  pub type_apart : fits ≡ false → None ≡ mixed_span b y at w (Some (record { start = start; end = end }))
   unfolding mixed_span behind_type
   type_apart f = rw (eq-eqb y MIXED m, ← p, ← q, f)
 
-  pub type_in_front : fits ≡ true → Span.Range (start + 1) end ≡ mixed_span b y at w (Span.Range start end)
+  pub type_in_front : fits ≡ true → Some (record { start = start + 1; end = end }) ≡ mixed_span b y at w (Some (record { start = start; end = end }))
   unfolding mixed_span behind_type
   type_in_front f = rw (eq-eqb y MIXED m, ← p, ← q, f)
 
@@ -95,7 +75,7 @@ fits_two y n e =
     omega arith
 
 -- rule 43's tests in the reader's order, for a type with start offsets and for one with nodes per element
-by_offsets : (g : Span → Span) → g Span.Unreadable ≡ Span.Unreadable → (t i j r l f : Bool) (s u : Span) → g s ≡ provided f u
+by_offsets : (g : Option Span → Option Span) → g None ≡ None → (t i j r l f : Bool) (s u : Option Span) → g s ≡ provided f u
     → provided ((t || true) && i && j && r && l && f) u ≡ provided i (g (provided j (provided (r && l) s)))
 by_offsets g n t false j r l f s u q = rw or-true
 by_offsets g n t true false r l f s u q = rw (or-true, n)
@@ -105,10 +85,10 @@ by_offsets g n t true true r l f s u q = rw or-true (by_test (r && l))
     by_test true = sym q
     by_test false = sym n
 
-by_nodes : (t u i l : Bool) (s : Span) → t ≡ u → provided ((t || false) && i && true && u && l && true) s ≡ provided i (provided (u && l) s)
+by_nodes : (t u i l : Bool) (s : Option Span) → t ≡ u → provided ((t || false) && i && true && u && l && true) s ≡ provided i (provided (u && l) s)
 by_nodes t false i l s e = rw e (by_test i)
   where
-    by_test : (i : Bool) → Span.Unreadable ≡ provided i Span.Unreadable
+    by_test : (i : Bool) → None ≡ provided i None
     by_test false = refl
     by_test true = refl
 by_nodes t true false l s e = rw e
@@ -150,7 +130,7 @@ not-mixed y h = by_tests (eqb y MIXED) _ _ h
     by_tests false n f q = refl
 
 -- an element by its start offsets; in a MIXED section its corners
-by_offsets_lem : List ℕ → Section → ℕ → Span
+by_offsets_lem : List ℕ → Section → ℕ → Option Span
 by_offsets_lem b e k =
     let s = offset_span b e.offsets_at e.offsets_width k e.connectivity_length in
     cond (eqb e.element_type MIXED) (behind_type b e.connectivity_at e.connectivity_width s) s
@@ -164,7 +144,7 @@ module _ (b : List ℕ) (e : Section) (k : ℕ) where
       by_type true m =
           rw (h, m)
           (by_offsets (behind_type b e.connectivity_at e.connectivity_width) refl (ltb 0 (nodes_per e.element_type)) _ _ _ _ _
-          (Span.Range _ _) _ refl)
+          (Some _) _ refl)
       by_type false m = rw (h, m, add-zero) (by_offsets (λ s. s) refl (ltb 0 (nodes_per e.element_type)) _ _ _ _ true _ _ refl)
 
   span_is : span_of b e k
@@ -180,27 +160,26 @@ module _ (b : List ℕ) (e : Section) (k : ℕ) where
           rw (q, not-mixed _ q, add-zero) (by_nodes (ltb 0 (nodes_per e.element_type)) _ _ _ _ (has-node k (nodes_per e.element_type)))
 
   -- what the reader finds
-  pub span_outside : held b e ≡ false → Span.Unreadable ≡ span_of b e k
+  pub span_outside : held b e ≡ false → None ≡ span_of b e k
   span_outside q = rw (span_is, q)
 
-  abbrev Found : Span → Type 0
+  abbrev Found : Option Span → Type 0
   Found s = (s ≡ span_of b e k) × SpanInside b e s
 
-  inside_too : (s : Span) → held b e ≡ true → SpanIn e.connectivity_length s → SpanInside b e s
-  inside_too (Span.Range start end) h l = (l.0, l.1, h)
-  inside_too Span.Unreadable h l = tt
+  inside_too : (s : Option Span) → held b e ≡ true → SpanIn e.connectivity_length s → SpanInside b e s
+  inside_too s h l = IfSome_then s l (λ x p. (p.0, p.1, h))
 
   abbrev Any : Bool
   Any = eqb e.element_type NGON || eqb e.element_type NFACE
 
-  module _ {s : Span} (i : held b e ≡ true) where
+  module _ {s : Option Span} (i : held b e ≡ true) where
     pub any_found : Any ≡ true → (s ≡ offset_span b e.offsets_at e.offsets_width k e.connectivity_length) × SpanIn e.connectivity_length s
         → Found s
     unfolding by_offsets_lem
     any_found a f = let t = any_offsets e.element_type a in (rw (span_is, i, t.0, t.1) f.0, inside_too s i f.1)
 
     module _ (a : Any ≡ false) {m : ℕ} (n : m ≡ nodes_per e.element_type) where
-      pub mixed-found : {u : Span} → m < 1 → u ≡ offset_span b e.offsets_at e.offsets_width k e.connectivity_length
+      pub mixed-found : {u : Option Span} → m < 1 → u ≡ offset_span b e.offsets_at e.offsets_width k e.connectivity_length
           → (s ≡ mixed_span b e.element_type e.connectivity_at e.connectivity_width u) × SpanIn e.connectivity_length s → Found s
       unfolding by_offsets_lem mixed_span
       mixed-found h o f = (by_type (eqb e.element_type MIXED) refl, inside_too s i f.1)

@@ -1,17 +1,9 @@
 // Section entries as structs.
-ghost use Rattle.std.specs.Prelude.{◌≤◌};
-
 use super::print;
-use model::{Count, Section};
+use super::print::Entry;
+use model::Section;
 use std::io;
 use std::io::Print;
-
-// What the call answers, and the list afterwards.
-#[derive(Clone, Copy)]
-struct Listed {
-    answer: Count,
-    list: [Section; 16],
-}
 
 // An entry whose numbers are all 170.
 fn blank() -> Section {
@@ -30,33 +22,17 @@ fn blank() -> Section {
     }
 }
 
-// The section entries with the first `room` structs of a list lent.
-fn list_on(mut list: [Section; 16], image: &[u8], zone: u64, room: usize) -> Listed
-    requires { room ≤ 16 }
-{
-    let answer = sections::list_sections(&mut list[..room], image, zone);
-    Listed { answer, list }
-}
-
-// The first n structs of a list, after `room`.
-fn structs<P: Print>(to: &P, list: &[Section; 16], n: usize) -> io::Result<()>
-    requires { n ≤ 16 }
-{
-    print!(to; " room")?;
-    for s in &list[..n] {
-        print::section(to, *s)?;
-    }
-    Ok(())
-}
-
 // The section entries with room for so many structs, each number 170 before; the list afterwards.
-pub fn list_into<P: Print>(to: &P, image: &[u8], zone: u64, room: u64) -> io::Result<()> {
+pub fn list_into<P: Print>(to: &P, image: &[u8], zone: u64, room: usize) -> io::Result<()> {
     if 16 < room {
         return Ok(());
     }
-    let filling = blank();
-    let before = [filling; 16];
-    let listed = list_on(before, image, zone, room as usize);
-    print::count(to, listed.answer, "entries ")?;
-    structs(to, &listed.list, room as usize)
+    let mut list = [blank(); 16];
+    let answer = sections::list_sections(&mut list[..room], image, zone);
+    print::answer(to, "entries", answer)?;
+    print!(to; " room")?;
+    for s in &list[..room] {
+        print!(to; " {}", Entry(*s))?;
+    }
+    Ok(())
 }

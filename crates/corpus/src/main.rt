@@ -6,277 +6,140 @@
 mod lists;
 mod print;
 
-ghost use Rattle.std.specs.Prelude.{◌≤◌, length, IfOk};
+ghost use Rattle.std.specs.Prelude.{◌≤◌};
 
 use entries::ENTRY_LENGTH;
-use model::Section;
-use std::io;
-use std::io::{Print, Read};
+use model::{Rejection, Section};
+use print::{Counts, Parents, Sizes};
+use std::fmt::Display;
+use std::io::{ErrorKind, Print, Read};
+use std::{array, io};
 
-// How many bytes the reader put in front of the buffer: all, or as many as there were up to the input's end.
-fn read_full<R: Read>(input: &mut R, buffer: &mut [u8]) -> io::Result<usize>
-    ensures { IfOk result (λ n. n ≤ length buffer.new) }
-{
-    let mut done = 0;
-    while done < buffer.len() {
-        let n = input.read(&mut buffer[done..])?;
-        if n == 0 {
-            break;
-        }
-        done += n;
+// Fills the buffer from the input; says whether there was as much.
+fn fills<R: Read>(input: &mut R, buffer: &mut [u8]) -> io::Result<bool> {
+    match input.read_exact(buffer) {
+        Ok(()) => Ok(true),
+        Err(e) if e.kind() == ErrorKind::UnexpectedEof => Ok(false),
+        Err(e) => Err(e),
     }
-    Ok(done)
 }
 
-// Word k of a call: its number, then its arguments.
-fn word(call: &[u8; 112], k: usize) -> u64 {
-    if k < 14 {
-        return words::u64_at(call, 8 * k);
-    }
-    0
-}
-
-// The path call with the first n bytes of a buffer lent.
-fn path_on<P: Print>(to: &P, image: &[u8], node: u64, out: &mut [u8], n: usize) -> io::Result<()> {
-    if out.len() < n {
-        return Ok(());
-    }
-    print::count(to, paths::path(image, node, &mut out[..n]), "length ")
-}
-
-// The first n bytes of a buffer.
-fn memory<P: Print>(to: &P, out: &[u8], n: usize) -> io::Result<()> {
-    if out.len() < n {
-        return Ok(());
-    }
-    print::bytes(to, &out[..n])
-}
-
-// The path call with room for so many bytes, each 170 before; the memory afterwards.
-fn path_into<P: Print>(to: &P, image: &[u8], node: u64, room: u64) -> io::Result<()> {
-    let mut out = [170u8; 1024];
-    path_on(to, image, node, &mut out, room as usize)?;
-    memory(to, &out, room as usize)
-}
-
-// Face usage with the first n bytes of a buffer lent.
-fn usage_on<P: Print>(to: &P, image: &[u8], zone: u64, out: &mut [u8], n: usize) -> io::Result<()> {
-    if out.len() < n {
-        return Ok(());
-    }
-    print::usage(to, faces::face_usage(image, zone, &mut out[..n]))
-}
-
-// Face usage with room for so many bytes, each 170 before; the memory afterwards.
-fn usage_into<P: Print>(to: &P, image: &[u8], zone: u64, room: u64) -> io::Result<()> {
-    let mut out = [170u8; 1024];
-    usage_on(to, image, zone, &mut out, room as usize)?;
-    memory(to, &out, room as usize)
-}
-
-// Whether parents agree, with the first n bytes of a buffer lent.
-fn agreement_on<P: Print>(
-    to: &P,
-    image: &[u8],
-    zone: u64,
-    out: &mut [u8],
-    n: usize,
-) -> io::Result<()> {
-    if out.len() < n {
-        return Ok(());
-    }
-    print::agreement(to, faces::parents_agree(image, zone, &mut out[..n]))
-}
-
-// Whether parents agree, with room for so many bytes, each 170 before; the memory afterwards.
-fn agreement_into<P: Print>(to: &P, image: &[u8], zone: u64, room: u64) -> io::Result<()> {
-    let mut out = [170u8; 1024];
-    agreement_on(to, image, zone, &mut out, room as usize)?;
-    memory(to, &out, room as usize)
-}
-
-// The section entries with the first n numbers of a buffer lent.
-fn entries_on<P: Print>(
-    to: &P,
-    image: &[u8],
-    zone: u64,
-    out: &mut [u64],
-    n: usize,
-) -> io::Result<()> {
-    if out.len() < n {
-        return Ok(());
-    }
-    print::count(
-        to,
-        sections::section_entries(image, zone, &mut out[..n]),
-        "entries ",
-    )
-}
-
-// The first n numbers of a buffer, after a word.
-fn numbers<P: Print>(to: &P, word: &str, out: &[u64], n: usize) -> io::Result<()> {
-    if out.len() < n {
-        return Ok(());
-    }
-    print::numbers(to, word, &out[..n])
-}
-
-// The section entries with room for so many, each number 170 before; the memory afterwards.
-fn entries_into<P: Print>(to: &P, image: &[u8], zone: u64, room: u64) -> io::Result<()> {
-    let mut out = [170u64; 176];
-    if 16 < room {
-        return Ok(());
-    }
-    let n = ENTRY_LENGTH * room as usize;
-    entries_on(to, image, zone, &mut out, n)?;
-    numbers(to, " room", &out, n)
+// The words of a call: its number, then its arguments.
+fn words_of(call: &[u8; 112]) -> [u64; 14] {
+    array::from_fn(|k| words::u64_at(call, 8 * k))
 }
 
 // The entry that a call names.
-fn entry(call: &[u8; 112]) -> Section {
+fn entry(call: &[u64; 14]) -> Section {
     Section {
-        node: word(call, 1),
-        element_type: word(call, 2),
-        first: word(call, 3),
-        last: word(call, 4),
-        offsets_at: word(call, 5),
-        offsets_width: word(call, 6),
-        connectivity_at: word(call, 7),
-        connectivity_width: word(call, 8),
-        connectivity_length: word(call, 9),
-        parents_at: word(call, 10),
-        parents_width: word(call, 11),
+        node: call[1],
+        element_type: call[2],
+        first: call[3],
+        last: call[4],
+        offsets_at: call[5],
+        offsets_width: call[6],
+        connectivity_at: call[7],
+        connectivity_width: call[8],
+        connectivity_length: call[9],
+        parents_at: call[10],
+        parents_width: call[11],
     }
 }
 
-// The first n signed numbers of a buffer.
-fn signed_numbers<P: Print>(to: &P, out: &[i64], n: usize) -> io::Result<()> {
-    if out.len() < n {
+// A call with the first n of so many places lent: its answer, and the places afterwards. Nothing where there are fewer.
+fn filled<
+    P: Print,
+    T: Copy + Display,
+    const N: usize,
+    A: Display + Drop,
+    F: FnOnce(&mut [T]) -> Result<A, Rejection> + Drop,
+>(to: &P, word: &str, mut places: [T; N], n: usize, call: F) -> io::Result<()>
+    requires { F.IsAlwaysCallable call }
+{
+    if N < n {
         return Ok(());
     }
-    print::signed_numbers(to, &out[..n])
+    print::answer(to, word, call(&mut places[..n]))?;
+    print::list(to, "room", &places[..n])
 }
 
-// The reads that a call names, three words each.
-fn reads_of(call: &[u8; 112]) -> [u64; 9] {
-    let mut reads = [0u64; 9];
-    for k in 0..9 {
-        reads[k] = word(call, k + 3);
-    }
-    reads
-}
-
-// The reads of a list with the first n places of two buffers lent.
-fn reads_on<P: Print>(
-    to: &P,
-    image: &[u8],
-    entries: &[u64],
-    reads: &[u64],
-    out: &mut [i64],
-    rules: &mut [u64],
-    n: usize,
-) -> io::Result<()> {
-    if out.len() < n {
-        return Ok(());
-    }
-    if rules.len() < n {
-        return Ok(());
-    }
-    print::count(
-        to,
-        reads::corner_reads(image, entries, reads, &mut out[..n], &mut rules[..n]),
-        "reads ",
-    )
-}
-
-// The reads of a list with entries, and with room for so many answers, each number 170 before; the memory afterwards.
-fn reads_with<P: Print>(
-    to: &P,
-    image: &[u8],
-    entries: &[u64],
-    reads: &[u64],
-    n: usize,
-) -> io::Result<()> {
-    let mut out = [170i64; 8];
-    let mut rules = [170u64; 8];
-    reads_on(to, image, entries, reads, &mut out, &mut rules, n)?;
-    signed_numbers(to, &out, n)?;
-    numbers(to, " rules", &rules, n)
-}
-
-// The reads of a list with the entries of a zone, in a buffer whose numbers were 170 before.
+// The reads of a list with the entries of a zone, in a buffer whose numbers were 170 before, and with room for so many answers, each number 170 before; the
+// memory afterwards.
 fn reads_into<P: Print>(
     to: &P,
     image: &[u8],
     zone: u64,
-    room: u64,
-    call: &[u8; 112],
+    room: usize,
+    reads: &[u64],
 ) -> io::Result<()> {
-    let mut entries = [170u64; 176];
-    let reads = reads_of(call);
-    sections::section_entries(image, zone, &mut entries);
-    reads_with(to, image, &entries, &reads, room as usize)
-}
-
-// All corners of an element with the first n numbers of a buffer lent.
-fn element_on<P: Print>(
-    to: &P,
-    image: &[u8],
-    section: Section,
-    element: u64,
-    out: &mut [i64],
-    n: usize,
-) -> io::Result<()> {
-    if out.len() < n {
+    if 8 < room {
         return Ok(());
     }
-    print::count(
-        to,
-        corners::element_corners(image, section, element, &mut out[..n]),
-        "corners ",
-    )
-}
-
-// All corners of an element with room for so many, each number 170 before; the memory afterwards.
-fn element_into<P: Print>(
-    to: &P,
-    image: &[u8],
-    section: Section,
-    element: u64,
-    room: u64,
-) -> io::Result<()> {
-    let mut out = [170i64; 64];
-    element_on(to, image, section, element, &mut out, room as usize)?;
-    signed_numbers(to, &out, room as usize)
+    let mut entries = [170u64; 176];
+    let _ = sections::section_entries(image, zone, &mut entries);
+    let mut out = [170i64; 8];
+    let mut rules = [170u64; 8];
+    let answer = reads::corner_reads(image, &entries, reads, &mut out[..room], &mut rules[..room]);
+    print::answer(to, "reads", answer)?;
+    print::list(to, "room", &out[..room])?;
+    print::list(to, "rules", &rules[..room])
 }
 
 // Answers a call on an image.
-fn answer<P: Print>(to: &P, image: &[u8], call: &[u8; 112]) -> io::Result<()> {
-    let node = word(call, 1);
-    let number = word(call, 2);
-    match word(call, 0) {
-        1 => print::validation(to, validation::validate(image)),
-        2 => print::table(to, table::check_table(image)),
-        3 => path_into(to, image, node, number),
-        4 => print::sizes(to, validation::data_size(image, node)),
-        5 => entries_into(to, image, node, number),
-        6 => print::corner(
+fn answer<P: Print>(to: &P, image: &[u8], call: &[u64; 14]) -> io::Result<()> {
+    let node = call[1];
+    let number = call[2];
+    let room = number as usize;
+    match call[0] {
+        1 => print::answer(to, "accept", validation::validate(image).map(Counts)),
+        2 => print::answer(to, "accept", table::check_table(image).map(|t| t.nodes)),
+        3 => filled(
             to,
-            corners::corner(image, entry(call), word(call, 12), word(call, 13)),
+            "length",
+            [170u8; 1024],
+            room,
+            |out| paths::path(image, node, out),
+        ),
+        4 => print::answer(to, "sizes", validation::data_size(image, node).map(Sizes)),
+        5 => filled(
+            to,
+            "entries",
+            [170u64; 16 * ENTRY_LENGTH],
+            ENTRY_LENGTH.saturating_mul(room),
+            |out| sections::section_entries(image, node, out),
+        ),
+        6 => print::answer(
+            to,
+            "corner",
+            corners::corner(image, entry(call), call[12], call[13]),
         ),
         7 => print::value(to, array_values::array_value(image, node, number)),
-        8 => usage_into(to, image, node, number),
-        9 => lists::list_into(to, image, node, number),
-        10 => reads_into(to, image, node, number, call),
-        11 => element_into(to, image, entry(call), word(call, 12), word(call, 13)),
-        12 => print::count(to, table::name_bytes(image), "bytes "),
-        13 => print::count(
+        8 => filled(
             to,
-            corners::element_type(image, entry(call), word(call, 12)),
-            "type ",
+            "usage",
+            [170u8; 1024],
+            room,
+            |out| faces::face_usage(image, node, out),
         ),
-        14 => print::parents(to, faces::parents(image, node, number)),
-        15 => agreement_into(to, image, node, number),
+        9 => lists::list_into(to, image, node, room),
+        10 => reads_into(to, image, node, room, &call[3..12]),
+        11 => filled(to, "corners", [170i64; 64], call[13] as usize, |out| {
+            corners::element_corners(image, entry(call), call[12], out)
+        }),
+        12 => print::answer(to, "bytes", table::name_bytes(image)),
+        13 => print::answer(
+            to,
+            "type",
+            corners::element_type(image, entry(call), call[12]),
+        ),
+        14 => print::answer(
+            to,
+            "parents",
+            faces::parents(image, node, number).map(Parents),
+        ),
+        15 => filled(to, "agrees", [170u8; 1024], room, |out| {
+            faces::parents_agree(image, node, out).map(u64::from)
+        }),
         _ => Ok(()),
     }
 }
@@ -284,10 +147,10 @@ fn answer<P: Print>(to: &P, image: &[u8], call: &[u8; 112]) -> io::Result<()> {
 // Answers one call on an image, and says whether there was one.
 fn one_call<R: Read, P: Print>(input: &mut R, to: &P, image: &[u8]) -> io::Result<bool> {
     let mut call = [0u8; 112];
-    if read_full(input, &mut call)? < 112 {
+    if !fills(input, &mut call)? {
         return Ok(false);
     }
-    answer(to, image, &call)?;
+    answer(to, image, &words_of(&call))?;
     println!(to)?;
     Ok(true)
 }
@@ -307,41 +170,19 @@ fn calls_on<R: Read, P: Print>(
     Ok(true)
 }
 
-// Reads n bytes into the buffer; says whether all were there.
-fn read_image<R: Read>(input: &mut R, buffer: &mut [u8], n: usize) -> io::Result<bool> {
-    if buffer.len() < n {
-        return Ok(false);
-    }
-    Ok(read_full(input, &mut buffer[..n])? == n)
-}
-
-// Answers the calls on the image of n bytes in the buffer; says whether all were there.
-fn image_in<R: Read, P: Print>(
-    input: &mut R,
-    to: &P,
-    buffer: &[u8],
-    n: usize,
-    calls: u64,
-) -> io::Result<bool> {
-    if buffer.len() < n {
-        return Ok(false);
-    }
-    calls_on(input, to, &buffer[..n], calls)
-}
-
 // Reads an image and answers the calls on it; says whether there was one.
 fn one_image<R: Read, P: Print>(input: &mut R, to: &P) -> io::Result<bool> {
-    let mut head = [0u8; 112];
-    if read_full(input, &mut head[..16])? < 16 {
+    let mut head = [0u8; 16];
+    if !fills(input, &mut head)? {
         return Ok(false);
     }
-    let length = word(&head, 0) as usize;
-    let calls = word(&head, 1);
+    let length = words::u64_at(&head, 0) as usize;
+    let calls = words::u64_at(&head, 8);
     let mut buffer = [0u8; 65536];
-    if read_image(input, &mut buffer, length)? {
-        return image_in(input, to, &buffer, length, calls);
+    if buffer.len() < length || !fills(input, &mut buffer[..length])? {
+        return Ok(false);
     }
-    Ok(false)
+    calls_on(input, to, &buffer[..length], calls)
 }
 
 fn main(rt: HostRuntime) -> io::Result<()> {

@@ -1,166 +1,122 @@
-// Answers as lines of text, in the independent program's words.
+// Answers as text, in the independent program's words.
 ghost use Rattle.model.specs.Answers.{NanCases};
 
-use model::{
-    Agreement, ArrayValue, Corner, Count, DataSize, FaceUsage, ParentPair, Rejection, Section,
-    Table, Validation,
-};
-use std::io;
+use model::{ArrayValue, DataSize, ParentPair, Rejection, Section, Validation};
+use std::fmt::Display;
 use std::io::Print;
+use std::{fmt, io};
 
 // `refuse`, the rule and the node, and of 45 the element; `entry` and its place where there is one.
-fn refusal<P: Print>(to: &P, r: Rejection) -> io::Result<()> {
-    print!(to; "refuse {} {}", r.rule, r.node)?;
-    if r.rule == 45 {
-        print!(to; " {}", r.element)?;
-    }
-    if 0 < r.entry {
-        print!(to; " entry {}", r.entry)?;
-    }
-    Ok(())
-}
+#[derive(Clone, Copy)]
+struct Refusal(Rejection);
 
-// A word and a number.
-fn pair<P: Print>(to: &P, word: &str, x: u64) -> io::Result<()> {
-    print!(to; "{word}{x}")
-}
-
-// The bits of a single.
-fn single<P: Print>(to: &P, bits: u32) -> io::Result<()> {
-    pair(to, "single ", bits as u64)
-}
-
-// The bytes of lent memory, after `room`.
-pub fn bytes<P: Print>(to: &P, out: &[u8]) -> io::Result<()> {
-    print!(to; " room")?;
-    for x in out {
-        print!(to; " {x}")?;
-    }
-    Ok(())
-}
-
-pub fn table<P: Print>(to: &P, t: Table) -> io::Result<()> {
-    match t {
-        Table::Sound {
-            nodes,
-            dimensions: _,
-            bytes: _,
-        } => pair(to, "accept ", nodes),
-        Table::Rejected(r) => refusal(to, r),
+impl Display for Refusal {
+    fn fmt<W: fmt::Write>(&self, f: &mut fmt::Formatter<W>) -> fmt::Result {
+        let r = self.0;
+        write!(f, "refuse {} {}", r.rule, r.node)?;
+        if r.rule == 45 {
+            write!(f, " {}", r.element)?;
+        }
+        if 0 < r.entry {
+            write!(f, " entry {}", r.entry)?;
+        }
+        Ok(())
     }
 }
 
-pub fn count<P: Print>(to: &P, c: Count, word: &str) -> io::Result<()> {
-    match c {
-        Count::Of(n) => pair(to, word, n),
-        Count::Rejected(r) => refusal(to, r),
+// The four counts of an acceptance.
+#[derive(Clone, Copy)]
+pub struct Counts(pub Validation);
+
+impl Display for Counts {
+    fn fmt<W: fmt::Write>(&self, f: &mut fmt::Formatter<W>) -> fmt::Result {
+        let v = self.0;
+        write!(
+            f,
+            "{} {} {} {}",
+            v.validated, v.skipped, v.zones, v.sections
+        )
     }
 }
 
-pub fn value<P: Print>(to: &P, v: ArrayValue) -> io::Result<()>
-    requires { NanCases v }
-{
-    match v {
-        ArrayValue::Whole(n) => print!(to; "whole {n}"),
-        ArrayValue::Single(x) => single(to, f32::to_bits(x)),
-        ArrayValue::Double(x) => pair(to, "double ", f64::to_bits(x)),
-        ArrayValue::SingleNan(b) => single(to, b),
-        ArrayValue::DoubleNan(b) => pair(to, "double ", b),
-        ArrayValue::Rejected(r) => refusal(to, r),
+// The number of directions, and as many sizes.
+#[derive(Clone, Copy)]
+pub struct Sizes(pub DataSize);
+
+impl Display for Sizes {
+    fn fmt<W: fmt::Write>(&self, f: &mut fmt::Formatter<W>) -> fmt::Result {
+        let d = self.0;
+        write!(f, "{} {}", d.directions, d.i)?;
+        if 1 < d.directions {
+            write!(f, " {}", d.j)?;
+        }
+        if 2 < d.directions {
+            write!(f, " {}", d.k)?;
+        }
+        Ok(())
     }
 }
 
-// The numbers of lent memory, after a word.
-pub fn numbers<P: Print>(to: &P, word: &str, out: &[u64]) -> io::Result<()> {
-    print!(to; "{word}")?;
-    for x in out {
-        print!(to; " {x}")?;
+// The two parents of a face.
+#[derive(Clone, Copy)]
+pub struct Parents(pub ParentPair);
+
+impl Display for Parents {
+    fn fmt<W: fmt::Write>(&self, f: &mut fmt::Formatter<W>) -> fmt::Result {
+        let p = self.0;
+        write!(f, "{} {}", p.first, p.second)
     }
-    Ok(())
 }
 
 // The eleven numbers of an entry.
-pub fn section<P: Print>(to: &P, s: Section) -> io::Result<()> {
-    pair(to, " ", s.node)?;
-    pair(to, " ", s.element_type)?;
-    pair(to, " ", s.first)?;
-    pair(to, " ", s.last)?;
-    pair(to, " ", s.offsets_at)?;
-    pair(to, " ", s.offsets_width)?;
-    pair(to, " ", s.connectivity_at)?;
-    pair(to, " ", s.connectivity_width)?;
-    pair(to, " ", s.connectivity_length)?;
-    pair(to, " ", s.parents_at)?;
-    pair(to, " ", s.parents_width)
+#[derive(Clone, Copy)]
+pub struct Entry(pub Section);
+
+impl Display for Entry {
+    fn fmt<W: fmt::Write>(&self, f: &mut fmt::Formatter<W>) -> fmt::Result {
+        let s = self.0;
+        write!(f, "{} {} {} {}", s.node, s.element_type, s.first, s.last)?;
+        write!(f, " {} {}", s.offsets_at, s.offsets_width)?;
+        write!(f, " {} {}", s.connectivity_at, s.connectivity_width)?;
+        write!(
+            f,
+            " {} {} {}",
+            s.connectivity_length, s.parents_at, s.parents_width
+        )
+    }
 }
 
-// The signed numbers of lent memory, after `room`.
-pub fn signed_numbers<P: Print>(to: &P, out: &[i64]) -> io::Result<()> {
-    print!(to; " room")?;
-    for x in out {
+// A word and what the call answers, or the refusal.
+pub fn answer<P: Print, T: Display + Drop>(
+    to: &P,
+    word: &str,
+    answer: Result<T, Rejection>,
+) -> io::Result<()> {
+    match answer {
+        Ok(x) => print!(to; "{word} {x}"),
+        Err(r) => to.print(Refusal(r)),
+    }
+}
+
+// A stored value, of a real number its bits.
+pub fn value<P: Print>(to: &P, v: Result<ArrayValue, Rejection>) -> io::Result<()>
+    requires { NanCases v }
+{
+    match v {
+        Ok(ArrayValue::Whole(n)) => print!(to; "whole {n}"),
+        Ok(ArrayValue::Single(x)) => print!(to; "single {}", x.to_bits()),
+        Ok(ArrayValue::Double(x)) => print!(to; "double {}", x.to_bits()),
+        Ok(ArrayValue::SingleNan(b)) => print!(to; "single {b}"),
+        Ok(ArrayValue::DoubleNan(b)) => print!(to; "double {b}"),
+        Err(r) => to.print(Refusal(r)),
+    }
+}
+
+// The places of lent memory, after a word.
+pub fn list<P: Print, T: Display>(to: &P, word: &str, places: &[T]) -> io::Result<()> {
+    print!(to; " {word}")?;
+    for x in places {
         print!(to; " {x}")?;
     }
     Ok(())
-}
-
-pub fn validation<P: Print>(to: &P, v: Validation) -> io::Result<()> {
-    match v {
-        Validation::Accepted {
-            validated,
-            skipped,
-            zones,
-            sections,
-        } => print!(to; "accept {validated} {skipped} {zones} {sections}"),
-        Validation::Rejected(r) => refusal(to, r),
-    }
-}
-
-// As many sizes as there are directions.
-pub fn sizes<P: Print>(to: &P, d: DataSize) -> io::Result<()> {
-    match d {
-        DataSize::Sizes {
-            directions,
-            i,
-            j,
-            k,
-        } => {
-            print!(to; "sizes {directions} {i}")?;
-            if 1 < directions {
-                pair(to, " ", j)?;
-            }
-            if 2 < directions {
-                pair(to, " ", k)?;
-            }
-            Ok(())
-        }
-        DataSize::Rejected(r) => refusal(to, r),
-    }
-}
-
-pub fn corner<P: Print>(to: &P, c: Corner) -> io::Result<()> {
-    match c {
-        Corner::Number(n) => print!(to; "corner {n}"),
-        Corner::Rejected(r) => refusal(to, r),
-    }
-}
-
-pub fn usage<P: Print>(to: &P, u: FaceUsage) -> io::Result<()> {
-    match u {
-        FaceUsage::Faces(n) => pair(to, "usage ", n),
-        FaceUsage::Rejected(r) => refusal(to, r),
-    }
-}
-
-pub fn parents<P: Print>(to: &P, p: ParentPair) -> io::Result<()> {
-    match p {
-        ParentPair::Of { first, second } => print!(to; "parents {first} {second}"),
-        ParentPair::Rejected(r) => refusal(to, r),
-    }
-}
-
-pub fn agreement<P: Print>(to: &P, a: Agreement) -> io::Result<()> {
-    match a {
-        Agreement::Agrees(y) => pair(to, "agrees ", y as u64),
-        Agreement::Rejected(r) => refusal(to, r),
-    }
 }

@@ -16,7 +16,7 @@ ghost use Rattle.section_data.specs.Given.{SectionContext};
 ghost use Rattle.references.specs.Groups.{shape_rules};
 
 use element_types::{NFACE, NGON, has_offsets, nodes_per};
-use model::{Rejection, Stage};
+use model::Rejection;
 use rows::Row;
 use section_data::{row_of, size_of};
 use sids::offsets_of;
@@ -44,42 +44,40 @@ fn all_rise(image: &[u8], row: Row, least: u64) -> bool
     let n = row.n - 1;
     let width = row.width;
     let mut last: u64 = 0;
-    let mut k: usize = 0;
-    while k < n {
+    for k in 0..n {
         let next = rows::number_at(image, row, k + 1);
         if !rises(last, next, width, least) {
             return false;
         }
         last = next;
-        k += 1;
     }
     true
 }
 
 // Rules 30 to 33 of the start offsets of section s: the first is 0, each is above its predecessor, the last is the connectivity length, and no two
 // neighbours are less than `least` apart. One pass over lawful ones; where it fails, another asks rule 31 alone.
-fn offsets_stage(image: &[u8], s: usize, row: Row, length: u64, least: u64) -> Stage
+fn offsets_stage(image: &[u8], s: usize, row: Row, length: u64, least: u64) -> Result<(), Rejection>
     requires { (Numbers image.now row.at row.width row.n × (0 < row.n)) × (least ≤ 4) }
     ensures { stage_tells result ≡ check s (offset_rules image.now row.at row.width (row.n - 1) length least) }
 {
     let n = row.n - 1;
     if rows::number_at(image, row, 0) != 0 {
-        return Stage::Rejected(Rejection::at(30, s as u64));
+        return Err(Rejection::at(30, s as u64));
     }
     let ends = rows::number_at(image, row, n) == length;
     if all_rise(image, row, least) {
         if ends {
-            return Stage::Pass;
+            return Ok(());
         }
-        return Stage::Rejected(Rejection::at(32, s as u64));
+        return Err(Rejection::at(32, s as u64));
     }
     if !all_rise(image, row, 0) {
-        return Stage::Rejected(Rejection::at(31, s as u64));
+        return Err(Rejection::at(31, s as u64));
     }
     if !ends {
-        return Stage::Rejected(Rejection::at(32, s as u64));
+        return Err(Rejection::at(32, s as u64));
     }
-    Stage::Rejected(Rejection::at(33, s as u64))
+    Err(Rejection::at(33, s as u64))
 }
 
 // The least size of an element of section s; 0 where rule 33 asks nothing.
@@ -109,7 +107,7 @@ fn offset_shape(
     element_type: u64,
     n: u64,
     length: u64,
-) -> Stage
+) -> Result<(), Rejection>
     requires index { Index image.now index.now × SectionContext image.now s }
     requires n_value { (n ≡ element_count (tree_of image.now) s) × (length ≡ connectivity_length (tree_of image.now) s) }
     requires element_type_value { (element_type ≡ element_type_of (tree_of image.now) s) × (has_offsets (element_type_of (tree_of image.now) s) ≡ true) }
@@ -117,7 +115,7 @@ fn offset_shape(
 {
     let offsets = offsets_of(image, index, s);
     if size_of(image, offsets) != n + 1 {
-        return Stage::Rejected(Rejection::at(29, s as u64));
+        return Err(Rejection::at(29, s as u64));
     }
     let least = least_size(image, s, element_type);
     offsets_stage(image, s, row_of(image, offsets), length, least)
@@ -131,7 +129,7 @@ pub fn shape_stage(
     element_type: u64,
     n: u64,
     length: u64,
-) -> Stage
+) -> Result<(), Rejection>
     requires index { Index image.now index.now × SectionContext image.now s }
     requires n_value { (n ≡ element_count (tree_of image.now) s) × (length ≡ connectivity_length (tree_of image.now) s) }
     requires element_type_value { element_type ≡ element_type_of (tree_of image.now) s }
@@ -141,7 +139,7 @@ pub fn shape_stage(
         return offset_shape(image, index, s, element_type, n, length);
     }
     if length == n * nodes_per(element_type) {
-        return Stage::Pass;
+        return Ok(());
     }
-    Stage::Rejected(Rejection::at(29, s as u64))
+    Err(Rejection::at(29, s as u64))
 }

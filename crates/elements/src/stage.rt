@@ -16,7 +16,7 @@ ghost use Rattle.parents.specs.Parents.{parents_broken};
 
 use super::lengths::shape_stage;
 use element_types::is_supported;
-use model::{Rejection, Stage};
+use model::Rejection;
 use references::reference_stage;
 use section_data::{element_count, row_of};
 use sids::{connectivity_of, range_of};
@@ -32,17 +32,14 @@ fn array_stage(
     reach: &[u64],
     faces: usize,
     levels: &mut [u32],
-) -> Stage
+) -> Result<(), Rejection>
     requires index { Index image.now index.now × SectionContext image.now s }
     requires element_type_value { (element_type ≡ element_type_of (tree_of image.now) s) × (n ≡ element_count (tree_of image.now) s) }
     requires faces { Faces (tree_of image.now) firsts.now reach.now faces × (2048 ≤ length levels.old) }
     ensures { stage_tells result ≡ (check s (shape_rules (tree_of image.now) s) then connectivity_check (tree_of image.now) s) }
 {
     let row = row_of(image, connectivity_of(image, index, s));
-    let shape = shape_stage(image, index, s, element_type, n, row.n as u64);
-    let Stage::Pass = shape else {
-        return shape;
-    };
+    shape_stage(image, index, s, element_type, n, row.n as u64)?;
     reference_stage(
         image,
         index,
@@ -68,7 +65,7 @@ pub fn element_stage(
     reach: &[u64],
     faces: usize,
     levels: &mut [u32],
-) -> Stage
+) -> Result<(), Rejection>
     requires nodes_to { NodesTo image.now s × Index image.now index.now }
     requires s_value { (validated (tree_of image.now) s ≡ true) × (role (tree_of image.now) s ≡ Elements) }
     requires s_value_2 { check s (sids_rules (tree_of image.now) s) ≡ passed }
@@ -80,13 +77,13 @@ pub fn element_stage(
 {
     let element_type = types::whole(image, s, 0);
     if !is_supported(element_type) {
-        return Stage::Rejected(Rejection::at(27, s as u64));
+        return Err(Rejection::at(27, s as u64));
     }
     if s == overlap {
-        return Stage::Rejected(Rejection::at(28, s as u64));
+        return Err(Rejection::at(28, s as u64));
     }
     let n = element_count(image, range_of(image, index, s), s);
-    let stage = array_stage(
+    array_stage(
         image,
         index,
         s,
@@ -96,12 +93,9 @@ pub fn element_stage(
         reach,
         faces,
         levels,
-    );
-    let Stage::Pass = stage else {
-        return stage;
-    };
+    )?;
     if s == parents {
-        return Stage::Rejected(Rejection::at(39, s as u64));
+        return Err(Rejection::at(39, s as u64));
     }
-    Stage::Pass
+    Ok(())
 }

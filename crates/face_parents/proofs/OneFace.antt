@@ -18,7 +18,6 @@ use Rattle.model.specs.Corner.{number_at}
 use Rattle.model.specs.ParentElements.{FaceParents, stored_parents}
 use Rattle.model.proofs.Logic.{and_first, and_second, and_both}
 use Rattle.model.proofs.Walks.{seek_holds}
-use Rattle.model.proofs.Loops.{SeekLeft, seek_start}
 use Rattle.model.proofs.Passed.{then-on, then-off}
 use Rattle.model.proofs.Staging.{broken, kept, no_rule}
 use Rattle.index.specs.Index.{Index}
@@ -38,11 +37,6 @@ some_seek p (suc k) i n q = by_test (p i) (some_seek p k (suc i) n (omega arith)
     by_test : (t : Bool) → some_from p k (suc i) ≡ ltb (seek_from p k (suc i)) n → (t || some_from p k (suc i)) ≡ ltb (cond t i (seek_from p k (suc i))) n
     by_test true e = sym (lt-ltb i n (omega arith))
     by_test false e = e
-
--- the walk begins
-pub section_start : (b : List ℕ) (z f : ℕ) {n : ℕ} → n ≡ node_count b → SeekLeft (has_face (tree_of b) z f) n 0 (section_with_face (tree_of b) z f)
-unfolding section_with_face tree_of
-section_start b z f e = rw e (seek_start _ _ 0 (omega arith) (λ j h. absurd (omega arith)))
 
 -- a section of type 22 whose range holds f
 pub has-face-is : {b : List ℕ} → Accepted b → (z f s : ℕ) → s < node_count b

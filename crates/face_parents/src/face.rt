@@ -39,14 +39,9 @@ pub fn section_with_face(image: &[u8], index: &[u16], z: usize, f: u64) -> usize
     ensures { (result ≡ section_with_face (tree_of image.now) z f) × (result ≤ node_count image.now) }
 {
     let nodes = labels::node_count(image);
-    let mut s: usize = 0;
-    while s < nodes {
-        if has_face(image, index, z, f, s) {
-            return s;
-        }
-        s += 1;
-    }
-    s
+    (0..nodes)
+        .find(|s| has_face(image, index, z, f, *s))
+        .unwrap_or(nodes)
 }
 
 // Does a face section of zone z have the parents of its faces?
@@ -54,22 +49,14 @@ pub fn any_parents(image: &[u8], index: &[u16], z: usize) -> bool
     requires { Accepted image.now × Index image.now index.now }
     ensures { result ≡ some_from (has_parents (tree_of image.now) z) (node_count image.now) 0 }
 {
-    let nodes = labels::node_count(image);
-    let mut s: usize = 0;
-    while s < nodes {
-        if has_parents(image, index, z, s) {
-            return true;
-        }
-        s += 1;
-    }
-    false
+    (0..labels::node_count(image)).any(|s| has_parents(image, index, z, s))
 }
 
 // The parents of face f, which section s stores in node a.
 fn stored_parents(image: &[u8], index: &[u16], s: usize, a: usize, f: u64) -> ParentPair
     requires section { Section image.now index.now s × (in_range (tree_of image.now) s f ≡ true) }
     requires a_value { (a ≡ parents_of (tree_of image.now) s) × Columns image.now a (element_count (tree_of image.now) s) }
-    ensures { parents_tells result ≡ answer (stored_parents (tree_of image.now) s f) }
+    ensures { parents_tells (Ok result) ≡ answer (stored_parents (tree_of image.now) s f) }
 {
     let span = span_of(image, index, s);
     let row = parents_row(image, a);
@@ -77,11 +64,16 @@ fn stored_parents(image: &[u8], index: &[u16], s: usize, a: usize, f: u64) -> Pa
     let n = (span.last - span.first + 1) as usize;
     let first = number_at(image, row, k);
     let second = number_at(image, row, n + k);
-    ParentPair::Of { first, second }
+    ParentPair { first, second }
 }
 
 // The parents of face f of zone z, as its section stores them: 41 where f is no face of the zone, 54 where its section has no parents.
-pub fn parents_of_face(image: &[u8], index: &[u16], z: usize, f: u64) -> ParentPair
+pub fn parents_of_face(
+    image: &[u8],
+    index: &[u16],
+    z: usize,
+    f: u64,
+) -> Result<ParentPair, Rejection>
     requires { Accepted image.now × Index image.now index.now }
     ensures { parents_tells result
         ≡ (check 0 (41 unless face_of (tree_of image.now) z f
@@ -92,11 +84,11 @@ pub fn parents_of_face(image: &[u8], index: &[u16], z: usize, f: u64) -> ParentP
     let nodes = labels::node_count(image);
     let s = section_with_face(image, index, z, f);
     if nodes <= s {
-        return ParentPair::Rejected(Rejection::at(41, 0));
+        return Err(Rejection::at(41, 0));
     }
     let a = sids::parents_of(image, index, s, NGON);
     if nodes <= a {
-        return ParentPair::Rejected(Rejection::at(54, 0));
+        return Err(Rejection::at(54, 0));
     }
-    stored_parents(image, index, s, a, f)
+    Ok(stored_parents(image, index, s, a, f))
 }

@@ -59,13 +59,10 @@ pub fn gather(
     requires in_bounds { (2048 ≤ length firsts.old) × (2048 ≤ length reach.old) × (2049 ≤ length places.old) }
     ensures { Ranges (tree_of image.now) z (node_count image.now) firsts.new reach.new places.new result }
 {
-    let nodes = labels::node_count(image);
     places[0] = 0;
     let mut n: usize = 0;
-    let mut i: usize = 0;
-    while i < nodes {
+    for i in 0..labels::node_count(image) {
         n = add_section(image, index, z, i, firsts, reach, places, n);
-        i += 1;
     }
     n
 }

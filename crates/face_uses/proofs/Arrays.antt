@@ -1,34 +1,32 @@
 -- The arrays of a cell section of an accepted image: its start offsets and its connectivity.
 use Prim.Native.Nat.{ℕ, zero, suc, ◌+◌, ◌-◌, ◌≤◌, ◌<◌}
-use mathlib.Core.Path.{◌≡◌, refl, sym, ap, ◌∙◌}
+use mathlib.Core.Path.{◌≡◌, refl, sym, ◌∙◌}
 use mathlib.Core.Bool.{Bool, true, false, ◌&&◌}
 use mathlib.Core.List.{List}
 use native.Mathlib.Omega.{arith}
-use lib.ListN.{get_or}
 use lib.Dec.{eqb}
 use borrow.Author.Tests.{eqb-true, lt-ltb}
 use Rattle.model.specs.Lists.{seek_from}
-use Rattle.model.specs.Image.{tree_of, node_count, word_count, node, dimensions, width}
+use Rattle.model.specs.Image.{tree_of, node_count, width}
 use Rattle.model.specs.Given.{Sound, Accepted}
 use Rattle.model.specs.Containment.{found, section_of}
-use Rattle.model.specs.Values.{flat, size, offsets_of, connectivity_of}
+use Rattle.model.specs.Values.{offsets_of, connectivity_of}
 use Rattle.model.specs.Elements.{NFACE, has_offsets, element_type_of, element_count, start_offset, element_start, connectivity_length, reference}
 use Rattle.model.specs.Elements.{start_of, layout_of}
 use Rattle.model.specs.FaceUsage.{ends_after, element_holding, uses_in}
 use Rattle.model.proofs.Logic.{and_first, and_second}
-use Rattle.model.proofs.Bounds.{node-placed}
 use Rattle.model.proofs.Conforming.{section-is}
 use Rattle.model.proofs.InZone.{role-is, connectivity, offsets, offsets-size}
 use Rattle.rows.specs.declared.Row.{Row}
 use Rattle.rows.specs.Rows.{ends_after_at}
 use Rattle.index.specs.Index.{Index}
-use Rattle.section_data.specs.Given.{Stores, Indexed}
+use Rattle.section_data.specs.Given.{Stores, Indexed, RowOf as NodeRow}
+use Rattle.section_data.proofs.ArrayLaws.{row-numbers, row_number, row_is}
 use Rattle.section_data.proofs.Stored.{data_from_lem, stores_row, stores-number, connectivity-stores, offsets-stores}
 use Rattle.face_places.specs.declared.zone_sections.Span.{Span}
 use Rattle.face_places.specs.ZoneSections.{Cells, Spans}
 use Rattle.face_uses.specs.Uses.{RowOf, References}
 use Rattle.face_places.proofs.Accepted.{section_by, own-zone, count_read, cells_faces}
-use Rattle.model.proofs.Reading.{rank_is}
 
 -- the numbers of node j, as they were read
 pub row_read : {b : List ℕ} → Sound b → {j n : ℕ} → Stores b j n → {at w : ℕ} → at ≡ data_from_lem b j → w ≡ width (tree_of b) j
@@ -73,47 +71,35 @@ module _ {b index : List ℕ} {s : ℕ} (c : Cells b index s) where
         ends_same i h = rw (has-offsets, ← w.stored (suc i) (omega (arith, count_read g)), q)
 
   -- its connectivity
-  pub connectivity-inside : connectivity_of (tree_of b) s < node_count b
+  connectivity-inside : connectivity_of (tree_of b) s < node_count b
   connectivity-inside = (connectivity (own-zone c.section)).inside-table
 
-  cells-connectivity : Indexed b (connectivity_of (tree_of b) s)
+  pub cells-connectivity : {j : ℕ} → j ≡ connectivity_of (tree_of b) s → Indexed b j
   unfolding found tree_of
-  cells-connectivity = connectivity-stores c.section.accepted.sound s (role-is (own-zone c.section)) (lt-ltb _ _ connectivity-inside)
-
-  pub connectivity_dimension : {j : ℕ} → j ≡ connectivity_of (tree_of b) s
-      → (0 < (node (tree_of b) j).rank) × ((node (tree_of b) j).first_word + (node (tree_of b) j).rank ≤ word_count b)
-  unfolding flat
-  connectivity_dimension e =
-      let q = sym (rank_is (tree_of b) (connectivity_of (tree_of b) s)) ∙ eqb-true _ 1 cells-connectivity.one_dimension in
-      rw e (omega (arith, q), (node-placed b c.section.accepted.sound.table (connectivity_of (tree_of b) s) connectivity-inside).words_in)
+  cells-connectivity q = rw q (connectivity-stores c.section.accepted.sound s (role-is (own-zone c.section)) (lt-ltb _ _ connectivity-inside))
 
   -- as it was read
-  module _ {j n : ℕ} (e : j ≡ connectivity_of (tree_of b) s) (q : n ≡ get_or (dimensions (tree_of b) j) 0 0) where
-    length_read : n ≡ connectivity_length (tree_of b) s
-    unfolding connectivity_length size
-    length_read = q ∙ ap (λ (j : ℕ). get_or (dimensions (tree_of b) j) 0 0) e
-
-    pub connectivity-stores_n : Stores b j n
-    unfolding connectivity_length
-    connectivity-stores_n = rw (e, length_read) cells-connectivity.numbers
-
-    pub references : {z : ℕ} → (section_of (tree_of b) z s && eqb (element_type_of (tree_of b) s) NFACE) ≡ true → {r : Row} → RowOf b j n r → References b index z s r
-    unfolding uses_in reference
-    references {z} o {r} w =
-        let p = (section-is (tree_of b) z s (and_first (section_of (tree_of b) z s) _ o)).parent_is in
-        record {
-          numbers = w.numbers;
-          long = w.long ∙ length_read ∙ rw o;
-          each =
-              λ k h.
-              record {
-                cells = c;
-                zone = p;
-                wide = rw (← e) w.wide;
-                stored = rw (← e) (w.stored k (omega (arith, w.long)));
-                face = cells_faces c.section.accepted z s c.section.inside o k (omega (arith, w.long, length_read));
-              };
-        }
+  pub references : {j : ℕ} → j ≡ connectivity_of (tree_of b) s → {z : ℕ} → (section_of (tree_of b) z s && eqb (element_type_of (tree_of b) s) NFACE) ≡ true
+      → {r : Row} → NodeRow b j r → References b index z s r
+  unfolding uses_in reference connectivity_length
+  references q {z} o w =
+      let g = c.section.accepted.sound in
+      let v = row_is q w in
+      let e : _ ≡ connectivity_length (tree_of b) s = v.long in
+      let p = (section-is (tree_of b) z s (and_first (section_of (tree_of b) z s) _ o)).parent_is in
+      record {
+        numbers = row-numbers g v;
+        long = v.long ∙ rw o;
+        each =
+            λ k h.
+            record {
+              cells = c;
+              zone = p;
+              wide = sym v.wide;
+              stored = row_number g v k h;
+              face = cells_faces c.section.accepted z s c.section.inside o k (omega (arith, e));
+            };
+      }
 
 -- a node that brings none
 pub no_references : (b index : List ℕ) (z s : ℕ) → (section_of (tree_of b) z s && eqb (element_type_of (tree_of b) s) NFACE) ≡ false

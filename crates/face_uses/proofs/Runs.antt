@@ -8,8 +8,8 @@ use native.Mathlib.Numerals.{add-one}
 use lib.ListN.{length, get_or, set, drop}
 use lib.Seq.{drop-set-lt}
 use Rattle.model.specs.declared.Rejection.{Rejection}
-use Rattle.model.specs.declared.Stage.{Stage}
-use Rattle.model.specs.declared.Stage.TheVariants as Stage
+use Rattle.std.specs.Prelude.{Result, Ok, Err, IsErrAnd}
+use Rattle.std.proofs.lemmas.Result.{err_from_is_err_and}
 use Rattle.model.specs.Bytes.{negative, magnitude}
 use Rattle.model.specs.Rules.{Answer, rejected, answer, repetition, ◌into◌}
 use Rattle.model.specs.Image.{Tree, tree_of}
@@ -42,24 +42,29 @@ pub record Left (faces : ℕ) (whole : Answer (List ℕ)) (start : List ℕ) (re
 
 module _ {faces : ℕ} {whole rest : Answer (List ℕ)} {start bytes : List ℕ} (l : Left faces whole start rest bytes) where
   -- one step, as a stage run_tells it
-  module _ {one : Answer (List ℕ)} (f : List ℕ → Answer (List ℕ)) {s : Stage} {after : List ℕ} (e : rest ≡ (one into f))
+  module _ {one : Answer (List ℕ)} (f : List ℕ → Answer (List ℕ)) {s : Result (Unit {0}) Rejection} {after : List ℕ} (e : rest ≡ (one into f))
       (u : Used faces one bytes s after) where
-    pub left_more : s ≡ Stage.Pass → length after ≡ length bytes → Left faces whole start (f after) after
+    pub left_more : s ≡ Ok tt → length after ≡ length bytes → Left faces whole start (f after) after
     unfolding ◌into◌
     left_more q n =
-        let a : one ≡ answer after = u.tells ∙ ap (λ (x : Stage). used x after) q in
+        let a : one ≡ answer after = u.tells ∙ ap (λ (x : Result (Unit {0}) Rejection). used x after) q in
         record { same = sym (e ∙ ap (λ (x : Answer (List ℕ)). x into f) a) ∙ l.same; long = n ∙ l.long; beyond = u.rest ∙ l.beyond }
 
-    pub left_stop : {r : Rejection} → s ≡ Stage.Rejected r → Used faces whole start s after
+    pub left_stop : {r : Rejection} → s ≡ Err r → Used faces whole start s after
     unfolding ◌into◌
     left_stop {r} q =
-        let a : one ≡ rejected r = u.tells ∙ ap (λ (x : Stage). used x after) q in
+        let a : one ≡ rejected r = u.tells ∙ ap (λ (x : Result (Unit {0}) Rejection). used x after) q in
         record {
-          tells = sym (sym (e ∙ ap (λ (x : Answer (List ℕ)). x into f) a) ∙ l.same) ∙ sym (ap (λ (x : Stage). used x after) q);
+          tells = sym (sym (e ∙ ap (λ (x : Answer (List ℕ)). x into f) a) ∙ l.same) ∙ sym (ap (λ (x : Result (Unit {0}) Rejection). used x after) q);
           rest = u.rest ∙ l.beyond;
         }
 
-  pub left-done : rest ≡ answer bytes → Used faces whole start Stage.Pass bytes
+    -- `?` hands the refusal on
+    pub left_handed : {r : Rejection} → s ≡ Err r → (x : Result (Unit {0}) Rejection) → IsErrAnd x (λ y. y ≡ r) → Used faces whole start x after
+    left_handed q x h =
+        let p = err_from_is_err_and x h in rw (p.1, p.2, ← q) (left_stop q)
+
+  pub left-done : rest ≡ answer bytes → Used faces whole start (Ok tt) bytes
   left-done e = record { tells = sym l.same ∙ e; rest = l.beyond }
 
 -- a section's entries
@@ -108,11 +113,11 @@ module _ {b index : List ℕ} {z s : ℕ} {row : Row} {k : ℕ} (r : Reference b
         by_test true = drop-set-lt (face_count (tree_of b) z) bytes _ _ (place-below a z _ entry-face)
         by_test false = refl
 
-    pub entry-used : Accepted b → free ≡ true → Used (face_count (tree_of b) z) (use_entry (tree_of b) s k bytes) bytes Stage.Pass after
+    pub entry-used : Accepted b → free ≡ true → Used (face_count (tree_of b) z) (use_entry (tree_of b) s k bytes) bytes (Ok tt) after
     entry-used a e = record { tells = entry-is ∙ ap (λ (f : Bool). cond f (answer after) again) e; rest = after-rest a }
 
     pub entry_repeated : Accepted b → free ≡ false → {q : Rejection} → q ≡ repetition s (element_holding (tree_of b) s k)
-        → Used (face_count (tree_of b) z) (use_entry (tree_of b) s k bytes) bytes (Stage.Rejected q) after
+        → Used (face_count (tree_of b) z) (use_entry (tree_of b) s k bytes) bytes (Err q) after
     unfolding again
     entry_repeated a e {q} p = record { tells = entry-is ∙ ap (λ (f : Bool). cond f (answer after) again) e ∙ ap rejected (sym p); rest = after-rest a }
 

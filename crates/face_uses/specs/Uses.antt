@@ -1,7 +1,6 @@
 -- Uses of a zone's faces, as the functions here tell them: bytes that are lent, each with a bit for each sign.
-use Rattle.std.specs.Prelude.{ℕ, ◌≤◌, ◌<◌, ◌≡◌, Bool, true, List, get_or, drop}
-use Rattle.model.specs.declared.Stage.{Stage}
-use Rattle.model.specs.declared.Stage.TheVariants as Stage
+use Rattle.std.specs.Prelude.{ℕ, ◌≤◌, ◌<◌, ◌≡◌, Bool, true, List, get_or, drop, Result, Ok, Err}
+use Rattle.model.specs.declared.Rejection.{Rejection}
 use Rattle.model.specs.Bytes.{negative, magnitude}
 use Rattle.model.specs.Rules.{Answer, rejected, answer}
 use Rattle.model.specs.Image.{Tree, tree_of, node_count, parent, width, number}
@@ -37,12 +36,12 @@ pub record UsedAt (t : Tree) (z w x : ℕ) (bytes : List ℕ) (free : Bool) (aft
   pub leaves : after ≡ after_use free (sign_of (negative w x)) (face_place t z (magnitude w x)) bytes
 
 -- what a stage tells of a run of uses: the bytes that it left, or its rejection
-abbrev pub used : Stage → List ℕ → Answer (List ℕ)
-used Stage.Pass bytes = answer bytes
-used (Stage.Rejected r) bytes = rejected r
+abbrev pub used : Result (Unit {0}) Rejection → List ℕ → Answer (List ℕ)
+used (Ok u) bytes = answer bytes
+used (Err r) bytes = rejected r
 
 -- it tells the run, and bytes after the zone's faces are as they were
-pub record Used (faces : ℕ) (run : Answer (List ℕ)) (bytes : List ℕ) (r : Stage) (after : List ℕ) : Type 0 where
+pub record Used (faces : ℕ) (run : Answer (List ℕ)) (bytes : List ℕ) (r : Result (Unit {0}) Rejection) (after : List ℕ) : Type 0 where
   pub tells : run ≡ used r after
   pub rest : drop faces after ≡ drop faces bytes
 

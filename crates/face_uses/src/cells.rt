@@ -1,10 +1,9 @@
 // The cell sections of a zone: the references that they bring, and which element holds one.
 ghost use Rattle.std.specs.Prelude.{◌≡◌, ◌+◌, ◌-◌, ◌<◌};
 ghost use Rattle.model.specs.Image.{tree_of, node_count};
-ghost use Rattle.model.specs.Given.{Sound, Accepted};
+ghost use Rattle.model.specs.Given.{Accepted};
 ghost use Rattle.model.specs.Values.{offsets_of};
 ghost use Rattle.model.specs.FaceUsage.{element_holding};
-ghost use Rattle.section_data.specs.Given.{Stores};
 ghost use Rattle.index.specs.Index.{Index};
 ghost use Rattle.face_places.specs.ZoneSections.{Cells, Spans};
 ghost use Rattle.face_uses.specs.Uses.{RowOf, References};
@@ -12,16 +11,7 @@ ghost use Rattle.face_uses.specs.Uses.{RowOf, References};
 use element_types::NFACE;
 use face_places::zone_sections::{Span, has_type, span_of};
 use rows::Row;
-
-// The n numbers of node j.
-fn row_of(image: &[u8], j: usize, n: usize) -> Row
-    requires { Sound image.now × Stores image.now j n }
-    ensures { RowOf image.now j n result }
-{
-    let at = records::data_start(image, j);
-    let width = records::width_at(image, j);
-    Row { at, width, n }
-}
+use section_data::row_of;
 
 // The references of node s, where it is a cell section of zone z; none where it is not.
 pub fn references_of(image: &[u8], index: &[u16], z: usize, s: usize) -> Row
@@ -35,9 +25,7 @@ pub fn references_of(image: &[u8], index: &[u16], z: usize, s: usize) -> Row
             n: 0,
         };
     }
-    let connectivity = sids::connectivity_of(image, index, s);
-    let n = records::dimension(image, connectivity, 0) as usize;
-    row_of(image, connectivity, n)
+    row_of(image, sids::connectivity_of(image, index, s))
 }
 
 // The start offsets of cell section s, whose elements are the span.
@@ -45,8 +33,12 @@ pub fn cell_offsets(image: &[u8], index: &[u16], s: usize, span: Span) -> Row
     requires { Cells image.now index.now s × Spans image.now s span }
     ensures { RowOf image.now (offsets_of (tree_of image.now) s) (span.last - span.first + 2) result }
 {
-    let n = (span.last - span.first) as usize + 2;
-    row_of(image, sids::offsets_of(image, index, s), n)
+    let offsets = sids::offsets_of(image, index, s);
+    Row {
+        at: records::data_start(image, offsets),
+        width: records::width_at(image, offsets),
+        n: (span.last - span.first) as usize + 2,
+    }
 }
 
 // The element of cell section s whose entries hold entry k.

@@ -12,7 +12,7 @@ ghost use Rattle.index.specs.Index.{Index};
 ghost use Rattle.face_uses.specs.Uses.{Tables, FoundFor, UsedAt, Used};
 
 use super::cells::{element_holding, references_of};
-use model::{Rejection, Stage};
+use model::Rejection;
 use ranges::search_tree::SearchTree;
 use ranges::{entry_holds, find};
 use references::guess_eight;
@@ -120,7 +120,7 @@ fn use_entries(
     places: &[u64],
     levels: &[u32],
     out: &mut [u8],
-) -> Stage
+) -> Result<(), Rejection>
     requires index { (Index image.now index.now × (s < node_count image.now)) × (2048 ≤ length levels.now) }
     requires tables { Tables image.now faces firsts.now reach.now places.now (length out.old) }
     ensures { Used (face_count (tree_of image.now) faces.zone)
@@ -130,8 +130,7 @@ fn use_entries(
     let row = references_of(image, index, faces.zone, s);
     let mut guesses: [usize; 9] = [0; 9];
     let mut last: usize = 0;
-    let mut k: usize = 0;
-    while k < row.n {
+    for k in 0..row.n {
         let j = entry_of(
             image,
             faces,
@@ -145,12 +144,11 @@ fn use_entries(
         );
         if !use_entry(image, faces, row, k, firsts, reach, places, j, out) {
             let e = element_holding(image, index, s, k);
-            return Stage::Rejected(Rejection::repeated(s as u64, e));
+            return Err(Rejection::repeated(s as u64, e));
         }
         last = j;
-        k += 1;
     }
-    Stage::Pass
+    Ok(())
 }
 
 // Uses the faces of all references of the zone's cells, in node and entry order.
@@ -163,21 +161,15 @@ pub fn use_nodes(
     places: &[u64],
     levels: &[u32],
     out: &mut [u8],
-) -> Stage
+) -> Result<(), Rejection>
     requires index { Index image.now index.now × (2048 ≤ length levels.now) }
     requires tables { Tables image.now faces firsts.now reach.now places.now (length out.old) }
     ensures { Used (face_count (tree_of image.now) faces.zone)
         (use_nodes (tree_of image.now) faces.zone (node_count image.now) 0 out.old)
         out.old result out.new }
 {
-    let nodes = labels::node_count(image);
-    let mut i: usize = 0;
-    while i < nodes {
-        let s = use_entries(image, index, faces, i, firsts, reach, places, levels, out);
-        let Stage::Pass = s else {
-            return s;
-        };
-        i += 1;
+    for i in 0..labels::node_count(image) {
+        use_entries(image, index, faces, i, firsts, reach, places, levels, out)?;
     }
-    Stage::Pass
+    Ok(())
 }

@@ -8,8 +8,7 @@ use lib.ListN.{length, get_or, set, drop, replicate, length-set, length-replicat
 use lib.Seq.{set-append_left, drop_at}
 use lib.Dec.{eqb}
 use Rattle.model.specs.declared.Rejection.{Rejection}
-use Rattle.model.specs.declared.Stage.{Stage}
-use Rattle.model.specs.declared.Stage.TheVariants as Stage
+use Rattle.std.specs.Prelude.{Result, Ok, Err}
 use Rattle.model.specs.Lists.{over}
 use Rattle.model.specs.Rules.{Answer, rejected, answer, repetition, ◌into◌}
 use Rattle.model.specs.Image.{Tree, tree_of, node_count, parent}
@@ -130,7 +129,7 @@ module _ {b : List ℕ} (a : Accepted b) (z : ℕ) where
     UsageIs x last w = (x ≡ (w into λ bytes. answer F)) × (last ≡ over out (usage_bytes F w))
 
     -- a run over the n cleared bytes, and its bytes cleared again
-    module _ {n : ℕ} (f : n ≡ F) {first : List ℕ} {r : Stage} {after : List ℕ} (p : first ≡ replicate n 0 ++ drop n out)
+    module _ {n : ℕ} (f : n ≡ F) {first : List ℕ} {r : Result (Unit {0}) Rejection} {after : List ℕ} (p : first ≡ replicate n 0 ++ drop n out)
         (u : Used F (run first) first r after) where
       run_tells : behind (drop F out) (usage (tree_of b) z) ≡ used r after
       run_tells = sym run_is ∙ ap run (sym (rw f at p)) ∙ u.tells
@@ -142,10 +141,10 @@ module _ {b : List ℕ} (a : Accepted b) (z : ℕ) where
           let w : zs ++ drop F out ≡ after = cc in
           (ap answer f, sym w ∙ ap (λ (k : ℕ). zs ++ drop k out) (sym (usage-long e)))
 
-      pub run_passed : r ≡ Stage.Pass
+      pub run_passed : {v : Unit {0}} → r ≡ Ok v
           → (answer n ≡ (usage (tree_of b) z into λ bytes. answer F)) × (after ≡ over out (usage_bytes F (usage (tree_of b) z)))
       unfolding UsageIs
-      run_passed q = by_answer (usage (tree_of b) z) refl (run_tells ∙ ap (λ (x : Stage). used x after) q)
+      run_passed q = by_answer (usage (tree_of b) z) refl (run_tells ∙ ap (λ (x : Result (Unit {0}) Rejection). used x after) q)
 
       module _ {last : List ℕ} (e : last ≡ replicate n 0 ++ drop n after) where
         cleared : last ≡ over out (replicate F 0)
@@ -161,7 +160,7 @@ module _ {b : List ℕ} (a : Accepted b) (z : ℕ) where
         by_refusal q (rejected o) h = (ap (λ (y : Rejection). rejected y) (let w : q ≡ o = cc in w), cleared)
         by_refusal q (answer zs) h = refused (sym h)
 
-        pub run_refused : {q : Rejection} → r ≡ Stage.Rejected q
+        pub run_refused : {q : Rejection} → r ≡ Err q
             → (rejected q ≡ (usage (tree_of b) z into λ bytes. answer F)) × (last ≡ over out (usage_bytes F (usage (tree_of b) z)))
         unfolding UsageIs
-        run_refused {q} o = by_refusal q (usage (tree_of b) z) (run_tells ∙ ap (λ (x : Stage). used x after) o)
+        run_refused {q} o = by_refusal q (usage (tree_of b) z) (run_tells ∙ ap (λ (x : Result (Unit {0}) Rejection). used x after) o)

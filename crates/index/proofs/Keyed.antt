@@ -1,7 +1,7 @@
 -- The keys: a node is for one slot at most.
-use Prim.Native.Nat.{ℕ, ◌+◌, ◌≤◌, ◌<◌}
+use Prim.Native.Nat.{ℕ, ◌≤◌, ◌<◌}
 use mathlib.Core.Path.{◌≡◌, refl, sym, ◌∙◌}
-use mathlib.Core.Bool.{Bool, true, false, not, ◌&&◌, ◌||◌, and-false}
+use mathlib.Core.Bool.{Bool, true, false, not, ◌||◌, and-false}
 use mathlib.Core.List.{List, [], ◌∷◌}
 use native.Mathlib.Omega.{arith}
 use native.Mathlib.Decide.{ℕ_discrete}
@@ -91,18 +91,6 @@ module _ (t : Tree) (above j : ℕ) {below : ℕ} (h : above < 16) (b : below �
           | no z ↦ other_slot k i l m (λ y. z (sym y)) e ∙ sym (ne_eqb i k z)
         ];
       }
-
-  pub no_slot : {k : ℕ} → ((i : ℕ) → i < 4 → i < k → is_key t above i j ≡ false) → 4 ≤ k → SlotOf t above j k
-  no_slot {k} f l = record { is = λ i m. f i m (omega arith) ∙ sym (ne_eqb i k (λ q. absurd (omega arith))) }
-
-  -- one slot more
-  pub not-up-to : {k : ℕ} → ((i : ℕ) → i < 4 → i < k → is_key t above i j ≡ false) → is_key t above k j ≡ false → (i : ℕ) → i < 4 → i < k + 1
-      → is_key t above i j ≡ false
-  not-up-to {k} f e i l m =
-      elim (ℕ_discrete i k) [
-        | yes q ↦ rw q e
-        | no z ↦ f i l (omega (arith, z))
-      ]
 
 -- node j has the role `below`, and slot k a key of the role r
 module _ (t : Tree) (above k j : ℕ) {key r below : ℕ} (e : key ≡ key_at above k) (f : r ≡ get_or key_roles key 16) (g : below ≡ role t j) where

@@ -94,12 +94,10 @@ pub fn slot_of(image: &[u8], above: u64, below: u64, j: usize) -> usize
     requires below_value { (below ≡ role (tree_of image.now) j) × (below < 16) }
     ensures { SlotOf (tree_of image.now) above j result }
 {
-    let mut k = first_slot(above, below);
-    while k < WIDTH {
+    for k in first_slot(above, below)..WIDTH {
         if is_key(image, above, below, k, j) {
             return k;
         }
-        k += 1;
     }
-    k
+    WIDTH
 }

@@ -104,10 +104,8 @@ pub fn build(image: &[u8], index: &mut [u16])
 {
     let n = labels::node_count(image);
     begin_row(index, 0, roles::ROOT);
-    let mut j = 1;
-    while j < n {
+    for j in 1..n {
         mark_node(image, index, j);
-        j += 1;
     }
 }
 

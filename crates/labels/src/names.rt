@@ -5,7 +5,7 @@ ghost use Rattle.model.specs.Image.{tree_of, node_count, name};
 ghost use Rattle.model.specs.Bounds.{Laid};
 ghost use Rattle.labels.specs.Padded.{field_word, known_names};
 
-use super::known::rest_of_name;
+use super::known::{FIRST_NAME, rest_is};
 use records::Record;
 
 pub const ZONE_TYPE: usize = 1;
@@ -54,8 +54,8 @@ pub fn name_is(image: &[u8], i: usize, k: usize) -> bool
     if words::u64_at(image, at) != first_word(k) {
         return false;
     }
-    rest_of_name(
-        k,
+    rest_is(
+        FIRST_NAME + k,
         words::u64_at(image, at + 8),
         words::u64_at(image, at + 16),
         words::u64_at(image, at + 24),

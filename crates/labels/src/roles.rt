@@ -5,7 +5,7 @@ ghost use Rattle.model.specs.Bounds.{Laid};
 ghost use Rattle.model.specs.Containment.{role};
 ghost use Rattle.labels.specs.Padded.{Begins};
 
-use super::known::rest_of_label;
+use super::known::rest_is;
 use records::Record;
 
 pub const LIBRARY_VERSION: u64 = 1;
@@ -75,7 +75,7 @@ pub fn role_of(image: &[u8], i: usize) -> u64
         let second = words::u64_at(image, at + 8);
         let third = words::u64_at(image, at + 16);
         let fourth = words::u64_at(image, at + 24);
-        if rest_of_label(k, second, third, fourth) {
+        if rest_is(k, second, third, fourth) {
             return k as u64 + 1;
         }
     }

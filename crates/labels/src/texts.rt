@@ -10,18 +10,16 @@ pub fn same_at(image: &[u8], at: usize, n: usize, text: &[u8]) -> bool
     if n != text.len() {
         return false;
     }
-    let mut k = 0;
-    while k + 8 <= n {
-        if words::u64_at(image, at + k) != words::u64_at(text, k) {
+    let whole = n / 8;
+    for j in 0..whole {
+        if words::u64_at(image, at + 8 * j) != words::u64_at(text, 8 * j) {
             return false;
         }
-        k += 8;
     }
-    while k < n {
+    for k in 8 * whole..n {
         if image[at + k] != text[k] {
             return false;
         }
-        k += 1;
     }
     true
 }

@@ -10,7 +10,8 @@ use native.Mathlib.Decide.{ℕ_discrete}
 use lib.ListN.{length}
 use lib.IntN.{ℤ, nat_abs}
 use borrow.Author.Tests.{ne_eqb}
-use Rattle.model.specs.declared.Corner.{Corner}
+use Rattle.std.specs.Prelude.{Result}
+use Rattle.model.specs.declared.Rejection.{Rejection}
 use Rattle.model.specs.Lists.{over}
 use Rattle.model.specs.Rules.{Answer, answer, passed, leaves}
 use Rattle.model.specs.Image.{Tree, tree_of}
@@ -130,7 +131,7 @@ module _ (b : List ℕ) (ok : image_check b ≡ passed) (z : ℕ) (rest : List �
     unfolding s corner_reference
     face_read y i j = rw (face-signed (in_zone k h) y _ (place_inside i j)) (face _ (face-inside (in_zone k h) y _ (place_inside i j)))
 
-  pub read_answers : is_zone (tree_of b) z ≡ true → (k el c : ℕ) → k < section_count (tree_of b) z → (r : Corner)
+  pub read_answers : is_zone (tree_of b) z ≡ true → (k el c : ℕ) → k < section_count (tree_of b) z → (r : Result ℤ Rejection)
       → CornerCase (tree_of b) z k el c (corner_tells r) → ReadAnswers b z rest k el c r
   unfolding s
   read_answers zone k el c h r d =

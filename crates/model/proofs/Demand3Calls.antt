@@ -13,7 +13,7 @@ use lib.Dec.{leb}
 use lib.IntN.{ℤ, nat_abs}
 use borrow.Author.Tests.{le-leb, leb-true, leb-false}
 use Rattle.model.specs.declared.Section.{Section}
-use Rattle.model.specs.declared.Corner.TheVariants as Corner
+use Rattle.std.specs.Prelude.{Ok}
 use Rattle.model.specs.Lists.{over}
 use Rattle.model.specs.Bytes.{le, signed}
 use Rattle.model.specs.Rules.{Answer, answer, passed, ◌unless◌, check, ◌then◌, ◌gives◌, leaves}
@@ -187,7 +187,7 @@ module _ (b : List ℕ) (c : Counts) (acc : validation b ≡ answer c) (z : ℕ)
       → nat_abs n ≤ 2147483647
   small k element corner h n e =
       let ok = accepted b acc in
-      let r = read_answers b ok z rest zone k element corner h (Corner.Number n) (read_case b ok z rest k element corner h (answer n) (sym e)) in
+      let r = read_answers b ok z rest zone k element corner h (Ok n) (read_case b ok z rest k element corner h (answer n) (sym e)) in
       elim (ℕ_discrete (element_type_of (tree_of b) (section_node (tree_of b) z k)) NFACE) [
         | yes q ↦ (let f = r.face-number q n refl in omega (arith, f.in_range_lem, range (in_zone b ok z rest f.which f.listed)))
         | no q ↦ (let g = r.node-number q n refl in rw g.number_is (omega (arith, g.to_vertex_size, vertex_size-small (in_zone b ok z rest k h) zone)))

@@ -4,7 +4,8 @@ use mathlib.Core.Path.{◌≡◌, refl, sym, ◌∙◌}
 use mathlib.Core.List.{List, [], ◌∷◌}
 use lib.IntN.{ℤ}
 use borrow.Author.Tests.{lt-ltb, le-ltb}
-use Rattle.model.specs.declared.Corner.{Corner}
+use Rattle.std.specs.Prelude.{Result, Ok, Err}
+use Rattle.model.specs.declared.Rejection.{Rejection}
 use Rattle.model.specs.Rules.{Answer, rejected, answer, rejection, check, ◌then◌}
 use Rattle.model.specs.Corner.{corner_answer}
 use Rattle.model.specs.Answers.{corner_tells}
@@ -24,15 +25,15 @@ unfolding read_answer check ◌then◌
 read_unlisted image entries k element corner h = rw (le-ltb k (entries_in entries) h)
 
 -- so the corner reader's contract gives the contract of a read with an entry of a list
-pub entry_read : {image entries image' entries' : List ℕ} {k element corner : ℕ} {r : Corner} → k < entries_in entries
+pub entry_read : {image entries image' entries' : List ℕ} {k element corner : ℕ} {r : Result ℤ Rejection} → k < entries_in entries
     → CornerRead image (section_at entries k) element corner r image' → entries' ≡ entries → EntryRead image entries k element corner r image' entries'
 entry_read {image} {entries} {k = k} {element = element} {corner = corner} h c e =
     record { answers = c.answers ∙ sym (read_listed image entries k element corner h); image-kept = c.image-kept; entries-kept = e }
 
 -- every answer is told by some case of the enum
-corner_of : Answer ℤ → Corner
-corner_of (rejected r) = Corner.Rejected r
-corner_of (answer n) = Corner.Number n
+corner_of : Answer ℤ → Result ℤ Rejection
+corner_of (rejected r) = Err r
+corner_of (answer n) = Ok n
 
 tells : (a : Answer ℤ) → corner_tells (corner_of a) ≡ a
 unfolding corner_of

@@ -3,10 +3,11 @@ use Prim.Native.Nat.{ℕ}
 use mathlib.Core.Path.{◌≡◌, refl, sym, ap, ◌∙◌}
 use mathlib.Core.Bool.{Bool, true, false}
 use mathlib.Core.List.{List, [], ◌∷◌, ◌++◌}
+use Rattle.std.proofs.lemmas.Result.{err_from_is_err_and}
+use Rattle.std.specs.Prelude.{Result, Ok, Err, IsErrAnd}
 use Rattle.model.specs.declared.Rejection.{Rejection}
-use Rattle.model.specs.declared.Stage.{Stage}
-use Rattle.model.specs.Rules.{rejected, rejection, Check, passed, Rule, ◌unless◌, check, ◌then◌}
-use Rattle.model.specs.Answers.{stage_tells, rejection_of}
+use Rattle.model.specs.Rules.{Answer, rejected, rejection, Check, passed, Rule, ◌unless◌, check, ◌then◌}
+use Rattle.model.specs.Answers.{tells, stage_tells}
 use Rattle.model.proofs.Passed.{then-on, then-off}
 
 -- the first rule is broken, or holds and the rest decides
@@ -39,22 +40,23 @@ check-append node [] ys = refl
 check-append node ((rule unless true) ∷ xs) ys = check-append node xs ys
 check-append node ((rule unless false) ∷ xs) ys = refl
 
--- a stage's answer s, where it is to tell the check a
-module _ {s : Stage} {a : Check} (e : stage_tells s ≡ a) where
-  pub passes : s ≡ Stage.Pass → a ≡ passed
+-- `?` hands a refusal on as it is
+pub handed : {T A : Type 0} (f : T → A) (r : Result T Rejection) {why : Rejection} {a : Answer A} → IsErrAnd r (λ y. y ≡ why) → a ≡ rejected why → tells f r ≡ a
+handed f r x e = let p = err_from_is_err_and r x in rw (p.1, p.2) (sym e)
+
+-- a call's answer s, where it tells the check a
+module _ {s : Result (Unit {0}) Rejection} {a : Check} (e : stage_tells s ≡ a) where
+  pub passes : s ≡ Ok tt → a ≡ passed
   passes q = sym e ∙ ap stage_tells q
 
-  pub refuses : {r : Rejection} → s ≡ Stage.Rejected r → a ≡ rejected r
+  pub refuses : {r : Rejection} → s ≡ Err r → a ≡ rejected r
   refuses q = sym e ∙ ap stage_tells q
 
-  -- it is the answer of the whole
-  pub stop : {r : Rejection} (rest : Check) → s ≡ Stage.Rejected r → stage_tells s ≡ (a then rest)
-  stop rest q = e ∙ refuses q ∙ sym (then-off rest (refuses q))
+  -- where `?` hands its refusal on, it is that of the whole
+  pub stop : {T A : Type 0} (f : T → A) (rest : Answer A) (r : Result T Rejection) {why : Rejection} → s ≡ Err why → IsErrAnd r (λ y. y ≡ why)
+      → tells f r ≡ (a then rest)
+  stop f rest r q x = handed f r x (then-off rest (refuses q))
 
   -- the rest is
-  pub go : {x rest : Check} → s ≡ Stage.Pass → x ≡ rest → x ≡ (a then rest)
-  go {x} {rest} q f = f ∙ sym (then-on rest (passes q))
-
-  -- where it did not pass, its rejection is the check's
-  pub rejects : {r : Rejection} → s ≡ Stage.Rejected r → a ≡ rejected (rejection_of s)
-  rejects q = sym e ∙ ap stage_tells q ∙ ap (λ x. rejected (rejection_of x)) (sym q)
+  pub go : {A : Type 0} {x rest : Answer A} → s ≡ Ok tt → x ≡ rest → x ≡ (a then rest)
+  go {rest = rest} q f = f ∙ sym (then-on rest (passes q))

@@ -1,19 +1,14 @@
--- For each case of an answer enum the documents' number and values. Contracts go through these definitions.
-use Rattle.std.specs.Prelude.{ℕ, ◌≡◌, Bool, true, false, ℤ}
+-- What a call's `Result` tells, in the documents' numbers and values. Contracts go through these definitions.
+use Rattle.std.specs.Prelude.{ℕ, ◌≡◌, Bool, true, false, ℤ, Result, Ok, Err}
 use Rattle.std.specs.Int.{w64}
 use Rattle.std.proofs.Common.{of_z}
 use Rattle.std.specs.Float.{binary32, binary64}
 use Rattle.std.specs.Float.Ieee.{is_nan, nan_bits, to_bits}
-use Rattle.model.specs.declared.Stage.{Stage}
 use Rattle.model.specs.declared.Table.{Table}
 use Rattle.model.specs.declared.Validation.{Validation}
-use Rattle.model.specs.declared.Count.{Count}
 use Rattle.model.specs.declared.DataSize.{DataSize}
-use Rattle.model.specs.declared.Corner.{Corner}
 use Rattle.model.specs.declared.ArrayValue.{ArrayValue}
-use Rattle.model.specs.declared.FaceUsage.{FaceUsage}
 use Rattle.model.specs.declared.ParentPair.{ParentPair}
-use Rattle.model.specs.declared.Agreement.{Agreement}
 use Rattle.model.specs.declared.Rejection.{Rejection}
 use Rattle.model.specs.Rules.{Answer, rejected, answer, rejection, Check, passed}
 use Rattle.model.specs.Records.{TableCounts}
@@ -22,70 +17,70 @@ use Rattle.model.specs.DataSize.{Sizes}
 use Rattle.model.specs.ArrayValue.{Value, whole, single, double}
 use Rattle.model.specs.ParentElements.{FaceParents}
 
-abbrev pub stage_tells : Stage → Check
-stage_tells Stage.Pass = passed
-stage_tells (Stage.Rejected r) = rejected r
+-- a refusal or its values; each value is told by f
+abbrev pub tells : {A B : Type 0} → (A → B) → Result A Rejection → Answer B
+tells f (Ok x) = answer (f x)
+tells f (Err r) = rejected r
 
--- why a stage did not pass; no rule where it did
-abbrev pub rejection_of : Stage → Rejection
-rejection_of Stage.Pass = rejection 0 0
-rejection_of (Stage.Rejected r) = r
+abbrev pub stage_tells : Result (Unit {0}) Rejection → Check
+stage_tells = tells (λ x. x)
 
-abbrev pub table_tells : Table → Answer TableCounts
-table_tells (Table.Sound n d x) = answer (record { nodes = n; dimensions = d; bytes = x })
-table_tells (Table.Rejected r) = rejected r
+abbrev pub table_tells : Result Table Rejection → Answer TableCounts
+table_tells = tells (λ t. record { nodes = t.nodes; dimensions = t.dimensions; bytes = t.bytes })
 
-abbrev pub validation_tells : Validation → Answer Counts
-validation_tells (Validation.Accepted v s z e) = answer (record { validated = v; skipped = s; zones = z; sections = e })
-validation_tells (Validation.Rejected r) = rejected r
+abbrev pub validation_tells : Result Validation Rejection → Answer Counts
+validation_tells = tells (λ v. record { validated = v.validated; skipped = v.skipped; zones = v.zones; sections = v.sections })
 
-abbrev pub count_tells : Count → Answer ℕ
-count_tells (Count.Of n) = answer n
-count_tells (Count.Rejected r) = rejected r
+abbrev pub count_tells : Result ℕ Rejection → Answer ℕ
+count_tells = tells (λ n. n)
 
-abbrev pub data_size_tells : DataSize → Answer Sizes
-data_size_tells (DataSize.Sizes n i j k) = answer (record { directions = n; i = i; j = j; k = k })
-data_size_tells (DataSize.Rejected r) = rejected r
+abbrev pub data_size_tells : Result DataSize Rejection → Answer Sizes
+data_size_tells = tells (λ d. record { directions = d.directions; i = d.i; j = d.j; k = d.k })
 
-abbrev pub corner_tells : Corner → Answer ℤ
-corner_tells (Corner.Number n) = answer n
-corner_tells (Corner.Rejected r) = rejected r
+abbrev pub corner_tells : Result ℤ Rejection → Answer ℤ
+corner_tells = tells (λ n. n)
 
 -- a single and a double by their bits, a NaN's too
-abbrev pub value_tells : ArrayValue → Answer Value
-value_tells (ArrayValue.Whole n) = answer (whole n)
-value_tells (ArrayValue.Single x) = answer (single (to_bits binary32 x))
-value_tells (ArrayValue.Double x) = answer (double (to_bits binary64 x))
-value_tells (ArrayValue.SingleNan bits) = answer (single bits)
-value_tells (ArrayValue.DoubleNan bits) = answer (double bits)
-value_tells (ArrayValue.Rejected r) = rejected r
+abbrev pub value_of : ArrayValue → Value
+value_of (ArrayValue.Whole n) = whole n
+value_of (ArrayValue.Single x) = single (to_bits binary32 x)
+value_of (ArrayValue.Double x) = double (to_bits binary64 x)
+value_of (ArrayValue.SingleNan bits) = single bits
+value_of (ArrayValue.DoubleNan bits) = double bits
+
+abbrev pub value_tells : Result ArrayValue Rejection → Answer Value
+value_tells = tells value_of
 
 -- the two NaN cases are for NaNs, and the others for no NaN
-abbrev pub NanCases : ArrayValue → Type 0
-NanCases (ArrayValue.Whole n) = Unit {0}
-NanCases (ArrayValue.Single x) = is_nan x ≡ false
-NanCases (ArrayValue.Double x) = is_nan x ≡ false
-NanCases (ArrayValue.SingleNan bits) = nan_bits binary32 bits ≡ true
-NanCases (ArrayValue.DoubleNan bits) = nan_bits binary64 bits ≡ true
-NanCases (ArrayValue.Rejected r) = Unit {0}
+abbrev pub NanCase : ArrayValue → Type 0
+NanCase (ArrayValue.Whole n) = Unit {0}
+NanCase (ArrayValue.Single x) = is_nan x ≡ false
+NanCase (ArrayValue.Double x) = is_nan x ≡ false
+NanCase (ArrayValue.SingleNan bits) = nan_bits binary32 bits ≡ true
+NanCase (ArrayValue.DoubleNan bits) = nan_bits binary64 bits ≡ true
 
--- the bits of a value, a whole number's at 64 bits; 0 for a refusal
-abbrev pub bits_of : ArrayValue → ℕ
-bits_of (ArrayValue.Whole n) = of_z w64 n
-bits_of (ArrayValue.Single x) = to_bits binary32 x
-bits_of (ArrayValue.Double x) = to_bits binary64 x
-bits_of (ArrayValue.SingleNan bits) = bits
-bits_of (ArrayValue.DoubleNan bits) = bits
-bits_of (ArrayValue.Rejected r) = 0
+abbrev pub NanCases : Result ArrayValue Rejection → Type 0
+NanCases (Ok v) = NanCase v
+NanCases (Err r) = Unit {0}
 
-abbrev pub usage_tells : FaceUsage → Answer ℕ
-usage_tells (FaceUsage.Faces n) = answer n
-usage_tells (FaceUsage.Rejected r) = rejected r
+-- the bits of a value, a whole number's at 64 bits
+abbrev pub bits_of_value : ArrayValue → ℕ
+bits_of_value (ArrayValue.Whole n) = of_z w64 n
+bits_of_value (ArrayValue.Single x) = to_bits binary32 x
+bits_of_value (ArrayValue.Double x) = to_bits binary64 x
+bits_of_value (ArrayValue.SingleNan bits) = bits
+bits_of_value (ArrayValue.DoubleNan bits) = bits
 
-abbrev pub parents_tells : ParentPair → Answer FaceParents
-parents_tells (ParentPair.Of p q) = answer (record { first = p; second = q })
-parents_tells (ParentPair.Rejected r) = rejected r
+-- 0 for a refusal
+abbrev pub bits_of : Result ArrayValue Rejection → ℕ
+bits_of (Ok v) = bits_of_value v
+bits_of (Err r) = 0
 
-abbrev pub agreement_tells : Agreement → Answer Bool
-agreement_tells (Agreement.Agrees y) = answer y
-agreement_tells (Agreement.Rejected r) = rejected r
+abbrev pub usage_tells : Result ℕ Rejection → Answer ℕ
+usage_tells = tells (λ n. n)
+
+abbrev pub parents_tells : Result ParentPair Rejection → Answer FaceParents
+parents_tells = tells (λ p. record { first = p.first; second = p.second })
+
+abbrev pub agreement_tells : Result Bool Rejection → Answer Bool
+agreement_tells = tells (λ y. y)

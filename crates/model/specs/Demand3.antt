@@ -1,8 +1,7 @@
 -- Demand 3: what an acceptance buys. One claim about every list of corner reads with a zone's section entries.
 -- The image decides: the right sides speak of its nodes, by the definitions of the element rules, never of an entry's fields.
-use Rattle.std.specs.Prelude.{ℕ, suc, ◌+◌, ◌*◌, ◌-◌, ◌≤◌, ◌<◌, ◌≡◌, true, List, ◌++◌, ◌↔◌, length, get_or, drop, ℤ, pos, nat_abs}
+use Rattle.std.specs.Prelude.{ℕ, suc, ◌+◌, ◌*◌, ◌-◌, ◌≤◌, ◌<◌, ◌≡◌, true, List, ◌++◌, ◌↔◌, length, get_or, drop, ℤ, pos, nat_abs, Result}
 use Rattle.model.specs.declared.Rejection.{Rejection}
-use Rattle.model.specs.declared.Corner.{Corner}
 use Rattle.model.specs.Lists.{count_from}
 use Rattle.model.specs.Bytes.{signed}
 use Rattle.model.specs.Rules.{rejected, answer, rejection}
@@ -105,7 +104,7 @@ module _ (b : List ℕ) (z : ℕ) (rest : List ℕ) where
         → (m.left ≡ given b z rest) × (corner_tells m.answered ≡ answer (stored_at (tree_of b) z which f c))
 
   -- what a read with the k-th entry answers
-  pub record ReadAnswers (k element corner : ℕ) (r : Corner) : Type 0 where
+  pub record ReadAnswers (k element corner : ℕ) (r : Result ℤ Rejection) : Type 0 where
     -- "meets 41 exactly when the element number is outside the range of the entry's section"
     pub meets_41 : (corner_tells r ≡ rejected (rejection 41 0)) ↔ (InSection (tree_of b) z k element → ⊥)
     -- "and 42 exactly when it is inside and the corner is outside 1 to that element's size"

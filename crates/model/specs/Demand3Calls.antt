@@ -1,8 +1,7 @@
 -- Demand 3 reaches the calls that ship: section entries as structs, all corners of an element at once, an element's own type, and the exports for C.
-use Rattle.std.specs.Prelude.{ℕ, ◌*◌, ◌-◌, ◌≤◌, ◌<◌, ◌≡◌, List, [], ◌∷◌, ◌↔◌, length, get_or, take, drop, ℤ, pos}
+use Rattle.std.specs.Prelude.{ℕ, ◌*◌, ◌-◌, ◌≤◌, ◌<◌, ◌≡◌, List, [], ◌∷◌, ◌↔◌, length, get_or, take, drop, ℤ, pos, Result}
 use Rattle.model.specs.declared.Rejection.{Rejection}
 use Rattle.model.specs.declared.Section.{Section}
-use Rattle.model.specs.declared.Corner.{Corner}
 use Rattle.model.specs.Bytes.{le, numbers, signed}
 use Rattle.model.specs.Rules.{Answer, rejected, answer, rejection}
 use Rattle.model.specs.Image.{tree_of}
@@ -19,7 +18,7 @@ pub record StructsGiven (b : List ℕ) (z : ℕ) (out : List Section) (n : ℕ) 
   pub count-is : n ≡ section_count (tree_of b) z
   pub each_struct : (k : ℕ) → k < section_count (tree_of b) z → (none : Section) (rest : List ℕ)
       → get_or (sections_memory b z out) k none ≡ section_at (given b z rest).entries k
-  pub is_read : (k : ℕ) → k < section_count (tree_of b) z → (none : Section) (rest : List ℕ) (element corner : ℕ) (r : Corner) (b' : List ℕ)
+  pub is_read : (k : ℕ) → k < section_count (tree_of b) z → (none : Section) (rest : List ℕ) (element corner : ℕ) (r : Result ℤ Rejection) (b' : List ℕ)
       → CornerRead b (get_or (sections_memory b z out) k none) element corner r b'
       → IsRead
       (record {

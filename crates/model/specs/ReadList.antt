@@ -1,7 +1,6 @@
 -- A list of corner reads into lent lists of answers: what demand 3 speaks of, as a call.
-use Rattle.std.specs.Prelude.{ℕ, zero, suc, ◌+◌, ◌*◌, ◌/◌, ◌≡◌, cond, ◌&&◌, List, [], ◌∷◌, length, get_or, eqb, leb, ℤ, pos}
-use Rattle.model.specs.declared.Count.{Count}
-use Rattle.model.specs.declared.Corner.{Corner}
+use Rattle.std.specs.Prelude.{ℕ, zero, suc, ◌+◌, ◌*◌, ◌/◌, ◌≡◌, cond, ◌&&◌, List, [], ◌∷◌, length, get_or, eqb, leb, ℤ, pos, Result, Ok, Err}
+use Rattle.model.specs.declared.Rejection.{Rejection}
 use Rattle.model.specs.Lists.{over}
 use Rattle.model.specs.Rules.{◌unless◌, Answer, rejected, answer, rejection, Check, check, ◌gives◌, leaves}
 use Rattle.model.specs.Answers.{count_tells}
@@ -37,8 +36,8 @@ number_of (rejected r) = pos 0
 number_of (answer n) = n
 
 -- the answer that two such numbers tell
-abbrev pub corner_from : ℕ → ℤ → Corner
-corner_from rule number = cond (eqb rule 0) (Corner.Number number) (Corner.Rejected (rejection rule 0))
+abbrev pub corner_from : ℕ → ℤ → Result ℤ Rejection
+corner_from rule number = cond (eqb rule 0) (Ok number) (Err (rejection rule 0))
 
 -- the values of k numbers from i on
 unfoldable pub values_from : {A : Type 0} → (ℕ → A) → ℕ → ℕ → List A
@@ -50,7 +49,7 @@ unfoldable pub reads_check : List ℕ → ℕ → ℕ → Check
 reads_check reads numbers rules = check 0 (46 unless (leb (requests_in reads) numbers && leb (requests_in reads) rules) ∷ [])
 
 -- the runner's contract: what it finds, what it answers, what it leaves. Answers stand in front, the rest is as it was; a refusal writes nothing.
-pub record ReadsAnswered (image entries reads : List ℕ) (numbers : List ℤ) (rules : List ℕ) (r : Count)
+pub record ReadsAnswered (image entries reads : List ℕ) (numbers : List ℤ) (rules : List ℕ) (r : Result ℕ Rejection)
     (image' entries' : List ℕ) (numbers' : List ℤ) (rules' : List ℕ) : Type 0 where
   pub answers : count_tells r ≡ (reads_check reads (length numbers) (length rules) gives requests_in reads)
   pub image-kept : image' ≡ image

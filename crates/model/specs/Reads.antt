@@ -1,14 +1,14 @@
 -- Corner reads: the contract of one read, on every input, and runs of a list of reads, one after the other.
-use Rattle.std.specs.Prelude.{ℕ, ◌+◌, ◌*◌, ◌/◌, ◌≡◌, List, [], ◌∷◌, length, get_or, ltb, ℤ}
+use Rattle.std.specs.Prelude.{ℕ, ◌+◌, ◌*◌, ◌/◌, ◌≡◌, List, [], ◌∷◌, length, get_or, ltb, ℤ, Result}
 use Rattle.model.specs.declared.Section.{Section}
-use Rattle.model.specs.declared.Corner.{Corner}
+use Rattle.model.specs.declared.Rejection.{Rejection}
 use Rattle.model.specs.Rules.{◌unless◌, Answer, check, ◌then◌}
 use Rattle.model.specs.Sections.{entry_length}
 use Rattle.model.specs.Corner.{corner_answer}
 use Rattle.model.specs.Answers.{corner_tells}
 
 -- the corner reader's contract: the image and the entry that it finds, the element and the corner, its answer, the image that it leaves
-pub record CornerRead (image : List ℕ) (e : Section) (element corner : ℕ) (r : Corner) (image' : List ℕ) : Type 0 where
+pub record CornerRead (image : List ℕ) (e : Section) (element corner : ℕ) (r : Result ℤ Rejection) (image' : List ℕ) : Type 0 where
   pub answers : corner_tells r ≡ corner_answer image e element corner
   pub image-kept : image' ≡ image
 
@@ -38,7 +38,7 @@ read_answer image entries k element corner =
     check 0 (40 unless ltb k (entries_in entries) ∷ []) then corner_answer image (section_at entries k) element corner
 
 -- its contract: the image and the entries that it finds, what it is asked, its answer, the image and the entries that it leaves
-pub record EntryRead (image entries : List ℕ) (k element corner : ℕ) (r : Corner) (image' entries' : List ℕ) : Type 0 where
+pub record EntryRead (image entries : List ℕ) (k element corner : ℕ) (r : Result ℤ Rejection) (image' entries' : List ℕ) : Type 0 where
   pub answers : corner_tells r ≡ read_answer image entries k element corner
   pub image-kept : image' ≡ image
   pub entries-kept : entries' ≡ entries
@@ -58,7 +58,7 @@ pub record Request : Type 0 where
 pub record ReadMade : Type 0 where
   pub found : ReadState
   pub asked : Request
-  pub answered : Corner
+  pub answered : Result ℤ Rejection
   pub left : ReadState
 
 -- it meets the contract of the call

@@ -1,9 +1,10 @@
-// The types that contracts name: a rejection, the answer of each call, a section. What they mean stands in specs/.
+// The types that contracts name: a rejection, what calls answer, a section. What they mean stands in specs/. A call answers a `Result` whose error is a
+// `Rejection`.
 #![tactic(auto)]
 
 ghost use Rattle.std.specs.Prelude.{◌≡◌};
-ghost use Rattle.model.specs.Rules.{rejection, rejection_at, repetition};
-ghost use Rattle.model.specs.Answers.{rejection_of};
+ghost use Rattle.model.specs.Rules.{rejected, rejection, rejection_at, repetition};
+ghost use Rattle.model.specs.Answers.{stage_tells};
 
 // Why a call is refused: the rule's number, the node (0 where the rule names none), for rules 34 to 37 alone the place of the entry in the connectivity,
 // counted from 1, and for rule 45 alone the element.
@@ -53,72 +54,37 @@ impl Rejection {
     }
 }
 
-// One stage of validation.
-#[derive(Clone, Copy)]
-pub enum Stage {
-    Pass,
-    Rejected(Rejection),
-}
-
-impl Stage {
-    // Why a stage did not pass; no rule where it did.
-    pub fn rejection(self) -> Rejection
-        ensures { result ≡ rejection_of self }
-    {
-        match self {
-            Stage::Rejected(r) => r,
-            Stage::Pass => Rejection::at(0, 0),
-        }
-    }
+// The answer of a check that a rule ends.
+pub fn reject(rule: u64, node: usize) -> Result<(), Rejection>
+    ensures { stage_tells result ≡ rejected (rejection rule node) }
+{
+    Err(Rejection::at(rule, node as u64))
 }
 
 // Rules 1 to 18: the table's counts.
 #[derive(Clone, Copy)]
-pub enum Table {
-    Sound {
-        nodes: u64,
-        dimensions: u64,
-        bytes: u64,
-    },
-    Rejected(Rejection),
+pub struct Table {
+    pub nodes: u64,
+    pub dimensions: u64,
+    pub bytes: u64,
 }
 
 // Validation of an image: the four counts of an acceptance.
 #[derive(Clone, Copy)]
-pub enum Validation {
-    Accepted {
-        validated: u64,
-        skipped: u64,
-        zones: u64,
-        sections: u64,
-    },
-    Rejected(Rejection),
-}
-
-// One number: a path's length in bytes, the section entries written, the corners of an element, an element's own type, the name bytes compared.
-#[derive(Clone, Copy)]
-pub enum Count {
-    Of(u64),
-    Rejected(Rejection),
+pub struct Validation {
+    pub validated: u64,
+    pub skipped: u64,
+    pub zones: u64,
+    pub sections: u64,
 }
 
 // The DataSize of an array in the directions i, j, k; a direction that the array lacks is 0.
 #[derive(Clone, Copy)]
-pub enum DataSize {
-    Sizes {
-        directions: u64,
-        i: u64,
-        j: u64,
-        k: u64,
-    },
-    Rejected(Rejection),
-}
-
-// The number stored at an element's corner: a node number, or a signed face number.
-#[derive(Clone, Copy)]
-pub enum Corner {
-    Number(i64),
-    Rejected(Rejection),
+pub struct DataSize {
+    pub directions: u64,
+    pub i: u64,
+    pub j: u64,
+    pub k: u64,
 }
 
 // A stored value, its bits unchanged. A NaN has cases of its own, which carry its bits.
@@ -129,28 +95,13 @@ pub enum ArrayValue {
     Double(f64),
     SingleNan(u32),
     DoubleNan(u64),
-    Rejected(Rejection),
-}
-
-// Face usage: how many faces the zone has.
-#[derive(Clone, Copy)]
-pub enum FaceUsage {
-    Faces(u64),
-    Rejected(Rejection),
 }
 
 // The two parents of a face, as its section stores them; the second is 0 where there is none.
 #[derive(Clone, Copy)]
-pub enum ParentPair {
-    Of { first: u64, second: u64 },
-    Rejected(Rejection),
-}
-
-// Whether the parents that a zone's face sections store agree with its cells.
-#[derive(Clone, Copy)]
-pub enum Agreement {
-    Agrees(bool),
-    Rejected(Rejection),
+pub struct ParentPair {
+    pub first: u64,
+    pub second: u64,
 }
 
 // A section entry: where a section's elements stand in the image, and the parents of its faces. Places count from the image's start; 0 with width 0 where

@@ -47,11 +47,9 @@ fn node_at(order: &[u16], count: usize, k: usize) -> usize
 fn put_places(count: usize, order: &mut [u16])
     requires { (count ≤ 4096) × (16384 ≤ length order.old) }
 {
-    let mut k: usize = 0;
-    while k < count {
+    for k in 0..count {
         let i = node_at(order, count, k);
         order[PLACES + i] = k as u16;
-        k += 1;
     }
 }
 
@@ -78,14 +76,7 @@ fn is_ordered(table: &[u8], count: usize, order: &[u16]) -> bool
     requires { HasNodes table.now count × (16384 ≤ length order.now) }
     ensures { result ≡ ordered (all_records table.now) order.now count }
 {
-    let mut i: usize = 0;
-    while i < count {
-        if !is_right_at(table, count, order, i) {
-            return false;
-        }
-        i += 1;
-    }
-    true
+    (0..count).all(|i| is_right_at(table, count, order, i))
 }
 
 // Whether the node before node i in the order is its namesake.
@@ -107,14 +98,7 @@ fn is_taken_before(table: &[u8], i: usize) -> bool
     ensures { result ≡ name_taken (all_records table.now) i }
 {
     let up = nodes::parent_of(table, i);
-    let mut j: usize = 0;
-    while j < i {
-        if texts::is_namesake(table, i, up, j) {
-            return true;
-        }
-        j += 1;
-    }
-    false
+    (0..i).any(|j| texts::is_namesake(table, i, up, j))
 }
 
 // The same, by the order where it holds.
@@ -135,14 +119,9 @@ fn first_by(table: &[u8], count: usize, order: &[u16]) -> usize
     ensures { result ≡ seek_from (name_taken (all_records table.now)) count 0 }
 {
     let holds = is_ordered(table, count, order);
-    let mut i: usize = 0;
-    while i < count {
-        if is_taken(table, count, order, holds, i) {
-            return i;
-        }
-        i += 1;
-    }
-    i
+    (0..count)
+        .find(|i| is_taken(table, count, order, holds, *i))
+        .unwrap_or(count)
 }
 
 // The first node with the name of an earlier sibling; count where there is none. The lent table is overwritten, whatever it holds.

@@ -59,18 +59,9 @@ fn merge(table: &[u8], count: usize, order: &mut [u16], runs: Runs, start: usize
     requires { (HasNodes table.now count × (0 < count)) × ((16384 ≤ length order.old) × InHalves runs) }
 {
     let mut a = start;
-    let mut k = start;
-    while k < runs.end {
+    for k in start..runs.end {
         a = put_next(table, count, order, runs, a, k);
-        k += 1;
     }
-}
-
-// The lower of two numbers.
-fn least(x: usize, y: usize) -> usize
-    ensures { result ≤ y }
-{
-    if x < y { x } else { y }
 }
 
 // Merges each two neighbouring runs of `width` nodes.
@@ -78,12 +69,10 @@ fn merge_all(table: &[u8], count: usize, order: &mut [u16], from: usize, to: usi
     requires has_nodes { HasNodes table.now count × (16384 ≤ length order.old) }
     requires from_bound { ((from ≤ 4096) × (to ≤ 4096)) × ((0 < width) × (width ≤ 8192)) }
 {
-    let mut start: usize = 0;
-    while start < count {
-        let mid = least(start + width, count);
-        let end = least(start + 2 * width, count);
+    for start in (0..count).step_by(2 * width) {
+        let mid = count.min(start + width);
+        let end = count.min(start + 2 * width);
         merge(table, count, order, Runs { from, to, mid, end }, start);
-        start += 2 * width;
     }
 }
 
@@ -91,10 +80,8 @@ fn merge_all(table: &[u8], count: usize, order: &mut [u16], from: usize, to: usi
 fn number_all(count: usize, order: &mut [u16])
     requires { (count ≤ 4096) × (16384 ≤ length order.old) }
 {
-    let mut k: usize = 0;
-    while k < count {
-        order[k] = k as u16;
-        k += 1;
+    for (k, place) in order[..count].iter_mut().enumerate() {
+        *place = k as u16;
     }
 }
 

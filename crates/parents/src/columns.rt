@@ -27,15 +27,12 @@ fn first_unknown(image: &[u8], row: Row, k: usize, interval: Interval, none: boo
     ensures passed { Passed (known_at image.now row interval none) row.n k result }
     ensures result_value { result < row.n → known_at image.now row interval none result ≡ false }
 {
-    let n = row.n;
-    let mut j = k;
-    while j < n {
+    for j in k..row.n {
         if !is_known(interval, none, rows::number_at(image, row, j)) {
             return j;
         }
-        j += 1;
     }
-    j
+    row.n
 }
 
 // The numbers of zone z around x that one of n entries holds; none where x is in no range or above 2,147,483,647.
@@ -66,6 +63,7 @@ pub fn are_cells(
 {
     let n = row.n;
     let mut k = first_unknown(image, row, 0, Interval { low: 0, size: 0 }, none);
+    // `while`: each round goes on behind the numbers that the last interval held
     while k < n {
         let x = rows::number_at(image, row, k);
         let known = interval_of(firsts, reach, cells, z, x);

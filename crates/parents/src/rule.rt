@@ -112,14 +112,12 @@ fn first_stored(image: &[u8], index: &[u16]) -> usize
     ensures { result ≡ seek_from (stores_parents (tree_of image.now)) (node_count image.now) 0 }
 {
     let nodes = labels::node_count(image);
-    let mut i: usize = 0;
-    while i < nodes {
+    for i in 0..nodes {
         if parents_if(image, index, i) < nodes {
             return i;
         }
-        i += 1;
     }
-    i
+    nodes
 }
 
 // The first node that breaks rule 39, where none before node `start` stores parents; the node count where there is none.
@@ -136,14 +134,12 @@ fn first_broken_from(
     ensures { result ≡ seek_from (parents_broken (tree_of image.now)) (node_count image.now) 0 }
 {
     let nodes = labels::node_count(image);
-    let mut i = start;
-    while i < nodes {
+    for i in start..nodes {
         if is_broken(image, index, i, firsts, reach, cells) {
             return i;
         }
-        i += 1;
     }
-    i
+    nodes
 }
 
 // The first node that breaks rule 39; the node count where there is none. Where no section stores parents the tables are left as they are.

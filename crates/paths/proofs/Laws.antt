@@ -53,10 +53,6 @@ module _ (b : List ℕ) (at k : ℕ) (h : 0 < k) (l : at + k ≤ length b) where
   pub trim_drop : get_or b (at + (k - 1)) 0 ≡ 32 → trimmed (take (k - 1) (drop at b)) ≡ trimmed (take k (drop at b))
   trim_drop e = rw (last b at k h l, e) (sym (trimmed-blank (take (k - 1) (drop at b))))
 
-pub trim_end : (b : List ℕ) (at k : ℕ) → k ≤ 0 → trimmed (take k (drop at b)) ≡ take k (drop at b)
-unfolding trimmed
-trim_end b at k h = let e : k ≡ 0 = omega arith in rw e
-
 -- the name of node i is n bytes of its record
 module _ (b : List ℕ) (i n : ℕ) (e : trimmed (name (tree_of b) i) ≡ take n (drop (record_at i) b)) (h : record_at i + n ≤ length b) where
   took : length (take n (drop (record_at i) b)) ≡ n

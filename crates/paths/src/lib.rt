@@ -10,7 +10,7 @@ ghost use Rattle.model.specs.Bounds.{Laid};
 ghost use Rattle.model.specs.Given.{Sound};
 ghost use Rattle.paths.specs.Names.{step_of, names_of};
 
-use model::{Count, Rejection, Stage};
+use model::Rejection;
 use records::{Header, Record};
 
 // The length of the 32 bytes from `at` without the blanks at their end.
@@ -18,14 +18,12 @@ fn text_length(image: &[u8], at: usize) -> usize
     requires { at + 32 ≤ length image.now }
     ensures { (trimmed (take 32 (drop at image.now)) ≡ take result (drop at image.now)) × (result ≤ 32) }
 {
-    let mut k: usize = 32;
-    while 0 < k {
-        if words::byte_at(image, at + (k - 1)) != 32 {
-            return k;
+    for k in (0..Record::TEXT_SIZE).rev() {
+        if image[at + k] != b' ' {
+            return k + 1;
         }
-        k -= 1;
     }
-    k
+    0
 }
 
 // The length of the name of node i.
@@ -44,7 +42,7 @@ fn write_name(image: &[u8], i: usize, out: &mut [u8], k: usize) -> usize
 {
     let p = Record::at(i);
     let n = name_length(image, i);
-    out[k] = 47;
+    out[k] = b'/';
     words::put_bytes(out, k + 1, &image[p..p + n]);
     k + 1 + n
 }
@@ -94,40 +92,37 @@ fn write_path(image: &[u8], i: usize, out: &mut [u8])
     ensures { out.new ≡ over out.old (path_of (tree_of image.now) i) }
 {
     if i == 0 {
-        out[0] = 47;
+        out[0] = b'/';
         return;
     }
     write_names(image, i, out);
 }
 
 // The path of a node of an image in which rules 1 to 18 hold: rule 40, then 46, then the path in front of `out` and its length.
-fn sound_path(image: &[u8], node: u64, out: &mut [u8]) -> Count
+fn sound_path(image: &[u8], node: u64, out: &mut [u8]) -> Result<u64, Rejection>
     requires { Sound image.now }
     ensures { (count_tells result ≡ path_answer image.now node (length out.old))
         × (out.new ≡ path_memory image.now node out.old) }
 {
     let count = words::u32_at(image, Header::NODE_COUNT);
     if count <= node {
-        return Count::Rejected(Rejection::at(40, 0));
+        return Err(Rejection::at(40, 0));
     }
     let i = node as usize;
     let n = path_length(image, i);
     if out.len() < n {
-        return Count::Rejected(Rejection::at(46, 0));
+        return Err(Rejection::at(46, 0));
     }
     write_path(image, i, out);
-    Count::Of(n as u64)
+    Ok(n as u64)
 }
 
 // The path of a node: rules 1 to 18, then 40, then 46; the path is written in front of `out`, its length answered, and the bytes beyond it stay.
 // A rejection leaves `out` as it was.
-pub fn path(image: &[u8], node: u64, out: &mut [u8]) -> Count
+pub fn path(image: &[u8], node: u64, out: &mut [u8]) -> Result<u64, Rejection>
     ensures { (count_tells result ≡ path_answer image.now node (length out.old))
         × (out.new ≡ path_memory image.now node out.old) }
 {
-    let stage = table::table_stage(image);
-    let Stage::Pass = stage else {
-        return Count::Rejected(stage.rejection());
-    };
+    table::table_stage(image)?;
     sound_path(image, node, out)
 }

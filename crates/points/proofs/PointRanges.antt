@@ -4,7 +4,7 @@ use mathlib.Core.Path.{◌≡◌, refl, sym, ap, ◌∙◌}
 use mathlib.Core.Bool.{Bool, true, false, cond, not, ◌&&◌, ◌||◌}
 use mathlib.Core.List.{List, [], ◌∷◌}
 use native.Mathlib.Omega.{arith}
-use native.Mathlib.Nat.{one-mul, mul-one, mul-pos, mul_assoc, mul-le-mul_left, le-div_iff_mul-le, div-lt_iff_lt-mul}
+use native.Mathlib.Nat.{one-mul, mul-one, mul-pos, mul_assoc, mul-le-mul_left, div-lt_iff_lt-mul}
 use lib.Dec.{eqb, leb, ltb}
 use borrow.Author.Tests.{leb-true, leb-false, ltb-false, le-leb, le-ltb, lt-leb, ne_eqb, not-true}
 use Rattle.model.specs.Lists.{row}
@@ -174,10 +174,6 @@ module _ (t : Tree) (i n d p : ℕ) (h : ProductTo t i n d p) where
 
   pub product_more : {k : ℕ} → d < n → k ≡ points_in t i d → ProductTo t i n (d + 1) (p * k)
   product_more l e = rw e (step l)
-
-  pub product-room : {k size : ℕ} → k ≡ points_in t i d → p ≤ size / k → p * k ≤ size
-  unfolding points_in
-  product-room {k} e l = (le-div_iff_mul-le {k = k} {x = p} (omega arith)).0 l
 
   pub product_stop : (size : ℕ) {k : ℕ} → d < n → k ≡ points_in t i d → size / k < p → false ≡ eqb size (points t i)
   unfolding points_in

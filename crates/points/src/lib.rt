@@ -66,12 +66,10 @@ fn point_range_value(image: &[u8], index: &[u16], i: usize) -> bool
     ensures { result ≡ point_range_value (tree_of image.now) i }
 {
     let n = types::dimension_above(image, index, i) as usize;
-    let mut d = 0;
-    while d < n {
+    for d in 0..n {
         if points_in(image, i, n, d) == 0 {
             return false;
         }
-        d += 1;
     }
     true
 }
@@ -110,14 +108,12 @@ pub fn has_points(image: &[u8], index: &[u16], i: usize, size: u64) -> bool
 {
     let n = types::dimension_above(image, index, i) as usize;
     let mut product: u64 = 1;
-    let mut d = 0;
-    while d < n {
+    for d in 0..n {
         let k = points_in(image, i, n, d);
         if size / k < product {
             return false;
         }
-        product = product * k;
-        d += 1;
+        product *= k;
     }
     size == product
 }

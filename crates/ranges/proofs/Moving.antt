@@ -9,47 +9,11 @@ pub entry-before : (s : List ℕ) (k : ℕ) → (k ≡ 0 → ⊥) → get_or (0 
 entry-before s zero z = absurd (z refl)
 entry-before s (suc k) z = let e : suc k - 1 ≡ k = omega arith in rw e
 
--- the entries from k to n stand one higher, and those up to k as they were
-pub record Moved (old new : List ℕ) (n k : ℕ) : Type 0 where
-  pub long : length new ≡ length old
-  pub up_to : (i : ℕ) → i ≤ k → get_or new i 0 ≡ get_or old i 0
-  pub above : (i : ℕ) → k ≤ i → i < n → get_or new (suc i) 0 ≡ get_or old i 0
-
-pub moved_start : (s : List ℕ) (n : ℕ) → Moved s s n n
-moved_start s n = omega arith
-
-module _ {old new : List ℕ} {n k : ℕ} (m : Moved old new n k) (h : k < length new) where
-  -- entry k takes the one before it
-  pub moved_more : 0 < k → Moved old (set new k (get_or new (k - 1) 0)) n (k - 1)
-  moved_more z =
-      let x = get_or new (k - 1) 0 in
-      let s : suc (k - 1) ≡ k = omega arith in
-      record {
-        long = length-set new k x ∙ m.long;
-        up_to = λ i l. get_or-set_other new k i x 0 (omega arith) ∙ m.up_to i (omega arith);
-        above = λ i l u. elim (ℕ_discrete i (k - 1)) [
-          | yes e ↦ rw (e, s) (get_or-set_same new k x 0 h ∙ m.up_to (k - 1) (omega arith))
-          | no d ↦ get_or-set_other new k (suc i) x 0 (omega arith) ∙ m.above i (omega arith) u
-        ];
-      }
-
-  -- x is put there
-  pub moved_put : (x : ℕ) → Placed x old (set new k x) n k
-  moved_put x =
-      record {
-        before = λ i l. get_or-set_other new k i x 0 (omega arith) ∙ m.up_to i (omega arith);
-        here = get_or-set_same new k x 0 h;
-        after = λ i l u. get_or-set_other new k (suc i) x 0 (omega arith) ∙ m.above i l u;
-      }
-
 -- the entries from a place to k are raised, the others as they were
 pub record RaisedTo (least : ℕ) (old new : List ℕ) (place k : ℕ) : Type 0 where
   pub long : length new ≡ length old
   pub raised : Raised least old new k place
   pub from : (i : ℕ) → k ≤ i → get_or new i 0 ≡ get_or old i 0
-
-pub raised_start : (least : ℕ) (s : List ℕ) (place : ℕ) → RaisedTo least s s place place
-raised_start least s place = omega arith
 
 module _ {least : ℕ} {old new : List ℕ} {place k : ℕ} (m : RaisedTo least old new place k) (p : place ≤ k) where
   pub raised_more : k < length new → get_or new k 0 < least → RaisedTo least old (set new k least) place (k + 1)

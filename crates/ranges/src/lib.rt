@@ -41,13 +41,11 @@ fn raise(table: &mut [u64], n: usize, place: usize, least: u64)
     requires { (n ≤ length table.old) × ((i : ℕ) → place ≤ i → suc i < n → slice_index table.old i ≤ slice_index table.old (suc i)) }
     ensures { Raised least table.old table.new n place }
 {
-    let mut k = place;
-    while k < n {
+    for k in place..n {
         if least <= table[k] {
             return;
         }
         table[k] = least;
-        k += 1;
     }
 }
 
@@ -56,12 +54,8 @@ pub fn put(table: &mut [u64], n: usize, place: usize, x: u64)
     requires { (place ≤ n) × (n < length table.old) }
     ensures { Placed x table.old table.new n place }
 {
-    let mut k = n;
-    while place < k {
-        table[k] = table[k - 1];
-        k -= 1;
-    }
-    table[k] = x;
+    table.copy_within(place..n, place + 1);
+    table[place] = x;
 }
 
 // 1 where x is no greater than y, else 0: the carry of a difference, since a branch on numbers in no order is foreseen half of the time.

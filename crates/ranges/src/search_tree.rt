@@ -64,13 +64,10 @@ fn number_of(firsts: &[u64], j: u64, to: usize) -> u32
 fn fill_level(firsts: &[u64], from: usize, to: usize, first: usize, step: usize, levels: &mut [u32])
     requires { ((to ≤ length firsts.now) × (from ≤ 2048)) × ((step ≤ 1024) × (2 * first ≤ length levels.old)) }
 {
-    let end = 2 * first;
     let mut j = (from + step) as u64;
-    let mut p = first;
-    while p < end {
-        levels[p] = number_of(firsts, j, to);
+    for number in levels[first..2 * first].iter_mut() {
+        *number = number_of(firsts, j, to);
         j = wrapping_add_u64(j, 2 * step as u64);
-        p += 1;
     }
 }
 

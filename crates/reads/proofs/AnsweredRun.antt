@@ -6,7 +6,7 @@ use mathlib.Core.List.{List, [], ◌∷◌}
 use native.Mathlib.Omega.{arith}
 use lib.ListN.{length, get_or}
 use lib.IntN.{ℤ, pos}
-use Rattle.model.specs.declared.Count.TheVariants as Count
+use Rattle.std.specs.Prelude.{Ok}
 use Rattle.model.specs.Rules.{Answer, answer, ◌unless◌, check, ◌then◌, ◌gives◌, leaves}
 use Rattle.model.specs.Image.{tree_of}
 use Rattle.model.specs.Containment.{is_zone}
@@ -47,7 +47,7 @@ run_of s reads numbers rules (suc k) i each =
     next (each i (omega arith) (omega arith)) (run_of s reads numbers rules k (suc i) (λ j l h. each j (omega arith) (omega arith)))
 
 module _ {image entries reads : List ℕ} {numbers : List ℤ} {rules : List ℕ} {image' entries' : List ℕ} {numbers' : List ℤ} {rules' : List ℕ}
-    {n : ℕ} (a : ReadsAnswered image entries reads numbers rules (Count.Of n) image' entries' numbers' rules') where
+    {n : ℕ} (a : ReadsAnswered image entries reads numbers rules (Ok n) image' entries' numbers' rules') where
   written : (i : ℕ) → i < requests_in reads → IsRead (made_at (record { image = image; entries = entries }) reads numbers' rules' i)
   unfolding Recovered answer_at leaves
   written i h =
@@ -70,7 +70,7 @@ module _ {image entries reads : List ℕ} {numbers : List ℤ} {rules : List ℕ
 pub demand3_answered : {b reads : List ℕ} {z : ℕ} {rest : List ℕ} {numbers : List ℤ} {rules : List ℕ}
     {b' entries' : List ℕ} {numbers' : List ℤ} {rules' : List ℕ} {n : ℕ} (c : Counts)
     → validation b ≡ answer c → is_zone (tree_of b) z ≡ true → AllOf (Listed b z rest) (requests_of reads)
-    → ReadsAnswered b (given b z rest).entries reads numbers rules (Count.Of n) b' entries' numbers' rules'
+    → ReadsAnswered b (given b z rest).entries reads numbers rules (Ok n) b' entries' numbers' rules'
     → AllOf (ReadHolds b z rest) (made_of (given b z rest) reads numbers' rules')
 demand3_answered {b} {reads} {z} {rest} {numbers' = numbers'} {rules' = rules'} c e zone l a =
     (demand3 b c e z zone rest).every_read (requests_of reads) l (made_of (given b z rest) reads numbers' rules') _ (answered_run a)

@@ -7,7 +7,7 @@ ghost use Rattle.model.specs.Reads.{EntryRead};
 ghost use Rattle.model.specs.ReadList.{requests_in, answer_at, number_of, rule_of, ReadsAnswered};
 
 use corners::corner;
-use model::{Corner, Count, Rejection};
+use model::Rejection;
 
 // One read with an entry of the list; 40 where there is no such entry. Image and entries stay as they are.
 pub fn one_read(
@@ -16,7 +16,7 @@ pub fn one_read(
     which: u64,
     element: u64,
     corner_number: u64,
-) -> Corner
+) -> Result<i64, Rejection>
     ensures { EntryRead image.now entries.now which element corner_number result image.now entries.now }
 {
     let k = which as usize;
@@ -28,31 +28,31 @@ pub fn one_read(
             corner_number,
         );
     }
-    Corner::Rejected(Rejection::at(40, 0))
+    Err(Rejection::at(40, 0))
 }
 
 // An answer's number; 0 where it is a rejection.
-fn number_of(c: Corner) -> i64
+fn number_of(c: Result<i64, Rejection>) -> i64
     ensures { result ≡ number_of (corner_tells c) }
 {
     match c {
-        Corner::Number(n) => n,
-        Corner::Rejected(_) => 0,
+        Ok(n) => n,
+        Err(_) => 0,
     }
 }
 
 // An answer's rule; 0 where it is a number.
-fn rule_of(c: Corner) -> u64
+fn rule_of(c: Result<i64, Rejection>) -> u64
     ensures { result ≡ rule_of (corner_tells c) }
 {
     match c {
-        Corner::Number(_) => 0,
-        Corner::Rejected(r) => r.rule,
+        Ok(_) => 0,
+        Err(r) => r.rule,
     }
 }
 
 // The i-th read of a list, three numbers each: entry, element, corner.
-fn answer_at(image: &[u8], entries: &[u64], reads: &[u64], i: usize) -> Corner
+fn answer_at(image: &[u8], entries: &[u64], reads: &[u64], i: usize) -> Result<i64, Rejection>
     requires { i < requests_in reads.now }
     ensures { corner_tells result ≡ answer_at image.now entries.now reads.now i }
 {
@@ -68,23 +68,21 @@ pub fn corner_reads(
     reads: &[u64],
     numbers: &mut [i64],
     rules: &mut [u64],
-) -> Count
+) -> Result<u64, Rejection>
     ensures { ReadsAnswered image.now entries.now reads.now numbers.old rules.old
         result image.now entries.now numbers.new rules.new }
 {
     let n = reads.len() / 3;
     if numbers.len() < n {
-        return Count::Rejected(Rejection::at(46, 0));
+        return Err(Rejection::at(46, 0));
     }
     if rules.len() < n {
-        return Count::Rejected(Rejection::at(46, 0));
+        return Err(Rejection::at(46, 0));
     }
-    let mut i = 0;
-    while i < n {
+    for i in 0..n {
         let a = answer_at(image, entries, reads, i);
         numbers[i] = number_of(a);
         rules[i] = rule_of(a);
-        i += 1;
     }
-    Count::Of(n as u64)
+    Ok(n as u64)
 }

@@ -15,7 +15,7 @@ ghost use Rattle.references.specs.Arrays.{refers_face};
 ghost use Rattle.section_data.specs.Ranges.{Faces};
 ghost use Rattle.references.specs.Groups.{face_rule};
 
-use model::{Rejection, Stage};
+use model::Rejection;
 use ranges::search_tree::{Four, SearchTree};
 use ranges::{Interval, search_tree};
 use rows::Row;
@@ -35,15 +35,12 @@ fn first_outside(image: &[u8], row: Row, k: usize, last: Interval, before: Inter
     requires size_bound { (last.low + last.size ≤ 4294967296) × (before.low + before.size ≤ 4294967296) }
     ensures { Passed (known_at image.now row last before) row.n k result }
 {
-    let n = row.n;
-    let mut j = k;
-    while j < n {
+    for j in k..row.n {
         if !is_known(last, before, rows::magnitude_at(image, row, j)) {
             return j;
         }
-        j += 1;
     }
-    j
+    row.n
 }
 
 // Does an entry tell that number k of a row refers to a face of zone z?
@@ -84,13 +81,10 @@ fn eight_refer(
     requires in_bounds { 8 ≤ length entries.now }
     ensures { result ≡ true → Passed (refers_face (tree_of image.now) z image.now row.at row.width) row.n k (k + 8) }
 {
-    let end = k + 8;
-    let mut j = k;
-    while j < end {
-        if !entry_refers(image, z, row, j, firsts, reach, count, entries[j - k]) {
+    for i in 0..8 {
+        if !entry_refers(image, z, row, k + i, firsts, reach, count, entries[i]) {
             return false;
         }
-        j += 1;
     }
     true
 }
@@ -166,15 +160,14 @@ fn guessed_to(
     ensures { Passed (refers_face (tree_of image.now) z image.now row.at row.width) row.n k result }
 {
     let mut entries: [usize; 8] = [0; 8];
-    let mut j = k;
-    while 8 <= end - j {
+    let whole = end - (end - k) % 8;
+    for j in (k..whole).step_by(8) {
         guess_eight(image, row, j, levels, tree, &mut entries);
         if !eight_refer(image, z, row, j, firsts, reach, count, &entries) {
             return j;
         }
-        j += 8;
     }
-    j
+    whole
 }
 
 // The first number of a row that refers to no face of zone z; how many there are where each does. The numbers around the last two that were looked up are
@@ -197,6 +190,7 @@ fn first_no_face(
     let n = row.n;
     let mut last = Interval { low: 0, size: 0 };
     let mut k: usize = 0;
+    // `while`: each round goes on where the guesses ended
     while k < n {
         let f = rows::magnitude_at(image, row, k);
         if types::MAX_NUMBER < f {
@@ -262,7 +256,7 @@ pub fn face_stage(
     reach: &[u64],
     faces: usize,
     levels: &mut [u32],
-) -> Stage
+) -> Result<(), Rejection>
     requires index { Index image.now index.now × SectionContext image.now s }
     requires row_of { RowOf image.now (connectivity_of (tree_of image.now) s) row × (element_type_of (tree_of image.now) s ≡ NFACE) }
     requires faces { Faces (tree_of image.now) firsts.now reach.now faces × (2048 ≤ length levels.old) }
@@ -270,9 +264,9 @@ pub fn face_stage(
 {
     let k = first_broken(image, s, row, firsts, reach, faces, levels);
     if row.n <= k {
-        return Stage::Pass;
+        return Ok(());
     }
     let f = rows::magnitude_at(image, row, k);
     let rule = face_rule(image, index, records::parent_of(image, s), f);
-    Stage::Rejected(Rejection::at_entry(rule, s as u64, k as u64 + 1))
+    Err(Rejection::at_entry(rule, s as u64, k as u64 + 1))
 }

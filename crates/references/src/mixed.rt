@@ -14,7 +14,7 @@ ghost use Rattle.references.specs.Mixed.{fits_in, MixedRows};
 
 use super::nodes::{is_within, vertex_size};
 use element_types::fits_length;
-use model::{Rejection, Stage};
+use model::Rejection;
 use rows::Row;
 use section_data::row_of;
 use sids::offsets_of;
@@ -47,42 +47,44 @@ fn place_outside(
     if 0 < place {
         return place;
     }
-    let mut k = start + 1;
-    while k < end {
+    for k in start + 1..end {
         if !is_within(image, connectivity, limit, k) {
             return k + 1;
         }
-        k += 1;
     }
     0
 }
 
 // Rules 38 and 34 of section s by its two rows: one pass. A type that does not fit, anywhere, comes before a node outside 1 to limit.
-fn rows_stage(image: &[u8], s: usize, offsets: Row, connectivity: Row, limit: u64) -> Stage
+fn rows_stage(
+    image: &[u8],
+    s: usize,
+    offsets: Row,
+    connectivity: Row,
+    limit: u64,
+) -> Result<(), Rejection>
     requires { MixedRows image.now s offsets connectivity limit }
     ensures { stage_tells result ≡ connectivity_check (tree_of image.now) s }
 {
     let n = offsets.n - 1;
     let mut place: usize = 0;
     let mut start: usize = 0;
-    let mut k: usize = 0;
-    while k < n {
+    for k in 0..n {
         let end = rows::number_at(image, offsets, k + 1) as usize;
         if !type_fits(image, connectivity, start, end) {
-            return Stage::Rejected(Rejection::at(38, s as u64));
+            return Err(Rejection::at(38, s as u64));
         }
         place = place_outside(image, connectivity, limit, place, start, end);
         start = end;
-        k += 1;
     }
     if place == 0 {
-        return Stage::Pass;
+        return Ok(());
     }
-    Stage::Rejected(Rejection::at_entry(34, s as u64, place as u64))
+    Err(Rejection::at_entry(34, s as u64, place as u64))
 }
 
 // Rules 38 and 34 at the MIXED section s, where rules 29 to 33 hold; its connectivity is the row.
-pub fn mixed_stage(image: &[u8], index: &[u16], s: usize, row: Row) -> Stage
+pub fn mixed_stage(image: &[u8], index: &[u16], s: usize, row: Row) -> Result<(), Rejection>
     requires index { Index image.now index.now × SectionContext image.now s }
     requires row_of { RowOf image.now (connectivity_of (tree_of image.now) s) row × (element_type_of (tree_of image.now) s ≡ MIXED) }
     requires s_value { check s (shape_rules (tree_of image.now) s) ≡ passed }

@@ -9,7 +9,7 @@ ghost use Rattle.rows.specs.Rows.{Numbers};
 ghost use Rattle.references.specs.Arrays.{is_within, FirstFailing};
 ghost use Rattle.section_data.specs.Given.{RowOf, SectionContext};
 
-use model::{Rejection, Stage};
+use model::Rejection;
 use rows::Row;
 
 // Does number k of a row lie in 1 to limit?
@@ -54,17 +54,16 @@ fn first_no_node(image: &[u8], row: Row, limit: u64) -> usize
     ensures { FirstFailing (is_within image.now row.at row.width limit) row.n result }
 {
     let n = row.n;
-    let mut k: usize = 0;
-    while 1 < n - k {
+    for pair in 0..n / 2 {
+        let k = 2 * pair;
         if !two_within(image, row, limit, k) {
             return past_within(image, row, limit, k);
         }
-        k += 2;
     }
-    if k < n {
-        return past_within(image, row, limit, k);
+    if n % 2 == 0 {
+        return n;
     }
-    k
+    past_within(image, row, limit, n - 1)
 }
 
 // VertexSize of the zone of section s.
@@ -76,7 +75,7 @@ pub fn vertex_size(image: &[u8], s: usize) -> u64
 }
 
 // Rule 34 at section s, whose references, those of the row, are all nodes: it is no MIXED section and none of cells.
-pub fn node_stage(image: &[u8], s: usize, row: Row) -> Stage
+pub fn node_stage(image: &[u8], s: usize, row: Row) -> Result<(), Rejection>
     requires sound { Sound image.now × SectionContext image.now s }
     requires row_of { RowOf image.now (connectivity_of (tree_of image.now) s) row }
     requires fact { (element_type_of (tree_of image.now) s ≡ MIXED → ⊥) × (element_type_of (tree_of image.now) s ≡ NFACE → ⊥) }
@@ -85,7 +84,7 @@ pub fn node_stage(image: &[u8], s: usize, row: Row) -> Stage
     let vertices = vertex_size(image, s);
     let k = first_no_node(image, row, vertices);
     if row.n <= k {
-        return Stage::Pass;
+        return Ok(());
     }
-    Stage::Rejected(Rejection::at_entry(34, s as u64, k as u64 + 1))
+    Err(Rejection::at_entry(34, s as u64, k as u64 + 1))
 }

@@ -14,7 +14,7 @@ use super::face_references::face_stage;
 use super::mixed::mixed_stage;
 use super::nodes::node_stage;
 use element_types::{MIXED, NFACE};
-use model::Stage;
+use model::Rejection;
 use rows::Row;
 
 // Rules 38 and 34 to 37 at section s, where rules 29 to 33 hold; its connectivity is the row.
@@ -28,7 +28,7 @@ pub fn reference_stage(
     reach: &[u64],
     faces: usize,
     levels: &mut [u32],
-) -> Stage
+) -> Result<(), Rejection>
     requires index { Index image.now index.now × SectionContext image.now s }
     requires row_of { RowOf image.now (connectivity_of (tree_of image.now) s) row × (element_type ≡ element_type_of (tree_of image.now) s) }
     requires faces { Faces (tree_of image.now) firsts.now reach.now faces × (2048 ≤ length levels.old) }

@@ -4,7 +4,7 @@ use mathlib.Core.Path.{◌≡◌, refl, sym, subst}
 use mathlib.Core.Bool.{Bool, true, false}
 use mathlib.Core.List.{List}
 use native.Mathlib.Omega.{arith}
-use native.Mathlib.Nat.{mul-le-mul_left, le-div_iff_mul-le, mul_comm, mul-suc, pow-succ'}
+use native.Mathlib.Nat.{mul-le-mul_left, le-div_iff_mul-le, mul_comm, pow-succ'}
 use lib.Dec.{T, leb, eqb, lit<}
 use lib.ListN.{length, get_or, drop}
 use lib.Ieee.Bits.{is_true}
@@ -24,10 +24,6 @@ by_width w h f g = or_cases (eqb w 4) (eqb w 8) (is_true (is_width w) h) (λ e. 
 
 at_least : (w : ℕ) → T (is_width w) → 4 ≤ w
 at_least w h = by_width w h (λ e. omega arith) (λ e. omega arith)
-
--- number k of a row lies inside the bytes
-pub room : {b : List ℕ} {at w n v : ℕ} (k : ℕ) → Numbers b at w n → w ≡ v → k < n → at + v * k + v ≤ length b
-room {w = w} k x e h = let s = rw mul-suc at (mul-le-mul_left w h) in rw (← e) (omega arith)
 
 -- a number of w bytes, of bytes that are bytes
 le_bound : (b : List ℕ) → ((i : ℕ) → Fits w8 (get_or b i 0)) → (w p : ℕ) → le w (drop p b) < 256 ^ w

@@ -86,9 +86,9 @@ pub fn magnitude_at(image: &[u8], row: Row, k: usize) -> u64
     let at = row.at;
     let width = row.width;
     if width == 4 {
-        words::magnitude32(words::i32_at(image, at + 4 * k))
+        u64::from(words::i32_at(image, at + 4 * k).unsigned_abs())
     } else {
-        words::magnitude64(words::i64_at(image, at + 8 * k))
+        words::i64_at(image, at + 8 * k).unsigned_abs()
     }
 }
 
@@ -98,12 +98,10 @@ pub fn ends_after(image: &[u8], row: Row, k: u64) -> usize
     ensures { (result ≡ seek_from (ends_after_at image.now row k) (row.n - 1) 0) × (result < row.n) }
 {
     let n = row.n - 1;
-    let mut j: usize = 0;
-    while j < n {
+    for j in 0..n {
         if k < number_at(image, row, j + 1) {
             return j;
         }
-        j += 1;
     }
     n
 }

@@ -1,10 +1,10 @@
 -- What a section's nodes store, where rules 20 to 26 hold, and how a row of the image's bytes has it.
-use Prim.Native.Nat.{ℕ, ◌+◌, ◌*◌, ◌≤◌, ◌<◌}
+use Prim.Native.Nat.{ℕ, ◌+◌, ◌≤◌, ◌<◌}
 use mathlib.Core.Path.{◌≡◌, sym, ap, subst, ◌∙◌}
 use mathlib.Core.Bool.{true, ◌&&◌}
 use mathlib.Core.List.{List, [], ◌∷◌}
 use native.Mathlib.Omega.{arith}
-use native.Mathlib.Nat.{mul-suc, mul_comm, mul-le-mul_left, mul-one}
+use native.Mathlib.Nat.{mul_comm, mul-one}
 use lib.ListN.{length}
 use lib.Dec.{T, leb}
 use borrow.Author.Tests.{leb-true}

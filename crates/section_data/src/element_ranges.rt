@@ -131,16 +131,14 @@ pub fn first_overlap(image: &[u8], index: &[u16], firsts: &mut [u64], reach: &mu
     ensures { result ≡ seek_from (overlap_at (tree_of image.now)) (node_count image.now) 0 }
 {
     let nodes = labels::node_count(image);
-    let mut n: usize = 0;
-    let mut i: usize = 0;
-    while i < nodes {
+    let mut n = 0;
+    for i in 0..nodes {
         if meets_earlier(image, index, i, firsts, reach, n) {
             return i;
         }
         n = gather_node(image, index, 0, i, firsts, reach, n);
-        i += 1;
     }
-    i
+    nodes
 }
 
 // The ranges of the sections of one type, of all zones. It answers how many there are.
@@ -156,11 +154,9 @@ fn gather(
     ensures { TableOf (of_type (tree_of image.now) element_type) firsts.new reach.new result }
 {
     let nodes = labels::node_count(image);
-    let mut n: usize = 0;
-    let mut i: usize = 0;
-    while i < nodes {
+    let mut n = 0;
+    for i in 0..nodes {
         n = gather_node(image, index, element_type, i, firsts, reach, n);
-        i += 1;
     }
     n
 }
@@ -239,12 +235,10 @@ pub fn is_element(image: &[u8], index: &[u16], z: usize, e: u64) -> bool
     ensures { result ≡ element_of (tree_of image.now) z e }
 {
     let n = labels::node_count(image);
-    let mut i: usize = 0;
-    while i < n {
+    for i in 0..n {
         if has_element(image, index, z, e, i) {
             return true;
         }
-        i += 1;
     }
     false
 }

@@ -8,8 +8,7 @@ use lib.ListN.{length}
 use borrow.Author.Tests.{leb-true}
 use Rattle.model.specs.declared.Section.{Section}
 use Rattle.model.specs.declared.Rejection.{Rejection}
-use Rattle.model.specs.declared.Count.{Count}
-use Rattle.model.specs.declared.Count.TheVariants as Count
+use Rattle.std.specs.Prelude.{Result, Ok, Err}
 use Rattle.model.specs.Lists.{over}
 use Rattle.model.specs.Rules.{rejected, answer, Check, passed, ◌then◌, ◌gives◌, leaves}
 use Rattle.model.specs.Image.{tree_of, node_count}
@@ -60,9 +59,9 @@ counts b z room e =
       check-passed = p;
     }
 
-pub due : (b index : List ℕ) (z room : ℕ) (r : Count) {n : ℕ} → count_tells r ≡ sections_answer b z room → (image_check b ≡ passed → Index b index)
+pub due : (b index : List ℕ) (z room : ℕ) (r : Result ℕ Rejection) {n : ℕ} → count_tells r ≡ sections_answer b z room → (image_check b ≡ passed → Index b index)
     → n ≡ answered_count r → EntriesDue b index z room n
-due b index z room (Count.Of m) e i f =
+due b index z room (Ok m) e i f =
     let c = counts b z room e in
     record {
       few = omega (arith, c.fits);
@@ -71,7 +70,7 @@ due b index z room (Count.Of m) e i f =
       zone_where = λ h. c.zone-inside;
       all_where = λ h. f ∙ c.all;
     }
-due b index z room (Count.Rejected x) e i f =
+due b index z room (Err x) e i f =
     record {
       few = omega arith;
       index_where = λ h. absurd (omega arith);
@@ -101,12 +100,12 @@ nothing_written b out = refl
 
 -- with all entries written that the answer tells of
 pub answered_memory : {b : List ℕ} {z n at i : ℕ} {out ws : List Section} → Filled b z n out ws at i → n ≤ i
-    → (r : Count) → count_tells r ≡ sections_answer b z (length out) → n ≡ answered_count r → ws ≡ sections_memory b z out
+    → (r : Result ℕ Rejection) → count_tells r ≡ sections_answer b z (length out) → n ≡ answered_count r → ws ≡ sections_memory b z out
 unfolding sections_memory
-answered_memory {b} {z} {n} {at} {i} {out} f h (Count.Of m) e g =
+answered_memory {b} {z} {n} {at} {i} {out} f h (Ok m) e g =
     let c = counts b z (length out) e in
     let k : i ≡ length (section_nodes (tree_of b) z) = omega (arith, f.few, g, c.all) in
     f.stored ∙ rw (k, all_taken) (count-leaves b z (length out) out (over out (section_entries (tree_of b) z)) e)
-answered_memory {b} {z} {n} {at} {i} {out} f h (Count.Rejected x) e g =
+answered_memory {b} {z} {n} {at} {i} {out} f h (Err x) e g =
     let k : i ≡ 0 = omega (arith, f.few, g) in
     f.stored ∙ rw k (nothing_written b out ∙ rejection-leaves b z (length out) out (over out (section_entries (tree_of b) z)) e)

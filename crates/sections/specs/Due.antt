@@ -1,7 +1,6 @@
 -- What an answer tells of: the entries that are due, and how many.
-use Rattle.std.specs.Prelude.{ℕ, ◌≤◌, ◌<◌, ◌≡◌, List, [], ◌∷◌, length, leb}
-use Rattle.model.specs.declared.Count.{Count}
-use Rattle.model.specs.declared.Count.TheVariants as Count
+use Rattle.std.specs.Prelude.{ℕ, ◌≤◌, ◌<◌, ◌≡◌, List, [], ◌∷◌, length, leb, Result, Ok, Err}
+use Rattle.model.specs.declared.Rejection.{Rejection}
 use Rattle.model.specs.Rules.{◌unless◌, Check, check}
 use Rattle.model.specs.Image.{Tree, tree_of, node_count}
 use Rattle.model.specs.Containment.{is_zone}
@@ -22,6 +21,6 @@ unfoldable pub zone_check : Tree → ℕ → ℕ → Check
 zone_check t z room = check 0 (40 unless is_zone t z ∷ 46 unless leb (length (section_nodes t z)) room ∷ [])
 
 -- how many entries an answer says are written: none where it is a refusal
-abbrev pub answered_count : Count → ℕ
-answered_count (Count.Of n) = n
-answered_count (Count.Rejected r) = 0
+abbrev pub answered_count : Result ℕ Rejection → ℕ
+answered_count (Ok n) = n
+answered_count (Err r) = 0

@@ -8,38 +8,47 @@ ghost use Rattle.model.specs.Validation.{image_check};
 ghost use Rattle.index.specs.Index.{Index};
 ghost use Rattle.sections.specs.Due.{zone_check, answered_count};
 
-use model::{Count, Rejection, Stage};
+use model::Rejection;
 use zone_sections::section_count;
 
 // Rule 40, then 46 where the zone has more than `room` sections, else the count of its sections.
-fn zone_answer(image: &[u8], index: &[u16], zone: u64, room: usize) -> Count
+fn zone_answer(image: &[u8], index: &[u16], zone: u64, room: usize) -> Result<u64, Rejection>
     requires { Index image.now index.now }
     ensures { count_tells result ≡ (zone_check (tree_of image.now) zone room gives length (section_nodes (tree_of image.now) zone)) }
 {
     if !index::is_zone(image, index, zone) {
-        return Count::Rejected(Rejection::at(40, 0));
+        return Err(Rejection::at(40, 0));
     }
     let n = section_count(image, index, zone as usize);
     if room < n {
-        return Count::Rejected(Rejection::at(46, 0));
+        return Err(Rejection::at(46, 0));
     }
-    Count::Of(n as u64)
+    Ok(n as u64)
 }
 
 // The answer of the call where `stage` is what validation answers: its rejection, then rule 40, then 46, else the count of the zone's sections.
-fn answer_after(stage: Stage, image: &[u8], index: &[u16], zone: u64, room: usize) -> Count
+fn answer_after(
+    stage: Result<(), Rejection>,
+    image: &[u8],
+    index: &[u16],
+    zone: u64,
+    room: usize,
+) -> Result<u64, Rejection>
     requires { (stage_tells stage ≡ image_check image.now) × (stage_tells stage ≡ passed → Index image.now index.now) }
     ensures { count_tells result ≡ sections_answer image.now zone room }
 {
-    let Stage::Pass = stage else {
-        return Count::Rejected(stage.rejection());
-    };
+    stage?;
     zone_answer(image, index, zone, room)
 }
 
 // The answer of the call: validation's rejection first, then rule 40, then 46 where the zone has more than `room` sections, else the count of its sections.
 // The index is that of the image where validation accepts it.
-pub fn sections_answer(image: &[u8], index: &mut [u16], zone: u64, room: usize) -> Count
+pub fn sections_answer(
+    image: &[u8],
+    index: &mut [u16],
+    zone: u64,
+    room: usize,
+) -> Result<u64, Rejection>
     requires { 16384 ≤ length index.old }
     ensures result_value { count_tells result ≡ sections_answer image.now zone room }
     ensures index { image_check image.now ≡ passed → Index image.now index.new }
@@ -49,11 +58,11 @@ pub fn sections_answer(image: &[u8], index: &mut [u16], zone: u64, room: usize) 
 }
 
 // How many entries an answer says are written; 0 where it is a rejection.
-pub fn answered_count(answer: Count) -> usize
+pub fn answered_count(answer: Result<u64, Rejection>) -> usize
     ensures { result ≡ answered_count answer }
 {
     match answer {
-        Count::Of(n) => n as usize,
-        Count::Rejected(_) => 0,
+        Ok(n) => n as usize,
+        Err(_) => 0,
     }
 }

@@ -4,12 +4,12 @@ ghost use Rattle.model.specs.Answers.{count_tells};
 ghost use Rattle.model.specs.Sections.{sections_answer, sections_memory};
 
 use super::answers::{answered_count, sections_answer};
-use model::{Count, Section};
+use model::{Rejection, Section};
 use zone_sections::entry_after;
 
 // The section entries of a zone: validation's rejection first, then rule 40, then 46; the entries are written to the front of `out` in node order,
 // their count is answered, and the rest of `out` stays. A rejection leaves `out` as it was.
-pub fn list_sections(out: &mut [Section], image: &[u8], zone: u64) -> Count
+pub fn list_sections(out: &mut [Section], image: &[u8], zone: u64) -> Result<u64, Rejection>
     ensures { (count_tells result ≡ sections_answer image.now zone (length out.old))
         × (out.new ≡ sections_memory image.now zone out.old) }
 {
@@ -17,12 +17,10 @@ pub fn list_sections(out: &mut [Section], image: &[u8], zone: u64) -> Count
     let answer = sections_answer(image, &mut index, zone, out.len());
     let n = answered_count(answer);
     let mut at = zone;
-    let mut i = 0;
-    while i < n {
+    for i in 0..n {
         let e = entry_after(image, &index, zone, at);
         at = e.node;
         out[i] = e;
-        i += 1;
     }
     answer
 }

@@ -11,7 +11,7 @@ ghost use Rattle.model.specs.Answers.{count_tells};
 
 use super::answers::sections_answer;
 use entries::{ENTRY_LENGTH, put_entry};
-use model::Count;
+use model::Rejection;
 use zone_sections::entry_after;
 
 // Writes the entries of the zone's n sections to the front of `out`, in node order; the rest stays.
@@ -22,22 +22,26 @@ fn fill(image: &[u8], index: &[u16], zone: u64, n: usize, out: &mut [u64])
     ensures { out.new ≡ over out.old (all_numbers (section_entries (tree_of image.now) zone)) }
 {
     let mut at = zone;
-    let mut k = 0;
-    while k < n {
+    for k in 0..n {
         let e = entry_after(image, index, zone, at);
         at = e.node;
         put_entry(out, ENTRY_LENGTH * k, e);
-        k += 1;
     }
 }
 
 // Writes the entries that an answer tells of; a rejection leaves `out` as it was.
-fn write_entries(answer: Count, image: &[u8], index: &[u16], zone: u64, out: &mut [u64])
+fn write_entries(
+    answer: Result<u64, Rejection>,
+    image: &[u8],
+    index: &[u16],
+    zone: u64,
+    out: &mut [u64],
+)
     requires answer_value { count_tells answer ≡ sections_answer image.now zone (length out.old / 11) }
     requires index { image_check image.now ≡ passed → Index image.now index.now }
     ensures { out.new ≡ section_numbers_memory image.now zone out.old }
 {
-    let Count::Of(n) = answer else {
+    let Ok(n) = answer else {
         return;
     };
     fill(image, index, zone, n as usize, out);
@@ -45,7 +49,7 @@ fn write_entries(answer: Count, image: &[u8], index: &[u16], zone: u64, out: &mu
 
 // The section entries of a zone as flat numbers: validation's rejection first, then rule 40, then 46; eleven numbers an entry are written to the front
 // of `out` in node order, the count of entries is answered, and the rest of `out` stays. A rejection leaves `out` as it was.
-pub fn section_entries(image: &[u8], zone: u64, out: &mut [u64]) -> Count
+pub fn section_entries(image: &[u8], zone: u64, out: &mut [u64]) -> Result<u64, Rejection>
     ensures { (count_tells result ≡ sections_answer image.now zone (length out.old / 11))
         × (out.new ≡ section_numbers_memory image.now zone out.old) }
 {

@@ -1,23 +1,22 @@
 -- A required child of a node before which validation has come: its parent met rule 23, so it meets 24 and 25.
-use Prim.Native.Nat.{ℕ, ◌<◌}
+use Prim.Native.Nat.{ℕ}
 use mathlib.Core.Path.{◌≡◌, refl, sym, ◌∙◌}
-use mathlib.Core.Bool.{Bool, true, false, cond, ◌&&◌, ◌||◌}
-use mathlib.Core.List.{List, [], ◌∷◌}
+use mathlib.Core.Bool.{true, ◌&&◌}
+use mathlib.Core.List.{List}
 use native.Mathlib.Omega.{arith}
 use native.Mathlib.Decide.{ℕ_discrete}
-use lib.Dec.{eqb}
 use borrow.Author.Tests.{eqb-true, eq-eqb, ne_eqb}
 use Rattle.model.specs.Lists.{row}
 use Rattle.model.specs.Bytes.{text}
 use Rattle.model.specs.Rules.{check, passed}
-use Rattle.model.specs.Image.{Tree, tree_of, node_count, parent}
+use Rattle.model.specs.Image.{tree_of, parent}
 use Rattle.model.specs.Given.{NodesTo}
-use Rattle.model.specs.Containment.{role, validated, child, found, or_missing, Zone, ZoneType, Elements, IndexRange, DataArray}
-use Rattle.model.specs.Values.{complete, type_lawful, value_lawful, zone_type_of, zone_type_shape, zone_type_value, conforming, range_of, connectivity_of, sids_rules}
+use Rattle.model.specs.Containment.{role, child, found, Zone, ZoneType, Elements, IndexRange, DataArray}
+use Rattle.model.specs.Values.{complete, type_lawful, value_lawful, zone_type_of, conforming, range_of, connectivity_of, sids_rules}
 use Rattle.model.proofs.Logic.{untrue, and_first, and_second, or_cases}
 use Rattle.model.proofs.Parents.{parent-lower, lawful_at}
 use Rattle.model.proofs.Above.{earlier-rule}
-use Rattle.model.proofs.Conforming.{or_missing_lem, conforming-is, conforming-type, conforming-value}
+use Rattle.model.proofs.Conforming.{or_missing_lem}
 use Rattle.model.proofs.Staging.{kept, no_rule}
 use Rattle.index.specs.Index.{kind}
 use Rattle.index.proofs.Marking.{kind_parts}

@@ -2,15 +2,15 @@
 use Prim.Native.Nat.{ℕ, ◌-◌, ◌<◌}
 use mathlib.Core.Path.{◌≡◌, refl, ◌∙◌}
 use mathlib.Core.Bool.{true, ◌&&◌}
-use mathlib.Core.List.{List, [], ◌∷◌}
+use mathlib.Core.List.{List}
 use native.Mathlib.Omega.{arith}
 use lib.Dec.{eqb}
 use borrow.Author.Tests.{eqb-true}
-use Rattle.model.specs.Lists.{◌⊃◌, among}
+use Rattle.model.specs.Lists.{◌⊃◌}
 use Rattle.model.specs.Image.{Tree, tree_of, parent, dimensions}
 use Rattle.model.specs.Given.{NodesTo}
-use Rattle.model.specs.Containment.{role, validated, validated_as, DataArray, GridCoordinates, FlowSolution}
-use Rattle.model.specs.Values.{sized_array, sizes_lawful, data_sizes, shaped, sids_rules}
+use Rattle.model.specs.Containment.{role, validated_as, DataArray}
+use Rattle.model.specs.Values.{sized_array, sizes_lawful, data_sizes, sids_rules}
 use Rattle.model.proofs.Logic.{and_first, and_second}
 use Rattle.model.proofs.Sections.{not_root}
 use Rattle.model.proofs.Above.{earlier-rule}

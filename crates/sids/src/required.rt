@@ -41,12 +41,10 @@ fn has_base(image: &[u8]) -> bool
     ensures { result ≡ some_from (base_child (tree_of image.now)) (node_count image.now) 0 }
 {
     let n = labels::node_count(image);
-    let mut j = 0;
-    while j < n {
+    for j in 0..n {
         if base_child(image, j) {
             return true;
         }
-        j += 1;
     }
     false
 }

@@ -1,6 +1,6 @@
 // Rules 20 to 26 at a node, the lowest first.
 ghost use Rattle.std.specs.Prelude.{◌≡◌, true, ◌&&◌, ◌-◌, ◌<◌, eqb};
-ghost use Rattle.model.specs.Rules.{check, rejected, rejection};
+ghost use Rattle.model.specs.Rules.{check};
 ghost use Rattle.model.specs.Image.{tree_of, node_count, parent};
 ghost use Rattle.model.specs.Given.{NodesTo};
 ghost use Rattle.model.specs.Containment.{validated, validated_as, DataArray};
@@ -15,23 +15,16 @@ use super::data_size::has_data_size;
 use super::permitted::value_lawful;
 use super::required::{complete, is_required, placed};
 use labels::roles;
-use model::{Rejection, Stage};
-
-// The answer of a stage that a rule ends.
-fn reject(rule: u64, node: usize) -> Stage
-    ensures { stage_tells result ≡ rejected (rejection rule node) }
-{
-    Stage::Rejected(Rejection::at(rule, node as u64))
-}
+use model::{Rejection, reject};
 
 // Rules 20 and 21.
-fn place_stage(image: &[u8], index: &[u16], i: usize) -> Stage
+fn place_stage(image: &[u8], index: &[u16], i: usize) -> Result<(), Rejection>
     requires index { Index image.now index.now × (i < node_count image.now) }
     requires i_value { validated (tree_of image.now) i ≡ true }
     ensures { stage_tells result ≡ check i (place_rules (tree_of image.now) i) }
 {
     if i == 0 {
-        return Stage::Pass;
+        return Ok(());
     }
     let up = records::parent_of(image, i);
     let above = index::role_of(image, index, up);
@@ -42,17 +35,17 @@ fn place_stage(image: &[u8], index: &[u16], i: usize) -> Stage
     if !labels::named(image, above, below, i) {
         return reject(21, i);
     }
-    Stage::Pass
+    Ok(())
 }
 
 // Rules 23 to 25. A child that rule 23 requires of its parent meets them.
-fn content_stage(image: &[u8], index: &[u16], i: usize) -> Stage
+fn content_stage(image: &[u8], index: &[u16], i: usize) -> Result<(), Rejection>
     requires index { Index image.now index.now × NodeContext image.now i }
     requires nodes_to { NodesTo image.now i }
     ensures { stage_tells result ≡ check i (content_rules (tree_of image.now) i) }
 {
     if is_required(image, index, i) {
-        return Stage::Pass;
+        return Ok(());
     }
     if !complete(image, index, i) {
         return reject(23, i);
@@ -63,7 +56,7 @@ fn content_stage(image: &[u8], index: &[u16], i: usize) -> Stage
     if !value_lawful(image, index, i) {
         return reject(25, i);
     }
-    Stage::Pass
+    Ok(())
 }
 
 // Node i is a coordinate or flow array.
@@ -106,21 +99,15 @@ fn sizes_lawful(image: &[u8], index: &[u16], i: usize) -> bool
 }
 
 // Rules 20 to 26 at a validated node that validation has come to.
-pub fn sids_stage(image: &[u8], index: &[u16], i: usize) -> Stage
+pub fn sids_stage(image: &[u8], index: &[u16], i: usize) -> Result<(), Rejection>
     requires nodes_to { NodesTo image.now i × (validated (tree_of image.now) i ≡ true) }
     requires index { Index image.now index.now }
     ensures { stage_tells result ≡ check i (sids_rules (tree_of image.now) i) }
 {
-    let place = place_stage(image, index, i);
-    let Stage::Pass = place else {
-        return place;
-    };
-    let content = content_stage(image, index, i);
-    let Stage::Pass = content else {
-        return content;
-    };
+    place_stage(image, index, i)?;
+    content_stage(image, index, i)?;
     if !sizes_lawful(image, index, i) {
         return reject(26, i);
     }
-    Stage::Pass
+    Ok(())
 }

@@ -100,12 +100,10 @@ pub fn zone_value(image: &[u8], index: &[u16], z: usize) -> bool
     let structured = types::structured(image, index, z);
     let n = types::dimension_of(image, z, structured) as usize;
     let sizes = zone_sizes(image, z, n);
-    let mut d = 0;
-    while d < n {
+    for d in 0..n {
         if !sizes_permitted(structured, sizes, d) {
             return false;
         }
-        d += 1;
     }
     true
 }

@@ -6,7 +6,7 @@ ghost use Rattle.model.specs.Answers.{stage_tells};
 ghost use Rattle.table.specs.Groups.{laid_out_by, word_rules, layout_rules};
 
 use super::{is_within, reject};
-use model::Stage;
+use model::Rejection;
 use records::{Header, Record};
 
 const HEADER_SIZE: u64 = Header::SIZE as u64;
@@ -49,7 +49,7 @@ fn laid_out(h: Header) -> bool
 }
 
 // Rules 2 and 3 of the header of an image with so many bytes.
-fn word_stage(h: Header, length: u64) -> Stage
+fn word_stage(h: Header, length: u64) -> Result<(), Rejection>
     ensures { stage_tells result ≡ check 0 (word_rules h length) }
 {
     if h.form != 1 {
@@ -58,11 +58,11 @@ fn word_stage(h: Header, length: u64) -> Stage
     if h.total_length != length {
         return reject(3, 0);
     }
-    Stage::Pass
+    Ok(())
 }
 
 // Rules 4 to 6.
-fn layout_stage(h: Header) -> Stage
+fn layout_stage(h: Header) -> Result<(), Rejection>
     ensures { stage_tells result ≡ check 0 (layout_rules h) }
 {
     if !is_within(h.node_count, 1, MAX_NODES) {
@@ -74,11 +74,11 @@ fn layout_stage(h: Header) -> Stage
     if !laid_out(h) {
         return reject(6, 0);
     }
-    Stage::Pass
+    Ok(())
 }
 
 // Rules 1 to 6.
-pub fn header_stage(image: &[u8]) -> Stage
+pub fn header_stage(image: &[u8]) -> Result<(), Rejection>
     ensures { stage_tells result ≡ header_check image.now }
 {
     let length = image.len() as u64;
@@ -86,9 +86,6 @@ pub fn header_stage(image: &[u8]) -> Stage
         return reject(1, 0);
     }
     let h = Header::read(image);
-    let s = word_stage(h, length);
-    let Stage::Pass = s else {
-        return s;
-    };
+    word_stage(h, length)?;
     layout_stage(h)
 }

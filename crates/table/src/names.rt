@@ -45,11 +45,9 @@ pub fn all_name_bytes(table: &[u8], count: usize, siblings: &mut [u16]) -> u64
 {
     links::clear(siblings);
     let mut sum: u64 = 0;
-    let mut i: usize = 0;
-    while i < count {
+    for i in 0..count {
         link(table, siblings, i);
         sum += bytes_with_earlier(table, siblings, i);
-        i += 1;
     }
     sum
 }

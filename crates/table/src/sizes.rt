@@ -55,14 +55,12 @@ pub fn data_size_lawful(table: &[u8], count: usize, i: usize, r: RecordNumbers) 
     let rank = r.rank as usize;
     let size = r.data_size;
     let mut m = nodes::width_at(table, i) as u64;
-    let mut k: usize = 0;
-    while k < rank {
+    for k in 0..rank {
         let d = nodes::dimension(table, count, i, k);
         if !product_fits(m, d, size) {
             return false;
         }
-        m = m * d;
-        k += 1;
+        m *= d;
     }
     m == size
 }

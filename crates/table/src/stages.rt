@@ -14,12 +14,12 @@ ghost use Rattle.table.specs.Sums.{Sums};
 
 use super::siblings::Walked;
 use super::{reject, siblings, sizes, tree};
-use model::Stage;
+use model::Rejection;
 use records::{RecordNumbers, TableSize, nodes};
 use texts::links;
 
 // Rules 7 and 8 at node i.
-fn place_stage(table: &[u8], i: usize) -> Stage
+fn place_stage(table: &[u8], i: usize) -> Result<(), Rejection>
     requires { HasRecord table.now i × LawfulBefore table.now i }
     ensures { stage_tells result ≡ check i (place_rules (all_records table.now) i) }
 {
@@ -29,11 +29,17 @@ fn place_stage(table: &[u8], i: usize) -> Stage
     if tree::is_too_deep(table, i) {
         return reject(8, i);
     }
-    Stage::Pass
+    Ok(())
 }
 
 // Rules 9 to 11 at node i, with its key and what is known of the names before it.
-fn text_stage(table: &[u8], i: usize, key: usize, seen: &[u16], taken: usize) -> Stage
+fn text_stage(
+    table: &[u8],
+    i: usize,
+    key: usize,
+    seen: &[u16],
+    taken: usize,
+) -> Result<(), Rejection>
     requires has_record { HasRecord table.now i }
     requires key_value { (key ≡ key_at (all_records table.now) i) × NamesAt table.now i taken seen.now }
     ensures { stage_tells result ≡ check i (text_rules (all_records table.now) i) }
@@ -47,11 +53,11 @@ fn text_stage(table: &[u8], i: usize, key: usize, seen: &[u16], taken: usize) ->
     if siblings::is_taken(table, i, key, seen, taken) {
         return reject(11, i);
     }
-    Stage::Pass
+    Ok(())
 }
 
 // Rules 12 to 14 at node i, with its dimension count.
-fn type_stage(table: &[u8], i: usize, rank: u64) -> Stage
+fn type_stage(table: &[u8], i: usize, rank: u64) -> Result<(), Rejection>
     requires { HasRecord table.now i × (rank ≡ (node (all_records table.now) i).rank) }
     ensures { stage_tells result ≡ check i (type_rules (all_records table.now) i) }
 {
@@ -65,7 +71,7 @@ fn type_stage(table: &[u8], i: usize, rank: u64) -> Stage
     if !sizes::rank_lawful(data_type, rank) {
         return reject(14, i);
     }
-    Stage::Pass
+    Ok(())
 }
 
 // Rules 15 to 17 at node i, with its numbers, and the words and bytes of the nodes before it.
@@ -76,7 +82,7 @@ fn size_stage(
     r: RecordNumbers,
     words: u64,
     bytes: u64,
-) -> Stage
+) -> Result<(), Rejection>
     requires table_laid { (TableLaid table.now size × (i < size.nodes)) × (r ≡ numbers_of (table_tree table.now size) i) }
     requires sums { Sums table.now size i words bytes }
     ensures { stage_tells result ≡ check i (size_rules (table_tree table.now size) i) }
@@ -90,7 +96,7 @@ fn size_stage(
     if !sizes::run_lawful(r.data_at, bytes, r.data_size, size.bytes) {
         return reject(17, i);
     }
-    Stage::Pass
+    Ok(())
 }
 
 // Rules 7 to 17 at node i, with its numbers and its key, and the words, the bytes and the names of the nodes before it.
@@ -104,23 +110,14 @@ fn record_stage(
     key: usize,
     seen: &[u16],
     taken: usize,
-) -> Stage
+) -> Result<(), Rejection>
     requires table_to { (TableTo table.now size i × Sums table.now size i words bytes) × (r ≡ numbers_of (table_tree table.now size) i) }
     requires key_value { (key ≡ key_at (all_records table.now) i) × Names table.now size.nodes i taken seen.now }
     ensures { stage_tells result ≡ record_check_at (table_tree table.now size) i }
 {
-    let place = place_stage(table, i);
-    let Stage::Pass = place else {
-        return place;
-    };
-    let text = text_stage(table, i, key, seen, taken);
-    let Stage::Pass = text else {
-        return text;
-    };
-    let types = type_stage(table, i, r.rank);
-    let Stage::Pass = types else {
-        return types;
-    };
+    place_stage(table, i)?;
+    text_stage(table, i, key, seen, taken)?;
+    type_stage(table, i, r.rank)?;
     size_stage(table, size, i, r, words, bytes)
 }
 
@@ -135,39 +132,34 @@ fn sums_match(words: u64, dimensions: u64, bytes: u64, area: u64) -> bool
 }
 
 // Rules 7 to 18 over the bytes of a table: 7 to 17 at each node, then 18. In the lent table no node is linked yet.
-fn node_stages(table: &[u8], size: TableSize, seen: &mut [u16]) -> Stage
+fn node_stages(table: &[u8], size: TableSize, seen: &mut [u16]) -> Result<(), Rejection>
     requires { TableLaid table.now size × ((16384 ≤ length seen.old) × NoneLinked seen.old) }
     ensures { stage_tells result
         ≡ (record_check (table_tree table.now size) then trailing_check (table_tree table.now size)) }
 {
     let count = size.nodes;
-    let mut i: usize = 0;
     let mut words: u64 = 0;
     let mut bytes: u64 = 0;
     let mut names = Walked {
         taken: siblings::UNORDERED,
         left: siblings::SEARCHES,
     };
-    while i < count {
+    for i in 0..count {
         let key = texts::name_key(table, i);
         let r = nodes::numbers(table, i);
-        let s = record_stage(table, size, i, r, words, bytes, key, seen, names.taken);
-        let Stage::Pass = s else {
-            return s;
-        };
+        record_stage(table, size, i, r, words, bytes, key, seen, names.taken)?;
         words += r.rank;
         bytes += r.data_size;
         names = siblings::next(names, table, count, i, key, seen);
-        i += 1;
     }
     if !sums_match(words, size.words, bytes, size.bytes) {
         return reject(18, count);
     }
-    Stage::Pass
+    Ok(())
 }
 
 // The same with a lent table for rule 11, whatever it holds.
-pub fn records_stage(table: &[u8], size: TableSize, seen: &mut [u16]) -> Stage
+pub fn records_stage(table: &[u8], size: TableSize, seen: &mut [u16]) -> Result<(), Rejection>
     requires { TableLaid table.now size × (16384 ≤ length seen.old) }
     ensures { stage_tells result
         ≡ (record_check (table_tree table.now size) then trailing_check (table_tree table.now size)) }

@@ -27,13 +27,11 @@ pub fn is_too_deep(table: &[u8], i: usize) -> bool
     ensures { result ≡ deeper_than (all_records table.now) 32 i }
 {
     let mut at = i;
-    let mut left: usize = MAX_DEPTH;
-    while 0 < left {
+    for _ in 0..MAX_DEPTH {
         if at == 0 {
             return false;
         }
         at = nodes::parent_of(table, at);
-        left -= 1;
     }
     at != 0
 }

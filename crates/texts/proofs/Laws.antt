@@ -4,12 +4,13 @@ use mathlib.Core.Path.{◌≡◌, refl, sym, ap, ◌∙◌}
 use mathlib.Core.Bool.{Bool, true, false, cond, not, ◌&&◌, ◌||◌}
 use mathlib.Core.List.{List, [], ◌∷◌}
 use native.Mathlib.Omega.{arith}
-use native.Mathlib.Nat.{add-zero}
-use native.Mathlib.Numerals.{add-one}
+use native.Mathlib.Nat.{zero-add}
 use native.Mathlib.Decide.{ℕ_discrete}
 use lib.Dec.{eqb, leb, ltb}
-use lib.ListN.{length, get_or, take, drop, length-drop, drop_of_length-le}
+use lib.ListN.{length, get_or, take, drop, length-drop}
 use lib.Seq.{drop-drop, drop-cons, length-take-le, get_or-take, get_or-drop}
+use Rattle.std.specs.List.{sum_by}
+use Rattle.std.proofs.lemmas.List.Sums.{sum_by-cons}
 use borrow.Author.Tests.{eq-eqb, ne_eqb, leb-true, le-ltb}
 use Rattle.model.specs.Lists.{among}
 use Rattle.model.specs.Bytes.{le, same}
@@ -40,34 +41,17 @@ regroup true p false m = refl
 regroup true false true m = refl
 regroup true true true m = refl
 
--- a byte that may not stand is counted
-counted : (n : ℕ) (t r : Bool) → (eqb (n + cond t 0 1) 0 && r) ≡ (eqb n 0 && (t && r))
-counted n true r = rw (add-zero n)
-counted n false r = rw (ne_eqb (n + 1) 0 (λ (z : n + 1 ≡ 0). absurd (omega arith))) (sym (and-false (eqb n 0)))
+-- no byte counts as one that may not stand where all may
+counted : (t : Bool) (n : ℕ) → eqb (cond t 0 1 + n) 0 ≡ (t && eqb n 0)
+counted true n = rw zero-add
+counted false n = ne_eqb (1 + n) 0 (λ (z : 1 + n ≡ 0). absurd (omega arith))
 
--- a text's bytes from index k on
-module _ (z : ℕ) (s : List ℕ) (k : ℕ) (h : k < length s) where
-  bytes_step : text_bytes z (drop k s) ≡ (text_byte z (get_or s k 0) && text_bytes z (drop (k + 1) s))
-  unfolding printable among
-  bytes_step =
-      rw (add-one k, drop-cons s k 0 h) (regroup (leb 32 (get_or s k 0) && leb (get_or s k 0) 126) (printable (drop (suc k) s)) (eqb z (get_or s k 0))
-      (among z (drop (suc k) s)))
-
--- byte k of a text was read as x
-module _ (b : List ℕ) (at : ℕ) (h : at + 32 ≤ length b) (k : ℕ) (l : k < 32) {x : ℕ} (e : x ≡ get_or b (at + k) 0) where
-  byte_is : get_or (text_at b at) k 0 ≡ x
-  byte_is = text_byte_lem b at h k l ∙ sym e
-
-  below : k < length (text_at b at)
-  below = rw (text-length b at h) l
-
-  -- n bytes before k may not stand
-  pub byte_on : (z n : ℕ) → (eqb (n + bad_byte z x) 0 && text_bytes z (drop (k + 1) (text_at b at))) ≡ (eqb n 0 && text_bytes z (drop k (text_at b at)))
-  byte_on z n = rw (bytes_step z (text_at b at) k below, byte_is) (counted n (text_byte z x) (text_bytes z (drop (k + 1) (text_at b at))))
-
-pub bytes-end : (z : ℕ) (b : List ℕ) (at : ℕ) → at + 32 ≤ length b → (k : ℕ) → 32 ≤ k → (ok : Bool) → (ok && text_bytes z (drop k (text_at b at))) ≡ ok
+pub none_bad : (z : ℕ) (s : List ℕ) → eqb (sum_by (bad_byte z) s) 0 ≡ text_bytes z s
 unfolding printable among
-bytes-end z b at h k l ok = rw (drop_of_length-le (text_at b at) {i = k} (rw (text-length b at h) l)) (and-true ok)
+none_bad z [] = refl
+none_bad z (x ∷ s) =
+    rw (sum_by-cons (bad_byte z) x s, counted (text_byte z x) (sum_by (bad_byte z) s), none_bad z s)
+    (sym (regroup (leb 32 x && leb x 126) (printable s) (eqb z x) (among z s)))
 
 -- the first byte decides, or the others do
 module _ (z : ℕ) (s : List ℕ) where

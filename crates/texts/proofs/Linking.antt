@@ -1,6 +1,6 @@
 -- Numbers linked by their classes: the last of a class, and the one before each number.
 use Prim.Native.Nat.{ℕ, ◌+◌, ◌-◌, ◌≤◌, ◌<◌}
-use mathlib.Core.Path.{◌≡◌, refl, sym, ◌∙◌}
+use mathlib.Core.Path.{◌≡◌, refl, sym}
 use mathlib.Core.Bool.{Bool, true, false}
 use mathlib.Core.List.{List}
 use native.Mathlib.Omega.{arith}
@@ -29,14 +29,6 @@ last_still {p} {n} {x} l e = record { small = omega (arith, l.small); none_after
 
 last_none : (p : ℕ → Bool) → LastOf p 0 0
 last_none p = record { small = omega arith; none_after = λ m l k. absurd (omega arith); holds = λ k. absurd (omega arith) }
-
--- one place more is made 0
-pub zeros_on : (links : List ℕ) (k : ℕ) → k < length links → ((u : ℕ) → u < k → get_or links u 0 ≡ 0) → (u : ℕ) → u < k + 1 → get_or (set links k 0) u 0 ≡ 0
-zeros_on links k h f u l =
-    elim (ℕ_discrete u k) [
-      | yes q ↦ rw q (get_or-set_same links k 0 0 h)
-      | no z ↦ get_or-set_other links k u 0 0 z ∙ f u (omega (arith, z))
-    ]
 
 pub linked_start : (class : ℕ → ℕ) (links : List ℕ) → NoneLinked links → Linked class 0 links
 linked_start class links e = record { last = λ u h. rw (e u h) (last_none (λ m. eqb (class m) u)); before = λ i h. absurd (omega arith) }

@@ -47,13 +47,7 @@ pub fn name_key(table: &[u8], i: usize) -> usize
 fn joined(x: u16, mark: u16) -> u16
     ensures { result ≡ marked x mark }
 {
-    if x == 0 {
-        return mark;
-    }
-    if x == mark {
-        return mark;
-    }
-    MANY
+    if x == 0 || x == mark { mark } else { MANY }
 }
 
 // Marks a key.
@@ -71,10 +65,8 @@ pub fn may_be_marked(seen: &[u16], key: usize) -> bool
     ensures { result ≡ may_be_marked seen.now key }
 {
     let x = seen[MARKS + key / SHARE];
-    if x == MANY {
-        return true;
-    }
-    x == (key % SHARE + 1) as u16
+    let mark = (key % SHARE + 1) as u16;
+    x == MANY || x == mark
 }
 
 // The class of a node with this key.

@@ -21,19 +21,13 @@ const BLANK: u8 = 32;
 pub const SLASH: u8 = 47;
 
 // The place past the last byte of a name.
-const NONE_DIFFERS: usize = 33;
+pub const NONE_DIFFERS: usize = 33;
 
 // Whether a byte may stand in a text that bars one byte.
 fn is_text_byte(x: u8, barred: u8) -> bool
     ensures { result ≡ text_byte barred x }
 {
-    if x < 32 {
-        return false;
-    }
-    if 126 < x {
-        return false;
-    }
-    barred != x
+    (32..=126).contains(&x) && x != barred
 }
 
 // 0 for a byte that may, 1 for one that may not.
@@ -48,11 +42,10 @@ fn all_text_bytes(table: &[u8], at: usize, barred: u8) -> bool
     requires { at + 32 ≤ length table.now }
     ensures { result ≡ text_bytes barred (text_at table.now at) }
 {
+    let text = &table[at..at + Record::TEXT_SIZE];
     let mut n: u8 = 0;
-    let mut k: usize = 0;
-    while k < 32 {
-        n += bad(table[at + k], barred);
-        k += 1;
+    for x in text {
+        n += bad(*x, barred);
     }
     n == 0
 }

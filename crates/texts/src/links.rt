@@ -6,16 +6,15 @@ ghost use Rattle.texts.specs.Links.{NoneLinked, with_link};
 // higher, 0 for none.
 pub const BEFORE: usize = 4096;
 
+// How many numbers a class has at most.
+const MOST: usize = 4096;
+
 // Leaves no class with a number.
 pub fn clear(links: &mut [u16])
     requires { 4096 ≤ length links.old }
     ensures { NoneLinked links.new }
 {
-    let mut k: usize = 0;
-    while k < BEFORE {
-        links[k] = 0;
-        k += 1;
-    }
+    links[..BEFORE].fill(0);
 }
 
 // Makes number i the last of its class.
@@ -32,17 +31,12 @@ pub fn class_size(links: &[u16], class: usize) -> usize
     requires { (class < 4096) × (8192 ≤ length links.now) }
     ensures { result ≤ 4096 }
 {
-    let mut n: usize = 0;
     let mut j = links[class] as usize;
-    while n < 4096 {
-        if j == 0 {
-            return n;
-        }
-        if 4096 < j {
+    for n in 0..MOST {
+        if j == 0 || MOST < j {
             return n;
         }
         j = links[BEFORE + (j - 1)] as usize;
-        n += 1;
     }
-    n
+    MOST
 }

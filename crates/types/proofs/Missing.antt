@@ -9,7 +9,7 @@ use lib.Dec.{eqb}
 use borrow.Author.Tests.{ne_eqb}
 use Rattle.model.specs.Lists.{among}
 use Rattle.model.specs.Bytes.{le, same, spells, text, place_from}
-use Rattle.model.specs.Image.{Tree, node_of, node, tree_of, node_count, stored, data_type_of, data_types, width, widths, number}
+use Rattle.model.specs.Image.{Tree, node_of, tree_of, node_count, stored, data_type_of, data_types, width, widths, number}
 use Rattle.model.specs.Containment.{or_missing}
 use Rattle.model.specs.Values.{reads, typed, zone_type_shape}
 use Rattle.model.proofs.Absent.{node_past}

@@ -1,5 +1,5 @@
 -- What a data type and a shape say of the numbers that a node stores.
-use Prim.Native.Nat.{ℕ, zero, suc, ◌+◌, ◌*◌, ◌-◌, ◌≤◌, ◌<◌}
+use Prim.Native.Nat.{ℕ, ◌+◌, ◌*◌, ◌≤◌, ◌<◌}
 use mathlib.Core.Path.{◌≡◌, refl, sym, ap, ◌∙◌}
 use mathlib.Core.Bool.{Bool, true, false, not, ◌||◌, or-false}
 use mathlib.Core.List.{List, [], ◌∷◌}
@@ -10,7 +10,6 @@ use lib.Seq.{drop-drop}
 use lib.Dec.{T, eqb}
 use borrow.Author.Tests.{eqb-true}
 use Rattle.model.specs.Lists.{among}
-use Rattle.model.specs.Bytes.{numbers}
 use Rattle.model.specs.Image.{Tree, tree_of, node_count, node, dimensions, data_type_of, width, widths, stored, data_offset, I4, I8}
 use Rattle.model.specs.Given.{Sound}
 use Rattle.model.specs.Records.{product, data_size_lawful, record_rules}

@@ -41,12 +41,10 @@ pub fn shaped(image: &[u8], i: usize, n: usize, sizes: [u64; 3]) -> bool
     if RecordNumbers::read(image, i).rank != n as u64 {
         return false;
     }
-    let mut k = 0;
-    while k < n {
+    for k in 0..n {
         if records::dimension(image, i, k) != sizes[k] {
             return false;
         }
-        k += 1;
     }
     true
 }
@@ -60,12 +58,10 @@ pub fn same_shape(image: &[u8], i: usize, j: usize) -> bool
     if RecordNumbers::read(image, j).rank as usize != n {
         return false;
     }
-    let mut k = 0;
-    while k < n {
+    for k in 0..n {
         if records::dimension(image, i, k) != records::dimension(image, j, k) {
             return false;
         }
-        k += 1;
     }
     true
 }

@@ -48,13 +48,11 @@ pub fn rind_value(image: &[u8], i: usize) -> bool
     requires i_value { (typed (tree_of image.now) i (I4 ∷ []) ≡ true) × (flat (tree_of image.now) i ≡ true) }
     ensures { result ≡ rind_value (tree_of image.now) i }
 {
-    let n = records::dimension(image, i, 0);
-    let mut k: u64 = 0;
-    while k < n {
-        if !not_negative(image, i, k as usize) {
+    let n = records::dimension(image, i, 0) as usize;
+    for k in 0..n {
+        if !not_negative(image, i, k) {
             return false;
         }
-        k += 1;
     }
     true
 }

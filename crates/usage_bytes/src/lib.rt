@@ -12,11 +12,7 @@ pub fn clear(out: &mut [u8], n: usize)
     requires { n ≤ length out.old }
     ensures { out.new ≡ replicate n 0 ++ drop n out.old }
 {
-    let mut k: usize = 0;
-    while k < n {
-        out[k] = 0;
-        k += 1;
-    }
+    out[..n].fill(0);
 }
 
 // Is the bit of a sign free in a byte?

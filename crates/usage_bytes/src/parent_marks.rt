@@ -52,9 +52,7 @@ pub fn clear_marks(out: &mut [u8], n: usize)
     requires { n ≤ length out.old }
     ensures { Unmarked n out.old out.new }
 {
-    let mut k: usize = 0;
-    while k < n {
-        out[k] = out[k] % 4;
-        k += 1;
+    for byte in out[..n].iter_mut() {
+        *byte %= 4;
     }
 }

@@ -1,11 +1,12 @@
 -- Rules 20 to 26, then a section's own; and a count as a loop meets it.
 use Prim.Native.Nat.{ℕ, ◌+◌, ◌-◌, ◌≤◌, ◌<◌}
 use mathlib.Core.Path.{◌≡◌, refl, sym, ◌∙◌}
-use mathlib.Core.Bool.{Bool, true, false, cond, ◌&&◌}
+use mathlib.Core.Bool.{Bool, true, false, ◌&&◌}
 use mathlib.Core.List.{List}
 use native.Mathlib.Omega.{arith}
 use native.Mathlib.Decide.{ℕ_discrete}
 use lib.Dec.{ltb}
+use Rattle.std.specs.Int.{from_bool}
 use borrow.Author.Tests.{ltb-true}
 use lib.ListN.{get_or}
 use Rattle.model.proofs.Logic.{and_first, and_second, when}
@@ -40,7 +41,7 @@ pub record Counted (p : ℕ → Bool) (n i count : ℕ) : Type 0 where
 
 module _ {p : ℕ → Bool} {n i count : ℕ} (c : Counted p n i count) where
   -- one number more
-  pub more_counted : {x : ℕ} (t : Bool) → i < n → t ≡ p i → x ≡ cond t 1 0 → Counted p n (i + 1) (count + x)
+  pub more_counted : {x : ℕ} (t : Bool) → i < n → t ≡ p i → x ≡ from_bool t → Counted p n (i + 1) (count + x)
   more_counted true h e f =
       let s = rw (sym e) at (count_from_step p n i h) in
       record { within = omega arith; least = omega (arith, c.least); rest = omega (arith, c.rest, s) }

@@ -1,7 +1,7 @@
 // Validation of an image: every rule in the stated order, and the four counts of an acceptance. The DataSize of an array.
 #![tactic(auto)]
 
-ghost use Rattle.std.specs.Prelude.{◌≡◌, true, cond, ◌≤◌, length};
+ghost use Rattle.std.specs.Prelude.{◌≡◌, true, ◌≤◌, length, Ok};
 ghost use Rattle.model.specs.Lists.{seek_from};
 ghost use Rattle.model.specs.Rules.{answer, check, passed};
 ghost use Rattle.model.specs.Image.{tree_of, node_count};
@@ -17,7 +17,7 @@ ghost use Rattle.parents.specs.Parents.{parents_broken};
 mod sizes; // sizes.rt: the DataSize of an array
 
 use labels::roles::{ELEMENTS, ZONE};
-use model::{Stage, Validation};
+use model::{Rejection, Validation};
 pub use sizes::data_size;
 
 // Rules 27 to 39 where node i is a section.
@@ -31,7 +31,7 @@ fn section_stage(
     reach: &[u64],
     faces: usize,
     levels: &mut [u32],
-) -> Stage
+) -> Result<(), Rejection>
     requires nodes_to { NodesTo image.now i × Index image.now index.now }
     requires i_value { validated (tree_of image.now) i ≡ true }
     requires i_value_2 { check i (sids_rules (tree_of image.now) i) ≡ passed }
@@ -45,7 +45,7 @@ fn section_stage(
             image, index, i, overlap, parents, firsts, reach, faces, levels,
         );
     }
-    Stage::Pass
+    Ok(())
 }
 
 // Rules 20 to 39 at node i, to which validation has come; a node that is not validated is skipped.
@@ -59,7 +59,7 @@ fn node_stage(
     reach: &[u64],
     faces: usize,
     levels: &mut [u32],
-) -> Stage
+) -> Result<(), Rejection>
     requires nodes_to { NodesTo image.now i × Index image.now index.now }
     requires overlap_value { (overlap ≡ seek_from (overlap_at (tree_of image.now)) (node_count image.now) 0)
         × (parents ≡ seek_from (parents_broken (tree_of image.now)) (node_count image.now) 0) }
@@ -67,12 +67,9 @@ fn node_stage(
     ensures { stage_tells result ≡ node_check_at (tree_of image.now) i }
 {
     if !index::is_validated(image, index, i) {
-        return Stage::Pass;
+        return Ok(());
     }
-    let s = sids::sids_stage(image, index, i);
-    let Stage::Pass = s else {
-        return s;
-    };
+    sids::sids_stage(image, index, i)?;
     section_stage(
         image, index, i, overlap, parents, firsts, reach, faces, levels,
     )
@@ -89,25 +86,19 @@ fn every_node(
     reach: &[u64],
     faces: usize,
     levels: &mut [u32],
-) -> Stage
+) -> Result<(), Rejection>
     requires index { Index image.now index.now }
     requires overlap_value { (overlap ≡ seek_from (overlap_at (tree_of image.now)) (node_count image.now) 0)
         × (parents ≡ seek_from (parents_broken (tree_of image.now)) (node_count image.now) 0) }
     requires faces { Faces (tree_of image.now) firsts.now reach.now faces × (2048 ≤ length levels.old) }
     ensures { stage_tells result ≡ node_check (tree_of image.now) }
 {
-    let n = labels::node_count(image);
-    let mut i = 0;
-    while i < n {
-        let s = node_stage(
+    for i in 0..labels::node_count(image) {
+        node_stage(
             image, index, i, overlap, parents, firsts, reach, faces, levels,
-        );
-        let Stage::Pass = s else {
-            return s;
-        };
-        i += 1;
+        )?;
     }
-    Stage::Pass
+    Ok(())
 }
 
 // The same, where the element ranges are not gathered yet.
@@ -117,7 +108,7 @@ fn nodes_stage(
     firsts: &mut [u64],
     reach: &mut [u64],
     levels: &mut [u32],
-) -> Stage
+) -> Result<(), Rejection>
     requires index { Index image.now index.now × (2048 ≤ length levels.old) }
     requires in_bounds { (2048 ≤ length firsts.old) × (2048 ≤ length reach.old) }
     ensures { stage_tells result ≡ node_check (tree_of image.now) }
@@ -135,21 +126,18 @@ pub fn image_stage_with(
     firsts: &mut [u64],
     reach: &mut [u64],
     levels: &mut [u32],
-) -> Stage
+) -> Result<(), Rejection>
     requires in_bounds { (16384 ≤ length index.old) × (2048 ≤ length levels.old) }
     requires in_bounds_2 { (2048 ≤ length firsts.old) × (2048 ≤ length reach.old) }
     ensures { (stage_tells result ≡ image_check image.now) × (stage_tells result ≡ passed → Index image.now index.new) }
 {
-    let s = table::table_stage_with(image, index);
-    let Stage::Pass = s else {
-        return s;
-    };
+    table::table_stage_with(image, index)?;
     index::build(image, index);
     nodes_stage(image, index, firsts, reach, levels)
 }
 
 // The same, where the index alone is lent.
-pub fn image_stage(image: &[u8], index: &mut [u16]) -> Stage
+pub fn image_stage(image: &[u8], index: &mut [u16]) -> Result<(), Rejection>
     requires { 16384 ≤ length index.old }
     ensures { (stage_tells result ≡ image_check image.now) × (stage_tells result ≡ passed → Index image.now index.new) }
 {
@@ -159,31 +147,22 @@ pub fn image_stage(image: &[u8], index: &mut [u16]) -> Stage
     image_stage_with(image, index, &mut firsts, &mut reach, &mut levels)
 }
 
-// 1 for a test that holds, 0 for one that does not.
-fn unit(test: bool) -> u64
-    ensures { (result ≡ cond test 1 0) × (result ≤ 1) }
-{
-    if test { 1 } else { 0 }
-}
-
 // The four counts of an image in which rules 1 to 18 hold.
 fn counted(image: &[u8], index: &[u16]) -> Validation
     requires { Index image.now index.now }
-    ensures { validation_tells result ≡ answer (counts (tree_of image.now)) }
+    ensures { validation_tells (Ok result) ≡ answer (counts (tree_of image.now)) }
 {
     let n = labels::node_count(image);
     let mut validated: u64 = 0;
     let mut zones: u64 = 0;
     let mut sections: u64 = 0;
-    let mut i = 0;
-    while i < n {
+    for i in 0..n {
         let kind = index::kind_of(image, index, i);
-        validated += unit(0 < kind);
-        zones += unit(kind == ZONE);
-        sections += unit(kind == ELEMENTS);
-        i += 1;
+        validated += u64::from(0 < kind);
+        zones += u64::from(kind == ZONE);
+        sections += u64::from(kind == ELEMENTS);
     }
-    Validation::Accepted {
+    Validation {
         validated,
         skipped: n as u64 - validated,
         zones,
@@ -193,13 +172,10 @@ fn counted(image: &[u8], index: &[u16]) -> Validation
 
 // Whether the image meets every rule: the counts of validated nodes, skipped nodes, zones and sections; otherwise the first broken rule and its node, and of rules 34 to 37 the
 // entry that breaks it.
-pub fn validate(image: &[u8]) -> Validation
+pub fn validate(image: &[u8]) -> Result<Validation, Rejection>
     ensures { validation_tells result ≡ validation image.now }
 {
     let mut index: [u16; 16384] = [0; 16384];
-    let s = image_stage(image, &mut index);
-    let Stage::Pass = s else {
-        return Validation::Rejected(s.rejection());
-    };
-    counted(image, &index)
+    image_stage(image, &mut index)?;
+    Ok(counted(image, &index))
 }

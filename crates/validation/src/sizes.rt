@@ -9,7 +9,7 @@ ghost use Rattle.model.specs.Given.{Sound, Accepted};
 ghost use Rattle.index.specs.Index.{Index};
 ghost use Rattle.model.specs.Answers.{data_size_tells};
 
-use model::{DataSize, Rejection, Stage};
+use model::{DataSize, Rejection};
 use records::RecordNumbers;
 
 // Whether a number is that of a validated coordinate or flow array.
@@ -43,9 +43,9 @@ fn size_in(image: &[u8], i: usize, k: usize) -> u64
 fn array_sizes(image: &[u8], i: usize) -> DataSize
     requires accepted { Accepted image.now × (i < node_count image.now) }
     requires i_value { (sized_array (tree_of image.now) i ≡ true) × (validated (tree_of image.now) i ≡ true) }
-    ensures { data_size_tells result ≡ answer (sizes_of (data_sizes (tree_of image.now) (parent (tree_of image.now) i))) }
+    ensures { data_size_tells (Ok result) ≡ answer (sizes_of (data_sizes (tree_of image.now) (parent (tree_of image.now) i))) }
 {
-    DataSize::Sizes {
+    DataSize {
         directions: RecordNumbers::read(image, i).rank,
         i: size_in(image, i, 0),
         j: size_in(image, i, 1),
@@ -54,16 +54,13 @@ fn array_sizes(image: &[u8], i: usize) -> DataSize
 }
 
 // The DataSize of a coordinate or flow array in each direction: validation's rejection, then 40. A direction that the array lacks is 0.
-pub fn data_size(image: &[u8], node: u64) -> DataSize
+pub fn data_size(image: &[u8], node: u64) -> Result<DataSize, Rejection>
     ensures { data_size_tells result ≡ data_size_answer image.now node }
 {
     let mut index: [u16; 16384] = [0; 16384];
-    let s = crate::image_stage(image, &mut index);
-    let Stage::Pass = s else {
-        return DataSize::Rejected(s.rejection());
-    };
+    crate::image_stage(image, &mut index)?;
     if !is_sized_array(image, &index, node) {
-        return DataSize::Rejected(Rejection::at(40, 0));
+        return Err(Rejection::at(40, 0));
     }
-    array_sizes(image, node as usize)
+    Ok(array_sizes(image, node as usize))
 }

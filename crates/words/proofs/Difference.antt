@@ -5,7 +5,7 @@ use mathlib.Core.Bool.{Bool, true, false, cond, ◌&&◌}
 use mathlib.Core.List.{List, [], ◌∷◌}
 use native.Mathlib.Omega.{arith}
 use native.Mathlib.Decide.{ℕ_discrete}
-use native.Mathlib.Nat.{add-zero, suc-add, mul_assoc, pow-succ'}
+use native.Mathlib.Nat.{suc-add, mul_assoc, pow-succ'}
 use lib.Dec.{eqb}
 use lib.Count.{count_trailing_zeros}
 use lib.ListN.{length, take, drop, length-drop}
@@ -13,7 +13,8 @@ use lib.Seq.{drop-drop}
 use borrow.Author.Tests.{eqb-true, eqb-false, eq-eqb, ne_eqb}
 use Rattle.model.specs.Bytes.{le}
 use Rattle.model.specs.NameBytes.{first_difference}
-use Rattle.words.specs.Difference.{gap_of, same_bytes}
+use Rattle.std.specs.Int.{abs_diff}
+use Rattle.words.specs.Difference.{same_bytes}
 use Rattle.words.proofs.Same.{Bytes, byte_pair, bytes_drop}
 
 -- an even number has a zero more than its half
@@ -41,22 +42,22 @@ part_byte (suc j) k n f =
     twice : (m : ℕ) → n % 2 ≡ 0 → n / 2 ≡ 2 ^ j * m → n ≡ 2 ^ suc j * m
     twice m e g = let d : n ≡ 2 * (n / 2) = omega arith in d ∙ rw (g, pow-succ') (sym (mul_assoc 2 (2 ^ j) m))
 
-pub shared_bytes : (w x y : ℕ) → count_trailing_zeros (8 * w) (gap_of x y) / 8 ≡ same_bytes w x y
+pub shared_bytes : (w x y : ℕ) → count_trailing_zeros (8 * w) (abs_diff x y) / 8 ≡ same_bytes w x y
 unfolding same_bytes count_trailing_zeros
 shared_bytes zero x y = refl
 shared_bytes (suc w) x y = by_test (eqb (x % 256) (y % 256)) refl (shared_bytes w (x / 256) (y / 256))
   where
-    by_test : (t : Bool) → eqb (x % 256) (y % 256) ≡ t → count_trailing_zeros (8 * w) (gap_of (x / 256) (y / 256)) / 8 ≡ same_bytes w (x / 256) (y / 256)
-        → count_trailing_zeros (8 * suc w) (gap_of x y) / 8 ≡ cond t (suc (same_bytes w (x / 256) (y / 256))) 0
+    by_test : (t : Bool) → eqb (x % 256) (y % 256) ≡ t → count_trailing_zeros (8 * w) (abs_diff (x / 256) (y / 256)) / 8 ≡ same_bytes w (x / 256) (y / 256)
+        → count_trailing_zeros (8 * suc w) (abs_diff x y) / 8 ≡ cond t (suc (same_bytes w (x / 256) (y / 256))) 0
     by_test true e h =
         let q = eqb-true (x % 256) (y % 256) e in
-        let g : gap_of x y ≡ 256 * gap_of (x / 256) (y / 256) = omega arith in
+        let g : abs_diff x y ≡ 256 * abs_diff (x / 256) (y / 256) = omega arith in
         let k : 8 * suc w ≡ 8 + 8 * w = omega arith in
-        rw (g, k, whole_byte (8 * w) (gap_of (x / 256) (y / 256)), ← h) (omega arith)
+        rw (g, k, whole_byte (8 * w) (abs_diff (x / 256) (y / 256)), ← h) (omega arith)
     by_test false e h =
         let q = eqb-false (x % 256) (y % 256) e in
         let k : 8 * suc w ≡ 8 + 8 * w = omega arith in
-        let p : count_trailing_zeros (8 + 8 * w) (gap_of x y) < 8 = part_byte 8 (8 * w) (gap_of x y) (λ m g. q (omega arith)) in
+        let p : count_trailing_zeros (8 + 8 * w) (abs_diff x y) < 8 = part_byte 8 (8 * w) (abs_diff x y) (λ m g. q (omega arith)) in
         rw k (omega arith)
 
 -- two numbers that differ do not share all bytes
@@ -103,9 +104,6 @@ word (suc w) r (x ∷ s) (y ∷ u) h l a b =
 pub record Agree (n : ℕ) (a : List ℕ) (p : ℕ) (b : List ℕ) (q d : ℕ) : Type 0 where
   pub inside : d ≤ n
   pub rest : d + first_difference (take (n - d) (drop (p + d) a)) (take (n - d) (drop (q + d) b)) ≡ first_difference (take n (drop p a)) (take n (drop q b))
-
-pub agree_start : (n : ℕ) (a : List ℕ) (p : ℕ) (b : List ℕ) (q : ℕ) → Agree n a p b q 0
-agree_start n a p b q = let e : n - 0 ≡ n = omega arith in record { inside = omega arith; rest = rw (add-zero p, add-zero q, e) (omega arith) }
 
 module _ {n : ℕ} {a b : List ℕ} {p q d : ℕ} (l : Agree n a p b q d) where
   pub agree-done : n ≤ d → suc n ≡ first_difference (take n (drop p a)) (take n (drop q b))

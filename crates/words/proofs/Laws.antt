@@ -26,10 +26,3 @@ front b at w k r x t byte h l =
     let e : w - (k - 1) ≡ suc (w - k) = omega arith in
     let f : at + (k - 1) + 1 ≡ at + k = omega arith in
     rw (e, pow-succ', le_step (w - k) b (at + (k - 1)), f) (omega arith)
-
--- no byte is left in front
-pub whole : (b : List ℕ) (at w k r : ℕ) → k ≤ 0 → Tail b at w k r → (r ≡ le w (drop at b)) × (r < 256 ^ w)
-whole b at w k r h t =
-    let e : w - k ≡ w = omega arith in
-    let f : at + k ≡ at = omega arith in
-    rw (e, f) at t

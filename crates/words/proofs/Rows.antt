@@ -1,7 +1,7 @@
 -- Words of 8 bytes written one after the other: what is left to write gives the whole.
 use Prim.Native.Nat.{ℕ, suc, ◌+◌, ◌*◌, ◌≤◌, ◌<◌}
 use native.Mathlib.Omega.{arith}
-use mathlib.Core.Path.{◌≡◌, refl, sym, ap, ◌∙◌}
+use mathlib.Core.Path.{◌≡◌, sym, ap, ◌∙◌}
 use mathlib.Core.List.{List}
 use native.Mathlib.Numerals.{add-one}
 use lib.ListN.{length, get_or, drop, drop_of_length-le}
@@ -15,9 +15,6 @@ pub record WordsLeft (out₀ d : List ℕ) (at : ℕ) (out : List ℕ) (k : ℕ)
   pub within : k ≤ length d
   pub long : length out ≡ length out₀
   pub whole : over_at (at + 8 * k) out (all_bytes 8 (drop k d)) ≡ over_at at out₀ (all_bytes 8 d)
-
-pub words_start : (out d : List ℕ) (at : ℕ) → WordsLeft out d at out 0
-words_start out d at = let e : at + 8 * 0 ≡ at = omega arith in record { within = omega arith; long = refl; whole = rw e }
 
 pub words_more : {out₀ d : List ℕ} {at : ℕ} {out out' : List ℕ} {k : ℕ} → WordsLeft out₀ d at out k → k < length d → at + 8 * length d ≤ length out₀
     → out' ≡ over_at (at + 8 * k) out (le_bytes 8 (get_or d k 0)) → length out' ≡ length out → WordsLeft out₀ d at out' (k + 1)

@@ -4,24 +4,18 @@ use mathlib.Core.Bool.{Bool, true, false, cond}
 use Prim.Native.Nat.{ℕ, zero, suc, ◌+◌, ◌*◌, ◌-◌, ◌%◌, ◌^◌, ◌≤◌, ◌<◌}
 use native.Mathlib.Omega.{arith}
 use native.Mathlib.Decide.{ℕ_discrete}
-use borrow.Author.Tests.{lt-leb, le-leb, lt-ltb, le-ltb, ne_eqb, ltb-true, leb-true, leb-false}
-use lib.IntN.{ℤ, pos, negsuc, nat_abs, ◌-ℤ◌}
-use lib.Signed.{lt_z, mag, non_neg}
-use lib.Dec.{T, ltb, leb, eqb→eq}
-use mir.Syntax.{Width, w32, w64}
-use mir.Val.{SFits, to_z, of_z, hbits}
-use mir.Facts.{to_z_pos, to_z-of_z}
+use borrow.Author.Tests.{lt-leb, le-leb, lt-ltb, le-ltb, ne_eqb, leb-true, leb-false}
+use lib.IntN.{pos, negsuc, nat_abs, ◌-ℤ◌}
+use lib.Dec.{T, leb, eqb→eq}
+use mir.Syntax.{w32, w64}
+use mir.Val.{SFits, to_z}
+use mir.Facts.{to_z_pos}
 use Rattle.model.specs.Bytes.{half, negative, signed, magnitude}
 use Rattle.words.specs.Width.{twos, is_width}
 
 minus : (m : ℕ) → negsuc 0 -ℤ pos m ≡ negsuc m
 minus zero = refl
 minus (suc m) = ap negsuc (omega arith)
-
-minus' : (n : ℕ) → negsuc 0 -ℤ negsuc n ≡ pos n
-minus' n =
-    let e : ltb (suc n) 1 ≡ false = le-ltb (suc n) 1 (omega arith) in
-    simp e (ap pos (omega arith))
 
 module _ (h x : ℕ) (small : h ≤ 2 ^ 63) where
   pub low : x < h → to_z w64 x ≡ twos h x
@@ -37,33 +31,6 @@ module _ (h x : ℕ) (small : h ≤ 2 ^ 63) where
   pub twos_fits : h ≤ x → x < h + h → SFits w64 (twos h x)
   unfolding twos
   twos_fits l m = simp (le-leb h x l) (record { sfits = omega arith })
-
--- what the test `x < 0` tells of a signed x of the width w
-module _ (w : Width) where
-  abbrev pub Down : ℤ → Type 0
-  Down z = (negsuc 0 -ℤ z ≡ pos (nat_abs z - 1)) × ((0 < nat_abs z) × (nat_abs z ≤ 2 ^ hbits w))
-
-  down' : (z : ℤ) → mag z < 2 ^ hbits w → lt_z z (pos 0) ≡ true → Down z
-  down' (pos n) f t = absurd (let l = ltb-true n 0 t in omega arith)
-  down' (negsuc n) f t = (minus' n ∙ ap pos (omega arith), (omega arith, omega arith))
-
-  up' : (z : ℤ) → mag z < 2 ^ hbits w → lt_z z (pos 0) ≡ false → T (non_neg z) × (nat_abs z < 2 ^ hbits w)
-  up' (pos n) f t = (tt, f)
-  up' (negsuc n) f t = let z : ◌≡◌ {A = ℕ} 0 1 = cc in omega arith
-
-  module _ (z : ℤ) (f : SFits w z) where
-    pub down : lt_z (to_z w (of_z w z)) (pos 0) ≡ true → Down z
-    down t = down' z f.sfits (rw (to_z-of_z f) at t)
-
-    pub up : lt_z (to_z w (of_z w z)) (pos 0) ≡ false → T (non_neg z) × (nat_abs z < 2 ^ hbits w)
-    up t = up' z f.sfits (rw (to_z-of_z f) at t)
-
-    -- -1 less a negative number: it fits, and is read back from its bits
-    pub less : lt_z (to_z w (of_z w z)) (pos 0) ≡ true → SFits w (negsuc 0 -ℤ to_z w (of_z w z))
-    less t = let d = down t in rw (to_z-of_z f, d.0) (record { sfits = omega arith })
-
-    pub less_back : lt_z (to_z w (of_z w z)) (pos 0) ≡ true → to_z w (of_z w (negsuc 0 -ℤ to_z w (of_z w z))) ≡ pos (nat_abs z - 1)
-    less_back t = rw (to_z-of_z (less t), to_z-of_z f) (down t).0
 
 pub eight : (k : ℕ) → T (is_width k) → (k ≡ 4 → ⊥) → k ≡ 8
 eight k t n = eqb→eq k 8 (simp (ne_eqb k 4 n) at t)

@@ -1,10 +1,13 @@
 -- A number or a list of bytes written byte by byte: what is left to write gives the whole.
-use Prim.Native.Nat.{ℕ, suc, ◌+◌, ◌-◌, ◌/◌, ◌%◌, ◌≤◌, ◌<◌}
+use Prim.Native.Nat.{ℕ, zero, suc, ◌+◌, ◌/◌, ◌%◌, ◌^◌, ◌≤◌, ◌<◌}
 use mathlib.Core.Path.{◌≡◌, refl, sym, ap, subst, ◌∙◌}
 use mathlib.Core.List.{List, [], ◌∷◌, ◌++◌, append_assoc, append-nil}
 use native.Mathlib.Omega.{arith}
 use native.Mathlib.Numerals.{add-one}
+use native.Mathlib.Nat.{pow-suc, div-div-eq-div-mul}
 use lib.ListN.{length, get_or, take, drop, set, length-set, drop_of_length-le}
+use borrow.Rule.Slice.PartMut.{put_mid}
+use Rattle.std.specs.Int.{byte_at, bytes_low_first}
 use lib.Seq.{take-suc-set, drop-set-lt, drop-drop, drop-cons}
 use Rattle.model.specs.Lists.{over, over_at}
 use Rattle.model.specs.Bytes.{le_bytes}
@@ -44,17 +47,22 @@ done {out₀} {all} {at} {out} {k} {rest} l h = by_rest rest l.count l.whole
     by_rest [] c w = sym (over_at_nil (at + k) out) ∙ w
     by_rest (y ∷ ys) c w = absurd (omega arith)
 
--- the bytes of a number
-pub word_more : {out₀ all : List ℕ} {at : ℕ} {out : List ℕ} {k : ℕ} (width r : ℕ) → Left out₀ all at out k (le_bytes (width - k) r) → k < width
-    → at + length all ≤ length out₀
-    → Left out₀ all at (set out (at + k) (r % 256)) (k + 1) (le_bytes (width - (k + 1)) (r / 256))
-word_more {out₀} {all} {at} {out} {k} width r l h g =
-    let e : width - k ≡ suc (width - (k + 1)) = omega arith in
-    let m : Left out₀ all at out k (r % 256 ∷ le_bytes (width - (k + 1)) (r / 256)) = rw e at l in
-    more m g
+-- a part of a buffer in whose place the list stands
+pub put_mid_over_at : (at k : ℕ) (out new all : List ℕ) → new ≡ all → k ≡ length all → put_mid at k out new ≡ over_at at out all
+unfolding over_at over
+put_mid_over_at at k out new all e h = rw (e, h)
 
-pub word_start : (out : List ℕ) (at width x : ℕ) → Left out (le_bytes width x) at out 0 (le_bytes (width - 0) x)
-word_start out at width x = let e : width - 0 ≡ width = omega arith in rw e (start out (le_bytes width x) at)
+-- the lowest bytes of a number are its bytes at their width
+pub take-bytes_low_first : (w i k n : ℕ) → w ≤ k → take w (bytes_low_first i k n) ≡ le_bytes w (n / 256 ^ i)
+take-bytes_low_first zero i k n h = refl
+take-bytes_low_first (suc w) i zero n h = absurd (omega arith)
+take-bytes_low_first (suc w) i (suc k) n h =
+    let e : n / 256 ^ suc i ≡ n / 256 ^ i / 256 = ap (λ (m : ℕ). n / m) (pow-suc 256 i) ∙ sym (div-div-eq-div-mul n (256 ^ i) 256) in
+    rw (lowest i, take-bytes_low_first w (suc i) k n (omega arith), e)
+  where
+    lowest : (i : ℕ) → byte_at i n ≡ n / 256 ^ i % 256
+    lowest zero = omega arith
+    lowest (suc i) = refl
 
 -- the bytes of a list
 pub bytes_more : {out₀ s : List ℕ} {at : ℕ} {out : List ℕ} {k : ℕ} → Left out₀ s at out k (drop k s) → k < length s → at + length s ≤ length out₀

@@ -1,9 +1,5 @@
--- The difference of two numbers, and the low bytes that they share.
-use Rattle.std.specs.Prelude.{ℕ, zero, suc, ◌+◌, ◌-◌, ◌/◌, ◌%◌, cond, eqb}
-
--- whichever is the greater
-abbrev pub gap_of : ℕ → ℕ → ℕ
-gap_of x y = (x - y) + (y - x)
+-- The low bytes that two numbers share.
+use Rattle.std.specs.Prelude.{ℕ, zero, suc, ◌/◌, ◌%◌, cond, eqb}
 
 -- how many of the w lowest bytes are the same, before the first that differs
 unfoldable pub same_bytes : ℕ → ℕ → ℕ → ℕ

@@ -5,7 +5,7 @@ ghost use Rattle.std.specs.Prelude.{◌≡◌, ◌+◌, ◌*◌, ◌^◌, ◌≤
 ghost use Rattle.model.specs.Lists.{over_at};
 ghost use Rattle.model.specs.Bytes.{le, le_bytes, all_bytes, signed};
 ghost use Rattle.model.specs.NameBytes.{first_difference};
-ghost use Rattle.words.specs.Difference.{gap_of, same_bytes};
+ghost use Rattle.words.specs.Difference.{same_bytes};
 ghost use Rattle.words.specs.Width.{is_width, twos};
 
 // One byte, widened: its bound comes with it.
@@ -22,15 +22,13 @@ pub fn word_at(s: &[u8], at: usize, width: usize) -> u64
     ensures { (result ≡ le width (drop at s.now)) × (result < 256 ^ width) }
 {
     let mut r: u64 = 0;
-    let mut k = width;
-    while 0 < k {
-        k -= 1;
+    for k in (0..width).rev() {
         r = r * 256 + byte_at(s, at + k);
     }
     r
 }
 
-// The u16, u32 and u64 words from `at`.
+// The u16, u32 and u64 words from `at`, each a name for `word_at` at its width.
 pub fn u16_at(s: &[u8], at: usize) -> u64
     requires { at + 2 ≤ length s.now }
     ensures { (result ≡ le 2 (drop at s.now)) × (result < 65536) }
@@ -52,19 +50,12 @@ pub fn u64_at(s: &[u8], at: usize) -> u64
     word_at(s, at, 8)
 }
 
-// The difference of two numbers, whichever is the greater.
-fn gap(x: u64, y: u64) -> u64
-    ensures { result ≡ gap_of x y }
-{
-    if x < y { y - x } else { x - y }
-}
-
 // How many low bytes two words that differ share before the first that does. There are at most 7: the remainder tells the compiler.
 fn same_bytes(x: u64, y: u64) -> usize
     requires { x ≡ y → ⊥ }
     ensures { (result ≡ same_bytes 8 x y) × (result ≤ 7) }
 {
-    (u64::trailing_zeros(gap(x, y)) / 8 % 8) as usize
+    (x.abs_diff(y).trailing_zeros() / 8 % 8) as usize
 }
 
 // The place, from 1, of the first byte in which two fields of 32 bytes differ; 33 where none does. It leaves off at the word
@@ -73,14 +64,12 @@ pub fn first_difference(a: &[u8], p: usize, b: &[u8], q: usize) -> usize
     requires { (p + 32 ≤ length a.now) × (q + 32 ≤ length b.now) }
     ensures { (result ≡ first_difference (take 32 (drop p a.now)) (take 32 (drop q b.now))) × ((1 ≤ result) × (result ≤ 33)) }
 {
-    let mut j = 0;
-    while j < 4 {
+    for j in 0..4 {
         let x = u64_at(a, p + 8 * j);
         let y = u64_at(b, q + 8 * j);
         if x != y {
             return 8 * j + same_bytes(x, y) + 1;
         }
-        j += 1;
     }
     33
 }
@@ -133,43 +122,21 @@ pub fn i64_at(s: &[u8], at: usize) -> i64
     signed_at(s, at, 8)
 }
 
-// The magnitude of a signed 32 bit number, of the smallest one too: nothing is negated.
-pub fn magnitude32(x: i32) -> u64
-    ensures { result ≡ nat_abs x }
-{
-    if x < 0 { (-1 - x) as u64 + 1 } else { x as u64 }
-}
-
-// The magnitude of a signed 64 bit number, of the smallest one too.
-pub fn magnitude64(x: i64) -> u64
-    ensures { result ≡ nat_abs x }
-{
-    if x < 0 { (-1 - x) as u64 + 1 } else { x as u64 }
-}
-
 // Writes x in `width` little-endian bytes from `at` on; the rest stays.
 pub fn put_word(out: &mut [u8], at: usize, width: usize, x: u64)
     requires { (width ≤ 8) × (at + width ≤ length out.old) }
     ensures { out.new ≡ over_at at out.old (le_bytes width x) }
 {
-    let mut k: usize = 0;
-    let mut rest = x;
-    while k < width {
-        out[at + k] = (rest % 256) as u8;
-        rest = rest / 256;
-        k += 1;
-    }
+    out[at..at + width].copy_from_slice(&x.to_le_bytes()[..width]);
 }
 
-// Writes the bytes of s from `at` on; the rest stays.
+// Writes the bytes of s from `at` on; the rest stays. `copy_from_slice` would make the archive need memmove, beside memcpy and memset.
 pub fn put_bytes(out: &mut [u8], at: usize, s: &[u8])
     requires { at + length s.now ≤ length out.old }
     ensures { out.new ≡ over_at at out.old s.now }
 {
-    let mut k: usize = 0;
-    while k < s.len() {
-        out[at + k] = s[k];
-        k += 1;
+    for (k, x) in s.iter().enumerate() {
+        out[at + k] = *x;
     }
 }
 
@@ -178,9 +145,7 @@ pub fn put_words(out: &mut [u8], at: usize, words: &[u64])
     requires { at + 8 * length words.now ≤ length out.old }
     ensures { out.new ≡ over_at at out.old (all_bytes 8 words.now) }
 {
-    let mut k: usize = 0;
-    while k < words.len() {
-        put_word(out, at + 8 * k, 8, words[k]);
-        k += 1;
+    for (k, x) in words.iter().enumerate() {
+        put_word(out, at + 8 * k, 8, *x);
     }
 }

@@ -8,10 +8,10 @@ ghost use Rattle.writer_model.specs.Writer.{room_for, needed_room, start_check, 
 ghost use Rattle.writer_model.specs.Answers.{writing_tells};
 ghost use Rattle.writer_model.specs.Writer.{addition};
 
-use model::{Count, Stage};
+use model::Rejection;
 use records::{Header, Record};
 use table::reject;
-use writer_model::{Writer, Writing};
+use writer_model::Writer;
 
 const MAX_NODES: u64 = 4096;
 
@@ -35,7 +35,7 @@ fn needed_room(state: Writer) -> u64
 }
 
 // Why a start is refused: 4, 5, 1, 46.
-fn start_stage(nodes: u64, words: u64, bytes: u64, room: u64) -> Stage
+fn start_stage(nodes: u64, words: u64, bytes: u64, room: u64) -> Result<(), Rejection>
     ensures { stage_tells result ≡ start_check nodes words bytes room }
 {
     if !table::is_within(nodes, 1, MAX_NODES) {
@@ -51,20 +51,17 @@ fn start_stage(nodes: u64, words: u64, bytes: u64, room: u64) -> Stage
     if room < base + bytes {
         return reject(46, 0);
     }
-    Stage::Pass
+    Ok(())
 }
 
 // Starts an image of so many nodes, dimension words and data bytes: the needed room holds its header and zeros.
-pub fn start(nodes: u64, words: u64, bytes: u64, room: &mut [u8]) -> Writing
+pub fn start(nodes: u64, words: u64, bytes: u64, room: &mut [u8]) -> Result<Writer, Rejection>
     ensures result_value { writing_tells result ≡ start_answer nodes words bytes (length room.old) }
     ensures room_after { room.new ≡ start_memory nodes words bytes room.old }
 {
-    let s = start_stage(nodes, words, bytes, room.len() as u64);
-    let Stage::Pass = s else {
-        return Writing::Rejected(s.rejection());
-    };
+    start_stage(nodes, words, bytes, room.len() as u64)?;
     writer_parts::put_blank(room, nodes, words, bytes);
-    Writing::State(Writer {
+    Ok(Writer {
         nodes: nodes as u32,
         words: words as u32,
         bytes: bytes as u32,
@@ -75,7 +72,7 @@ pub fn start(nodes: u64, words: u64, bytes: u64, room: &mut [u8]) -> Writing
 }
 
 // Why an addition is refused before the node is looked at: 46, 50.
-fn turn_stage(state: Writer, room: u64) -> Stage
+fn turn_stage(state: Writer, room: u64) -> Result<(), Rejection>
     ensures { stage_tells result ≡ check 0 (46 unless leb (needed_room state) room ∷ 50 unless ltb state.node state.nodes ∷ []) }
 {
     if room < needed_room(state) {
@@ -84,7 +81,7 @@ fn turn_stage(state: Writer, room: u64) -> Stage
     if state.nodes <= state.node {
         return reject(50, 0);
     }
-    Stage::Pass
+    Ok(())
 }
 
 // Why an addition is refused: 46, 50, then rules 7 to 17 at the next node.
@@ -97,27 +94,15 @@ fn addition_stage(
     parent: u64,
     bytes: &[u8],
     room: &[u8],
-) -> Stage
+) -> Result<(), Rejection>
     ensures { stage_tells result ≡ add_check state
         (addition name.now label.now data_type.now dimensions.now parent bytes.now)
         room.now }
 {
-    let turn = turn_stage(state, room.len() as u64);
-    let Stage::Pass = turn else {
-        return turn;
-    };
-    let place = writer_rules::line_stage(state, parent, room);
-    let Stage::Pass = place else {
-        return place;
-    };
-    let text = writer_rules::text_stage(state, name, label, parent, room);
-    let Stage::Pass = text else {
-        return text;
-    };
-    let types = writer_rules::type_stage(state, data_type, dimensions.len() as u64, room);
-    let Stage::Pass = types else {
-        return types;
-    };
+    turn_stage(state, room.len() as u64)?;
+    writer_rules::line_stage(state, parent, room)?;
+    writer_rules::text_stage(state, name, label, parent, room)?;
+    writer_rules::type_stage(state, data_type, dimensions.len() as u64, room)?;
     writer_rules::size_stage(state, data_type, dimensions, bytes.len() as u64, room)
 }
 
@@ -146,7 +131,7 @@ pub fn add(
     parent: u64,
     bytes: &[u8],
     room: &mut [u8],
-) -> Writing
+) -> Result<Writer, Rejection>
     ensures result_value { writing_tells result ≡ add_answer state
         (addition name.now label.now data_type.now dimensions.now parent bytes.now)
         room.old }
@@ -154,20 +139,17 @@ pub fn add(
         (addition name.now label.now data_type.now dimensions.now parent bytes.now)
         room.old }
 {
-    let s = addition_stage(
+    addition_stage(
         state, name, label, data_type, dimensions, parent, bytes, room,
-    );
-    let Stage::Pass = s else {
-        return Writing::Rejected(s.rejection());
-    };
+    )?;
     writer_parts::put_node(
         state, name, label, data_type, dimensions, parent, bytes, room,
     );
-    Writing::State(next_state(state, dimensions.len(), bytes.len()))
+    Ok(next_state(state, dimensions.len(), bytes.len()))
 }
 
 // Why an image is not finished before it is judged: 46, 51.
-fn end_stage(state: Writer, room: u64) -> Stage
+fn end_stage(state: Writer, room: u64) -> Result<(), Rejection>
     ensures { stage_tells result ≡ check 0 (46 unless leb (needed_room state) room ∷ 51 unless leb state.nodes state.node ∷ []) }
 {
     if room < needed_room(state) {
@@ -176,28 +158,22 @@ fn end_stage(state: Writer, room: u64) -> Stage
     if state.node < state.nodes {
         return reject(51, 0);
     }
-    Stage::Pass
+    Ok(())
 }
 
 // Why an image is not finished: 46, 51, then rules 1 to 18 of the needed room.
-fn finish_stage(state: Writer, room: &[u8]) -> Stage
+fn finish_stage(state: Writer, room: &[u8]) -> Result<(), Rejection>
     ensures { stage_tells result ≡ finish_check state room.now }
 {
-    let s = end_stage(state, room.len() as u64);
-    let Stage::Pass = s else {
-        return s;
-    };
+    end_stage(state, room.len() as u64)?;
     let end = needed_room(state) as usize;
     table::table_stage(&room[..end])
 }
 
 // Judges the needed room by rules 1 to 18, and answers its length.
-pub fn finish(state: Writer, room: &[u8]) -> Count
+pub fn finish(state: Writer, room: &[u8]) -> Result<u64, Rejection>
     ensures { count_tells result ≡ finish_answer state room.now }
 {
-    let s = finish_stage(state, room);
-    let Stage::Pass = s else {
-        return Count::Rejected(s.rejection());
-    };
-    Count::Of(needed_room(state))
+    finish_stage(state, room)?;
+    Ok(needed_room(state))
 }

@@ -11,7 +11,8 @@ ghost use Rattle.writer_model.specs.Exports.{state_in, state_after, writing_word
 ghost use Rattle.writer_model.specs.Writer.{addition};
 
 use answers::{ExportAnswer, count_answer, put_answer};
-use writer_model::{Writer, Writing};
+use model::Rejection;
+use writer_model::Writer;
 
 const STATE_LENGTH: usize = 6;
 
@@ -36,11 +37,11 @@ fn state_in(state: &[u32]) -> Writer
 }
 
 // Writes the state that was answered; a refusal leaves the numbers.
-fn put_state(w: Writing, state: &mut [u32])
+fn put_state(w: Result<Writer, Rejection>, state: &mut [u32])
     requires { 6 ≤ length state.old }
     ensures { state.new ≡ state_after (writing_tells w) state.old }
 {
-    let Writing::State(s) = w else {
+    let Ok(s) = w else {
         return;
     };
     state[0] = s.nodes;
@@ -52,15 +53,15 @@ fn put_state(w: Writing, state: &mut [u32])
 }
 
 // A start or an addition: node and entry.
-fn writing_answer(w: Writing) -> ExportAnswer
+fn writing_answer(w: Result<Writer, Rejection>) -> ExportAnswer
     ensures { (result.rule ≡ rule_of (writing_tells w)) × (take 2 result.words ≡ writing_words (writing_tells w)) }
 {
     match w {
-        Writing::State(_) => ExportAnswer {
+        Ok(_) => ExportAnswer {
             rule: 0,
             words: [0; 6],
         },
-        Writing::Rejected(r) => ExportAnswer {
+        Err(r) => ExportAnswer {
             rule: r.rule,
             words: [r.node, r.entry, 0, 0, 0, 0],
         },
@@ -68,7 +69,7 @@ fn writing_answer(w: Writing) -> ExportAnswer
 }
 
 // What a start or an addition told: the state and the answer's words are written, the rule is answered.
-fn put_writing(w: Writing, state: &mut [u32], answer: &mut [u8]) -> u64
+fn put_writing(w: Result<Writer, Rejection>, state: &mut [u32], answer: &mut [u8]) -> u64
     requires { (6 ≤ length state.old) × (16 ≤ length answer.old) }
     ensures { (result ≡ rule_of (writing_tells w)) × ((state.new ≡ state_after (writing_tells w) state.old)
         × (answer.new ≡ over answer.old (all_bytes 8 (writing_words (writing_tells w))))) }

@@ -1,8 +1,9 @@
 -- What a start or an addition tells: a state, or a refusal.
-use Rattle.model.specs.Rules.{Answer, rejected, answer}
+use Rattle.std.specs.Prelude.{Result}
+use Rattle.model.specs.declared.Rejection.{Rejection}
+use Rattle.model.specs.Rules.{Answer}
+use Rattle.model.specs.Answers.{tells}
 use Rattle.writer_model.specs.declared.Writer.{Writer}
-use Rattle.writer_model.specs.declared.Writing.{Writing}
 
-abbrev pub writing_tells : Writing → Answer Writer
-writing_tells (Writing.State s) = answer s
-writing_tells (Writing.Rejected r) = rejected r
+abbrev pub writing_tells : Result Writer Rejection → Answer Writer
+writing_tells = tells (λ s. s)

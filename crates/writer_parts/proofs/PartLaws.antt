@@ -1,10 +1,10 @@
 -- Parts written one after the other.
-use Prim.Native.Nat.{ℕ, suc, ◌+◌, ◌*◌, ◌-◌, ◌≤◌, ◌<◌}
+use Prim.Native.Nat.{ℕ, ◌+◌, ◌*◌, ◌-◌, ◌≤◌}
 use native.Mathlib.Omega.{arith}
 use mathlib.Core.Path.{◌≡◌, refl, sym, ap, ◌∙◌}
 use mathlib.Core.Bool.{Bool, true, false, cond}
-use mathlib.Core.List.{List, [], ◌∷◌, ◌++◌}
-use lib.ListN.{length, set, replicate, length-append}
+use mathlib.Core.List.{List, [], ◌++◌}
+use lib.ListN.{length, replicate, length-append}
 use lib.Dec.{leb, eqb}
 use borrow.Author.Tests.{leb-true}
 use Rattle.model.specs.Lists.{over, over_at}
@@ -14,21 +14,8 @@ use Rattle.model.specs.Image.{record_at}
 use Rattle.model.specs.Build.{header_words}
 use Rattle.model.proofs.Passed.{check_pass}
 use Rattle.model.proofs.Overlays.{over_at_nil, over_more, over_at_more}
-use Rattle.words.proofs.Writes.{Left, start, more}
 use Rattle.writer_model.specs.declared.Writer.{Writer}
 use Rattle.writer_model.specs.Writer.{Addition, room_for, start_check, blank_image, padded, type_field, added_node, record_bytes, words_place, bytes_place, with_node}
-
--- n zeros, of which k are written
-pub zeros_start : (out : List ℕ) (at n : ℕ) → Left out (replicate n 0) at out 0 (replicate (n - 0) 0)
-zeros_start out at n = let e : n - 0 ≡ n = omega arith in rw e (start out (replicate n 0) at)
-
-pub zeros_more : {out₀ all : List ℕ} {at : ℕ} {out : List ℕ} {k : ℕ} (n : ℕ) → Left out₀ all at out k (replicate (n - k) 0) → k < n
-    → at + length all ≤ length out₀
-    → Left out₀ all at (set out (at + k) 0) (k + 1) (replicate (n - (k + 1)) 0)
-zeros_more {out₀} {all} {at} {out} {k} n l h g =
-    let e : n - k ≡ suc (n - (k + 1)) = omega arith in
-    let m : Left out₀ all at out k (0 ∷ replicate (n - (k + 1)) 0) = rw e at l in
-    more m g
 
 -- the n bytes of p were written from `at` on
 pub record Put (out₀ : List ℕ) (at n : ℕ) (p out : List ℕ) : Type 0 where

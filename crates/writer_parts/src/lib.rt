@@ -18,11 +18,7 @@ fn put_zeros(out: &mut [u8], at: usize, n: usize)
     requires { at + n ≤ length out.old }
     ensures { out.new ≡ over_at at out.old (replicate n 0) }
 {
-    let mut k: usize = 0;
-    while k < n {
-        out[at + k] = 0;
-        k += 1;
-    }
+    out[at..at + n].fill(0);
 }
 
 // Writes the header of an image with so many nodes, dimension words and data bytes.

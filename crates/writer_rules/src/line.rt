@@ -8,7 +8,7 @@ ghost use Rattle.model.specs.Answers.{stage_tells};
 ghost use Rattle.writer_model.specs.Writer.{Addition, tree_with, line_lawful};
 ghost use Rattle.writer_rules.specs.Groups.{line_rules};
 
-use model::Stage;
+use model::Rejection;
 use records::{Header, Record};
 use table::reject;
 use writer_model::Writer;
@@ -66,19 +66,17 @@ fn is_too_deep(state: Writer, parent: u64, room: &[u8]) -> bool
         return false;
     }
     let mut at = parent as usize;
-    let mut left: usize = MAX_DEPTH - 1;
-    while 0 < left {
+    for _ in 1..MAX_DEPTH {
         if at == 0 {
             return false;
         }
         at = parent_in(room, at) as usize;
-        left -= 1;
     }
     at != 0
 }
 
 // Rules 7 and 8 at the next node.
-pub fn line_stage(state: Writer, parent: u64, room: &[u8]) -> Stage
+pub fn line_stage(state: Writer, parent: u64, room: &[u8]) -> Result<(), Rejection>
     requires { record_at state.node ≤ length room.now }
     ensures { (a : Addition) → a.parent ≡ parent
         → stage_tells result ≡ check state.node (line_rules (tree_with state a room.now) state.node) }
@@ -90,5 +88,5 @@ pub fn line_stage(state: Writer, parent: u64, room: &[u8]) -> Stage
     if is_too_deep(state, parent, room) {
         return reject(8, node);
     }
-    Stage::Pass
+    Ok(())
 }

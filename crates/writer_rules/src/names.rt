@@ -11,7 +11,7 @@ ghost use Rattle.writer_model.specs.Writer.{Addition, tree_with};
 ghost use Rattle.writer_model.specs.Writer.{padded as paddedText};
 
 use super::line::parent_in;
-use model::Stage;
+use model::Rejection;
 use records::{Header, Record};
 use table::reject;
 use writer_model::Writer;
@@ -39,19 +39,18 @@ fn is_lawful(text: &[u8], barred: u8) -> bool
     texts::is_text(&field, 0, barred)
 }
 
-// Whether the 32 bytes from `at` are this name. It leaves off at the first word that differs.
+// Whether the 32 bytes from `at` are this name. It leaves off at the first word that differs. `words::first_difference` tells it too, but a function that
+// two crates call is compiled into neither, and an addition took twice as long.
 fn has_name(room: &[u8], at: usize, name: &[u8]) -> bool
     requires { (at + 32 ≤ length room.now) × (length name.now ≡ 32) }
     ensures { result ≡ same (take 32 (drop at room.now)) name.now }
 {
-    let mut j: usize = 0;
-    while j < 4 {
+    for j in 0..4 {
         let x = words::u64_at(room, at + 8 * j);
         let y = words::u64_at(name, 8 * j);
         if x != y {
             return false;
         }
-        j += 1;
     }
     true
 }
@@ -74,19 +73,17 @@ fn is_taken(state: Writer, name: &[u8], parent: u64, room: &[u8]) -> bool
     ensures { (a : Addition) → paddedText a.name ≡ name.now → a.parent ≡ parent
         → result ≡ name_taken (tree_with state a room.now) state.node }
 {
-    let count = state.node as usize;
-    let mut j: usize = 0;
-    while j < count {
-        if is_namesake(name, parent, room, j) {
-            return true;
-        }
-        j += 1;
-    }
-    false
+    (0..state.node as usize).any(|j| is_namesake(name, parent, room, j))
 }
 
 // Rules 9 to 11 at the next node.
-pub fn text_stage(state: Writer, name: &[u8], label: &[u8], parent: u64, room: &[u8]) -> Stage
+pub fn text_stage(
+    state: Writer,
+    name: &[u8],
+    label: &[u8],
+    parent: u64,
+    room: &[u8],
+) -> Result<(), Rejection>
     requires { record_at state.node ≤ length room.now }
     ensures { (a : Addition) → a.name ≡ name.now → a.label ≡ label.now → a.parent ≡ parent
         → stage_tells result ≡ check state.node (text_rules (tree_with state a room.now) state.node) }
@@ -102,5 +99,5 @@ pub fn text_stage(state: Writer, name: &[u8], label: &[u8], parent: u64, room: &
     if is_taken(state, &field, parent, room) {
         return reject(11, node);
     }
-    Stage::Pass
+    Ok(())
 }

@@ -10,7 +10,7 @@ ghost use Rattle.table.specs.Groups.{type_rules};
 ghost use Rattle.writer_model.specs.Writer.{Addition, type_field, tree_with};
 ghost use Rattle.writer_rules.specs.Groups.{sizes_after};
 
-use model::Stage;
+use model::Rejection;
 use records::data_types;
 use table::reject;
 use writer_model::Writer;
@@ -36,7 +36,7 @@ fn data_type_of(data_type: &[u8]) -> u64
 }
 
 // Rules 12 to 14 at the next node, which has so many dimensions.
-pub fn type_stage(state: Writer, data_type: &[u8], rank: u64, room: &[u8]) -> Stage
+pub fn type_stage(state: Writer, data_type: &[u8], rank: u64, room: &[u8]) -> Result<(), Rejection>
     ensures { (a : Addition) → a.data_type ≡ data_type.now → length a.dimensions ≡ rank
         → stage_tells result ≡ check state.node (type_rules (tree_with state a room.now) state.node) }
 {
@@ -51,7 +51,7 @@ pub fn type_stage(state: Writer, data_type: &[u8], rank: u64, room: &[u8]) -> St
     if !table::rank_lawful(known, rank) {
         return reject(14, node);
     }
-    Stage::Pass
+    Ok(())
 }
 
 // Rules 15 and 17: whether a part that starts at the sum of those before it ends within the total.
@@ -69,14 +69,11 @@ fn data_size_lawful(dimensions: &[u64], width: u64, size: u64) -> bool
     ensures { result ≡ (not (among 0 dimensions.now) && eqb (product dimensions.now * width) size) }
 {
     let mut m = width;
-    let mut k: usize = 0;
-    while k < dimensions.len() {
-        let d = dimensions[k];
-        if !table::product_fits(m, d, size) {
+    for d in dimensions {
+        if !table::product_fits(m, *d, size) {
             return false;
         }
-        m = m * d;
-        k += 1;
+        m *= *d;
     }
     m == size
 }
@@ -88,7 +85,7 @@ pub fn size_stage(
     dimensions: &[u64],
     size: u64,
     room: &[u8],
-) -> Stage
+) -> Result<(), Rejection>
     ensures { (a : Addition) → a.data_type ≡ data_type.now → a.dimensions ≡ dimensions.now → length a.bytes ≡ size
         → stage_tells result ≡ check state.node (sizes_after (tree_with state a room.now) state.word state.byte state.node) }
 {
@@ -107,5 +104,5 @@ pub fn size_stage(
     if !fits(state.byte as u64, size, state.bytes as u64) {
         return reject(17, node);
     }
-    Stage::Pass
+    Ok(())
 }

@@ -17,14 +17,12 @@ fn section_after(image: &[u8], index: &[u16], zone: usize, i: usize) -> usize
         × (result ≤ node_count image.now) }
 {
     let n = labels::node_count(image);
-    let mut j = i + 1;
-    while j < n {
+    for j in i + 1..n {
         if index::section_of(image, index, zone, j) {
             return j;
         }
-        j += 1;
     }
-    j
+    n
 }
 
 // The entry of the zone's first section after node i, where there is one.
@@ -43,12 +41,10 @@ pub fn section_count(image: &[u8], index: &[u16], zone: usize) -> usize
 {
     let n = labels::node_count(image);
     let mut count = 0;
-    let mut j = zone + 1;
-    while j < n {
+    for j in zone + 1..n {
         if index::section_of(image, index, zone, j) {
             count += 1;
         }
-        j += 1;
     }
     count
 }

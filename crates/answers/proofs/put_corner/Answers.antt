@@ -8,13 +8,13 @@ use Rattle.model.specs.Exports.{number_bytes}
 use Rattle.model.proofs.Overlays.{over_at_zero}
 use Rattle.answers.proofs.put_corner.Goals as goal
 
-pub returns-in-Number : goal.returns-in-Number
+pub returns-in-Ok : goal.returns-in-Ok
 unfolding rule_of number_bytes
-returns-in-Number c =
+returns-in-Ok c =
     let bits = c.whole_bits.ensures in
-    let is = c.in-Number.is in
-    rw is (refl, c.put_word.ensures ∙ over_at_zero _ _ ∙ rw bits (rw (to_z-of_z (sfits_of {w = w64} c.in-Number.known_told-1-own.given.0.1))))
+    let is = c.in-Ok.is in
+    rw is (refl, c.put_word.ensures ∙ over_at_zero _ _ ∙ rw bits (rw (to_z-of_z (sfits_of {w = w64} c.in-Ok.known_told-1-own.given.0.1))))
 
-pub returns-in-Rejected : goal.returns-in-Rejected
+pub returns-in-Err : goal.returns-in-Err
 unfolding rule_of number_bytes
-returns-in-Rejected c = rw c.in-Rejected.is (refl, refl)
+returns-in-Err c = rw c.in-Err.is (refl, refl)

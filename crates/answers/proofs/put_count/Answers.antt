@@ -5,10 +5,10 @@ use Rattle.model.specs.Exports.{count_word}
 use Rattle.model.proofs.Overlays.{over_at_zero}
 use Rattle.answers.proofs.put_count.Goals as goal
 
-pub returns-in-Of : goal.returns-in-Of
+pub returns-in-Ok : goal.returns-in-Ok
 unfolding rule_of count_word
-returns-in-Of c = rw c.in-Of.is (refl, c.put_word.ensures ∙ over_at_zero _ _)
+returns-in-Ok c = rw c.in-Ok.is (refl, c.put_word.ensures ∙ over_at_zero _ _)
 
-pub returns-in-Rejected : goal.returns-in-Rejected
+pub returns-in-Err : goal.returns-in-Err
 unfolding rule_of count_word
-returns-in-Rejected c = rw c.in-Rejected.is (refl, c.put_word-in-Rejected.ensures ∙ over_at_zero _ _)
+returns-in-Err c = rw c.in-Err.is (refl, c.put_word-in-Err.ensures ∙ over_at_zero _ _)

@@ -2,7 +2,6 @@
 use mathlib.Core.Path.{◌≡◌, refl, sym, ap, ◌∙◌}
 use mathlib.Core.Bool.{false}
 use lib.Ieee.{binary64, nan_bits}
-use Rattle.model.specs.Rules.{answer}
 use Rattle.model.specs.ArrayValue.{double}
 use Rattle.array_values.proofs.Laws.{no_nan, bits_kept}
 use Rattle.array_values.proofs.double_of.Goals as goal
@@ -14,7 +13,7 @@ plain c = sym c.nan_double.ensures ∙ c.if-nan_double.false
 pub returns : goal.returns
 returns c =
     let k = bits_kept binary64 c.args.bits c.ranges.bits.fits (plain c) in
-    (ap (λ x. answer (double x)) k.0, k.1)
+    (ap double k.0, k.1)
 
 pub returns-then-nan_double : goal.returns-then-nan_double
 returns-then-nan_double c = (refl, sym c.nan_double.ensures ∙ c.if-nan_double.true)

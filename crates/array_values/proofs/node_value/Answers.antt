@@ -4,7 +4,7 @@ use mathlib.Core.Path.{◌≡◌, sym, ap, ◌∙◌}
 use mathlib.Core.Bool.{true}
 use lib.Dec.{T}
 use Rattle.model.specs.Lists.{among}
-use Rattle.model.specs.Rules.{rejected}
+use Rattle.model.specs.Rules.{rejected, answer}
 use Rattle.model.specs.Image.{tree_of, data_type_of}
 use Rattle.words.specs.Width.{is_width}
 use Rattle.array_values.specs.Readable.{readable}
@@ -50,7 +50,7 @@ value_at-requires c =
 pub returns : goal.returns
 returns c =
     let d = (goal.at.returns c).Else-not-is_readable in (
-      c.value_at.ensures.0 ∙ in_range_lem d.requires.0 d.args.i d.args.k d.requires.1 (readable-node d) (omega arith)
+      ap answer c.value_at.ensures.0 ∙ in_range_lem d.requires.0 d.args.i d.args.k d.requires.1 (readable-node d) (omega arith)
           (omega arith),
       c.value_at.ensures.1,
     )

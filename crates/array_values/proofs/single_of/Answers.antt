@@ -2,7 +2,6 @@
 use mathlib.Core.Path.{◌≡◌, refl, sym, ap, ◌∙◌}
 use mathlib.Core.Bool.{false}
 use lib.Ieee.{binary32, nan_bits}
-use Rattle.model.specs.Rules.{answer}
 use Rattle.model.specs.ArrayValue.{single}
 use Rattle.array_values.proofs.Laws.{no_nan, bits_kept}
 use Rattle.array_values.proofs.single_of.Goals as goal
@@ -14,7 +13,7 @@ plain c = sym c.nan_single.ensures ∙ c.if-nan_single.false
 pub returns : goal.returns
 returns c =
     let k = bits_kept binary32 c.args.bits c.ranges.bits.fits (plain c) in
-    (ap (λ x. answer (single x)) k.0, k.1)
+    (ap single k.0, k.1)
 
 pub returns-then-nan_single : goal.returns-then-nan_single
 returns-then-nan_single c = (refl, sym c.nan_single.ensures ∙ c.if-nan_single.true)

@@ -2,11 +2,10 @@
 use borrow.Author.Rules.{sfits_of}
 use mir.Syntax.{w64}
 use mir.Facts.{to_z-of_z}
-use mathlib.Core.Path.{refl, ap, ◌∙◌}
+use mathlib.Core.Path.{refl, ◌∙◌}
 use lib.Dec.{T}
 use Rattle.model.specs.Image.{tree_of, widths}
 use Rattle.words.specs.Width.{is_width}
-use Rattle.model.specs.Rules.{answer}
 use Rattle.array_values.proofs.Laws.{array_room, readable-wide, value-single, value-double, value-whole}
 use Rattle.array_values.proofs.value_at.Goals as goal
 
@@ -20,7 +19,7 @@ pub returns-then-data_type-eq-R4 : goal.returns-then-data_type-eq-R4
 returns-then-data_type-eq-R4 c =
     let v = value-single (tree_of c.args.image.now) c.args.i c.args.data_type c.requires.sound.1.1 c.args.k c.number.ensures.0
     c.if-data_type-eq-R4.true in
-    (c.single_of.ensures.0 ∙ ap answer v, c.single_of.ensures.1)
+    (c.single_of.ensures.0 ∙ v, c.single_of.ensures.1)
 
 pub number-requires-then-data_type-eq-R8 : goal.number-requires-then-data_type-eq-R8
 unfolding widths
@@ -32,7 +31,7 @@ pub returns-then-data_type-eq-R8 : goal.returns-then-data_type-eq-R8
 returns-then-data_type-eq-R8 c =
     let v = value-double (tree_of c.args.image.now) c.args.i c.args.data_type c.requires.sound.1.1 c.args.k c.number-then-data_type-eq-R8.ensures.0
     c.if-data_type-eq-R8.true in
-    (c.double_of.ensures.0 ∙ ap answer v, c.double_of.ensures.1)
+    (c.double_of.ensures.0 ∙ v, c.double_of.ensures.1)
 
 pub width_of-wide-requires : goal.width_of-wide-requires
 width_of-wide-requires c = (readable-wide c.args.data_type c.requires.sound.1.0).1
@@ -49,4 +48,4 @@ pub returns : goal.returns
 returns c =
     let v = value-whole (tree_of c.args.image.now) c.args.i c.args.data_type c.requires.sound.1.1 c.args.k c.whole_at.ensures
     c.if-data_type-eq-R4.false c.if-data_type-eq-R8.false in
-    (rw (to_z-of_z (sfits_of {w = w64} {z = c.whole_at.result} c.whole_at.type_inv)) (ap answer v), tt)
+    (rw (to_z-of_z (sfits_of {w = w64} {z = c.whole_at.result} c.whole_at.type_inv)) v, tt)

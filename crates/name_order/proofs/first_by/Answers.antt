@@ -1,17 +1,15 @@
--- The nodes from i on decide.
-use mathlib.Core.Path.{sym, ◌∙◌}
-use native.Mathlib.Omega.{arith}
-use Rattle.model.proofs.Loops.{seek_start, seek_more, seek_stop, seek_done}
+-- The first node whose name is taken, where the call found one.
+use Rattle.std.proofs.Common.{◌≡◌, true, false, rules, ◌∙◌}
+use Rattle.std.proofs.lemmas.Iterator.{first_from_Range}
+use borrow.Author.Tests.{tests}
+use Rattle.records.specs.Table.{all_records}
+use Rattle.model.specs.Records.{name_taken}
+use Rattle.model.proofs.Chains.{seek_in_range}
 use Rattle.name_order.proofs.first_by.Goals as goal
 
-pub loop-i-init : goal.loop-i-init
-loop-i-init c = seek_start _ _ 0 (omega arith) (λ j h. absurd (omega arith))
-
-pub returns-then-is_taken : goal.returns-then-is_taken
-returns-then-is_taken c = seek_stop c.loop-i.invariant (omega arith) (sym c.is_taken.ensures ∙ c.if-is_taken.true)
-
-pub loop-i-preserved : goal.loop-i-preserved
-loop-i-preserved c = seek_more c.loop-i.invariant (omega arith) (sym c.is_taken.ensures ∙ c.if-is_taken.false)
-
 pub returns : goal.returns
-returns c = seek_done c.loop-i.invariant (omega arith)
+returns c =
+    let p = name_taken (all_records c.args.table.now) in
+    c.unwrap_or.ensures
+    ∙ seek_in_range p c.args.count c.find.result
+    (first_from_Range _ _ _ c.find.result (λ i. p i ≡ true) (λ i. p i ≡ false) c.find.ensures.ran (λ i q k. search (rules, tests)) (λ i q k. search (rules, tests)))

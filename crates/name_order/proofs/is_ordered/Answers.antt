@@ -1,20 +1,16 @@
--- The nodes from i on decide.
-use mathlib.Core.Path.{sym, ◌∙◌}
-use native.Mathlib.Omega.{arith}
-use Rattle.model.proofs.Loops.{every_start, every_more, every_stop, every_done}
-use Rattle.name_order.specs.Order.{ordered}
+-- Each node stands right where the call says so.
+use Rattle.std.proofs.Common.{refl, ◌∙◌, rules, arith}
+use Rattle.std.proofs.lemmas.Iterator.{YieldsList-from_range}
+use Rattle.std.proofs.lemmas.Iterator.Search.{all_from_yields_List}
+use borrow.Author.Tests.{tests}
+use Rattle.records.specs.Table.{all_records}
+use Rattle.model.proofs.Chains.{every_in_range}
+use Rattle.name_order.specs.Order.{right_at, ordered}
 use Rattle.name_order.proofs.is_ordered.Goals as goal
 
-pub loop-i-init : goal.loop-i-init
-unfolding ordered
-loop-i-init c = every_start _ _
-
-pub returns-then-not-is_right_at : goal.returns-then-not-is_right_at
-returns-then-not-is_right_at c = every_stop c.loop-i.invariant (omega arith) (sym c.is_right_at.ensures ∙ c.if-not-is_right_at.true)
-
-pub loop-i-preserved : goal.loop-i-preserved
-loop-i-preserved c =
-    every_more c.loop-i.invariant (omega arith) (sym c.is_right_at.ensures ∙ c.if-not-is_right_at.false)
-
 pub returns : goal.returns
-returns c = every_done c.loop-i.invariant (omega arith)
+unfolding ordered
+returns c =
+    let n = c.args.count in
+    let p = right_at (all_records c.args.table.now) c.args.order.now n in
+    all_from_yields_List p _ _ _ c.all.ensures.ran (YieldsList-from_range 0 n n refl (omega arith)) (λ i b q k. search (rules, tests)) ∙ every_in_range p n 0

@@ -1,19 +1,16 @@
--- The nodes from j on decide.
-use mathlib.Core.Path.{sym, ◌∙◌}
-use native.Mathlib.Omega.{arith}
-use Rattle.model.specs.Records.{name_taken}
-use Rattle.model.proofs.Loops.{some_start, some_more, some_stop, some-done}
+-- Some earlier node is a namesake where the call says so.
+use Rattle.std.proofs.Common.{refl, ◌∙◌, rules, arith}
+use Rattle.std.proofs.lemmas.Iterator.{YieldsList-from_range}
+use Rattle.std.proofs.lemmas.Iterator.Search.{any_from_yields_List}
+use borrow.Author.Tests.{tests}
+use Rattle.records.specs.Table.{all_records}
+use Rattle.model.specs.Records.{namesake, name_taken}
+use Rattle.model.proofs.Chains.{some_in_range}
 use Rattle.name_order.proofs.is_taken_before.Goals as goal
 
-pub loop-j-init : goal.loop-j-init
-unfolding name_taken
-loop-j-init c = some_start _ _ 0 (omega arith) (λ k h. absurd (omega arith))
-
-pub returns-then-is_namesake : goal.returns-then-is_namesake
-returns-then-is_namesake c = some_stop c.loop-j.invariant (omega arith) (sym c.is_namesake.ensures ∙ c.if-is_namesake.true)
-
-pub loop-j-preserved : goal.loop-j-preserved
-loop-j-preserved c = some_more c.loop-j.invariant (omega arith) (sym c.is_namesake.ensures ∙ c.if-is_namesake.false)
-
 pub returns : goal.returns
-returns c = some-done c.loop-j.invariant (omega arith)
+unfolding name_taken
+returns c =
+    let i = c.args.i in
+    let p = namesake (all_records c.args.table.now) i in
+    any_from_yields_List p _ _ _ c.any.ensures.ran (YieldsList-from_range 0 i i refl (omega arith)) (λ j b q k. search (rules, tests)) ∙ some_in_range p i 0

@@ -3,21 +3,12 @@ use mathlib.Core.Path.{◌≡◌}
 use native.Mathlib.Omega.{arith}
 use Rattle.model.specs.Image.{tree_of}
 use Rattle.model.specs.Values.{points_in}
-use Rattle.points.proofs.PointRanges.{direction_lawful_lem, points_are, product_start, product_more, product-room, product_stop, product-done}
+use Rattle.points.proofs.PointRanges.{direction_lawful_lem, points_are, product_start, product_more, product_stop, product-done}
 use Rattle.points.proofs.has_points.Goals as goal
 use Rattle.points.proofs.has_points.Goals.{After-points_in-k}
 
-pub dimension_above-n-requires : goal.dimension_above-n-requires
-dimension_above-n-requires c = let p = c.requires in ((p.0, p.1.0.above), (p.1.0.inside, p.1.0.based))
-
 pub loop-d-init : goal.loop-d-init
 loop-d-init c = product_start _ _ c.dimension_above-n.ensures.0
-
-pub points_in-k-requires : goal.points_in-k-requires
-points_in-k-requires c =
-    let p = c.requires in
-    let n = c.dimension_above-n.ensures in
-    record { sound = (p.0.sound, p.1.0); n_value = (n.0, (n.2, c.loop-d-test.true)) }
 
 -- the points of direction d
 module _ (c : After-points_in-k) where
@@ -35,14 +26,6 @@ nonzero_div-size c = let e = are c in omega arith
 pub returns-then-size-k : goal.returns-then-size-k
 returns-then-size-k c =
     product_stop _ _ _ _ _ c.loop-d.invariant _ c.loop-d-test.true (are (goal.at.returns-then-size-k c).After-points_in-k) c.if-size-k.true
-
-pub overflow_mul-product : goal.overflow_mul-product
-overflow_mul-product c =
-    let d = (goal.at.overflow_mul-product c).After-points_in-k in
-    let s = d.args in
-    let h = product-room (tree_of s.image.now) s.i d.dimension_above-n.result d.loop-d.d d.loop-d.product d.loop-d.invariant
-    {size = s.size} (are d) c.if-size-k.false in
-    omega arith
 
 pub loop-d-preserved : goal.loop-d-preserved
 loop-d-preserved c =

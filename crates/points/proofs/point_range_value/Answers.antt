@@ -4,18 +4,9 @@ use Rattle.model.proofs.Loops.{every_start, every_more, every_stop, every_done}
 use Rattle.points.proofs.PointRanges.{unlawful, is_lawful}
 use Rattle.points.proofs.point_range_value.Goals as goal
 
-pub dimension_above-n-requires : goal.dimension_above-n-requires
-dimension_above-n-requires c = let p = c.requires in ((p.0, p.1.above), (p.1.inside, p.1.based))
-
 pub loop-d-init : goal.loop-d-init
 unfolding point_range_value
 loop-d-init c = rw (← c.dimension_above-n.ensures.0) (every_start _ _)
-
-pub points_in-requires : goal.points_in-requires
-points_in-requires c =
-    let p = c.requires in
-    let n = c.dimension_above-n.ensures in
-    record { sound = (p.0.sound, p.1); n_value = (n.0, (n.2, c.loop-d-test.true)) }
 
 pub returns-then-points_in-eq0 : goal.returns-then-points_in-eq0
 returns-then-points_in-eq0 c =

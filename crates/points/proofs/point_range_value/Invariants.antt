@@ -1,5 +1,4 @@
 -- What is left of the directions decides.
-use Prim.Native.Nat.{◌-◌}
 use Rattle.model.specs.Image.{tree_of}
 use Rattle.model.specs.Values.{direction_lawful, point_range_value}
 use Rattle.model.proofs.Loops.{EveryLeft}
@@ -7,6 +6,3 @@ use Rattle.points.proofs.point_range_value.Given as goal
 
 abbrev pub invariant-loop-d : goal.invariant-loop-d
 invariant-loop-d l = EveryLeft (direction_lawful (tree_of l.image) l.i) l.n l.d (point_range_value (tree_of l.image) l.i)
-
-abbrev pub decreases-loop-d : goal.decreases-loop-d
-decreases-loop-d l = l.n - l.d

@@ -10,7 +10,7 @@ use lib.ListN.{length, length-set}
 use mir.Syntax.{w64}
 use mir.Facts.{to_z-of_z}
 use Rattle.model.specs.declared.Rejection.{Rejection}
-use Rattle.model.specs.declared.Count.TheVariants as Count
+use Rattle.std.specs.Prelude.{Err}
 use Rattle.model.specs.Rules.{rejected, rejection, check, ◌then◌, ◌gives◌, leaves}
 use Rattle.model.specs.ReadList.{requests_in, number_of, rule_of, reads_check, ReadsAnswered}
 use Rattle.model.proofs.Written.{written_none, written_more}
@@ -19,7 +19,7 @@ use Rattle.reads.proofs.corner_reads.Goals as goal
 -- 46, and nothing is written
 short : {image entries reads : List ℕ} {numbers : List ℤ} {rules : List ℕ} {r : Rejection} → r ≡ rejection 46 0
     → reads_check reads (length numbers) (length rules) ≡ rejected (rejection 46 0)
-    → ReadsAnswered image entries reads numbers rules (Count.Rejected r) image entries numbers rules
+    → ReadsAnswered image entries reads numbers rules (Err r) image entries numbers rules
 unfolding ◌gives◌ ◌then◌ leaves
 short e q = record { answers = rw (e, q); image-kept = refl; entries-kept = refl; numbers_are = rw q; rules_are = rw q }
 
@@ -85,9 +85,6 @@ bounds-numbers-i c = omega arith
 
 pub bounds-rules-i : goal.bounds-rules-i
 bounds-rules-i c = omega arith
-
-pub loop-i-smaller : goal.loop-i-smaller
-loop-i-smaller c = omega arith
 
 pub shape_of-numbers : goal.shape_of-numbers
 shape_of-numbers c = c.loop-i.invariant.length-kept

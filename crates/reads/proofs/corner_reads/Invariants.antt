@@ -1,5 +1,5 @@
 -- After i turns the first i answers stand in front.
-use Prim.Native.Nat.{ℕ, ◌-◌, ◌≤◌}
+use Prim.Native.Nat.{ℕ, ◌≤◌}
 use mathlib.Core.Path.{◌≡◌}
 use mathlib.Core.List.{List}
 use lib.IntN.{ℤ}
@@ -20,6 +20,3 @@ pub record Written (image entries reads : List ℕ) (numbers₀ : List ℤ) (rul
 
 abbrev pub invariant-loop-i : goal.invariant-loop-i
 invariant-loop-i l = Written l.image l.entries l.reads l.initial.numbers l.initial.rules l.n l.numbers l.rules l.i
-
-abbrev pub decreases-loop-i : goal.decreases-loop-i
-decreases-loop-i l = l.n - l.i

@@ -5,10 +5,10 @@ use mir.Facts.{to_z-of_z}
 use Rattle.model.specs.ReadList.{number_of}
 use Rattle.reads.proofs.number_of.Goals as goal
 
-pub returns-in-Number : goal.returns-in-Number
+pub returns-in-Ok : goal.returns-in-Ok
 unfolding number_of
-returns-in-Number c = rw c.in-Number.is (to_z-of_z (sfits_of {w = w64} (search rules)))
+returns-in-Ok c = rw c.in-Ok.is (to_z-of_z (sfits_of {w = w64} (search rules)))
 
-pub returns-in-Rejected : goal.returns-in-Rejected
+pub returns-in-Err : goal.returns-in-Err
 unfolding number_of
-returns-in-Rejected c = rw c.in-Rejected.is
+returns-in-Err c = rw c.in-Err.is

@@ -2,10 +2,10 @@
 use Rattle.model.specs.ReadList.{rule_of}
 use Rattle.reads.proofs.rule_of.Goals as goal
 
-pub returns-in-Number : goal.returns-in-Number
+pub returns-in-Ok : goal.returns-in-Ok
 unfolding rule_of
-returns-in-Number c = rw c.in-Number.is
+returns-in-Ok c = rw c.in-Ok.is
 
-pub returns-in-Rejected : goal.returns-in-Rejected
+pub returns-in-Err : goal.returns-in-Err
 unfolding rule_of
-returns-in-Rejected c = rw c.in-Rejected.is
+returns-in-Err c = rw c.in-Err.is

@@ -4,12 +4,9 @@ use mathlib.Core.Path.{◌≡◌, ◌∙◌}
 use native.Mathlib.Omega.{arith}
 use native.Mathlib.Numerals.{add-one}
 use borrow.Author.Tests.{lt-ltb, le-ltb}
-use Rattle.model.proofs.Loops.{seek_start, seek_more, seek_stop, seek_done}
+use Rattle.model.proofs.Loops.{seek_more, seek_stop, seek_done}
 use Rattle.rows.specs.Rows.{ends_after_at}
 use Rattle.rows.proofs.ends_after.Goals as goal
-
-pub loop-j-init : goal.loop-j-init
-loop-j-init c = seek_start _ _ 0 (omega arith) (λ j h. absurd (omega arith))
 
 pub returns-then-k-number_at : goal.returns-then-k-number_at
 unfolding ends_after_at

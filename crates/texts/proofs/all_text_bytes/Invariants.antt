@@ -1,14 +1,8 @@
--- How many of the bytes before k may not stand, and the bytes from k on, decide the whole.
-use Prim.Native.Nat.{◌-◌, ◌≤◌}
-use mathlib.Core.Path.{◌≡◌}
-use mathlib.Core.Bool.{◌&&◌}
-use lib.Dec.{eqb}
-use lib.ListN.{drop}
-use Rattle.texts.specs.Texts.{text_at, text_bytes}
+-- How many of the bytes before x may not stand.
+use Rattle.std.proofs.Common.{◌≡◌, ◌≤◌, take}
+use Rattle.std.specs.List.{sum_by}
+use Rattle.texts.specs.Texts.{bad_byte}
 use Rattle.texts.proofs.all_text_bytes.Given as goal
 
-abbrev pub invariant-loop-k : goal.invariant-loop-k
-invariant-loop-k l = ((l.k ≤ 32) × (l.n ≤ l.k)) × ((eqb l.n 0 && text_bytes l.barred (drop l.k (text_at l.table l.at))) ≡ text_bytes l.barred (text_at l.table l.at))
-
-abbrev pub decreases-loop-k : goal.decreases-loop-k
-decreases-loop-k l = 32 - l.k
+abbrev pub invariant-loop-x : goal.invariant-loop-x
+invariant-loop-x l = (l.n ≤ l.x-index) × (l.n ≡ sum_by (bad_byte l.barred) (take l.x-index l.text))

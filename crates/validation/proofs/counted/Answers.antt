@@ -12,21 +12,6 @@ use Rattle.validation.proofs.counted.Goals as goal
 pub loop-i-init : goal.loop-i-init
 loop-i-init c = (none_counted _ _, (none_counted _ _, none_counted _ _))
 
-pub overflow_add-validated : goal.overflow_add-validated
-overflow_add-validated c =
-    let v = c.loop-i.invariant.0 in
-    omega (arith, c.unit-validated.ensures.1, v.least, v.within, c.node_count-n.ensures.1)
-
-pub overflow_add-zones : goal.overflow_add-zones
-overflow_add-zones c =
-    let v = c.loop-i.invariant.1.0 in
-    omega (arith, c.unit-zones.ensures.1, v.least, v.within, c.node_count-n.ensures.1)
-
-pub overflow_add-sections : goal.overflow_add-sections
-overflow_add-sections c =
-    let v = c.loop-i.invariant.1.1 in
-    omega (arith, c.unit-sections.ensures.1, v.least, v.within, c.node_count-n.ensures.1)
-
 pub loop-i-preserved : goal.loop-i-preserved
 loop-i-preserved c =
     let b = c.args.image.now in
@@ -35,10 +20,10 @@ loop-i-preserved c =
     let e = c.kind_of-kind.ensures.0 in
     let counts : (r : ℕ) → 0 < r → eqb c.kind_of-kind.result r ≡ validated_as (tree_of b) r i = λ r z. ap (λ (x : ℕ). eqb x r) e ∙ kind_as b
     c.requires.sound i r h z in (
-      more_counted c.loop-i.invariant.0 _ (omega arith) (ap (ltb 0) e ∙ kind-validated b c.requires.sound i h) c.unit-validated.ensures.0,
+      more_counted c.loop-i.invariant.0 _ (omega arith) (ap (ltb 0) e ∙ kind-validated b c.requires.sound i h) c.from-validated.ensures,
       (
-        more_counted c.loop-i.invariant.1.0 _ (omega arith) (counts Zone (omega arith)) c.unit-zones.ensures.0,
-        more_counted c.loop-i.invariant.1.1 _ (omega arith) (counts Elements (omega arith)) c.unit-sections.ensures.0,
+        more_counted c.loop-i.invariant.1.0 _ (omega arith) (counts Zone (omega arith)) c.from-zones.ensures,
+        more_counted c.loop-i.invariant.1.1 _ (omega arith) (counts Elements (omega arith)) c.from-sections.ensures,
       ),
     )
 

@@ -1,5 +1,4 @@
 -- Each node counts as one or as none; the nodes that are not validated are skipped.
-use Prim.Native.Nat.{◌-◌}
 use Rattle.model.specs.Image.{tree_of}
 use Rattle.model.specs.Containment.{validated, validated_as, Zone, Elements}
 use Rattle.validation.proofs.Laws.{Counted}
@@ -7,6 +6,3 @@ use Rattle.validation.proofs.counted.Given as goal
 
 abbrev pub invariant-loop-i : goal.invariant-loop-i
 invariant-loop-i l = (Counted (validated (tree_of l.image)) l.n l.i l.validated) × ((Counted (validated_as (tree_of l.image) Zone) l.n l.i l.zones) × (Counted (validated_as (tree_of l.image) Elements) l.n l.i l.sections))
-
-abbrev pub decreases-loop-i : goal.decreases-loop-i
-decreases-loop-i l = l.n - l.i

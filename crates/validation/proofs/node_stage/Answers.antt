@@ -10,25 +10,25 @@ is_validated-requires c = (c.requires.nodes_to.1, c.requires.nodes_to.0.inside)
 pub returns-then-not-is_validated : goal.returns-then-not-is_validated
 returns-then-not-is_validated c = node-skipped _ _ (sym c.is_validated.ensures ∙ c.if-not-is_validated.true)
 
-pub sids_stage-s-requires : goal.sids_stage-s-requires
-sids_stage-s-requires c =
+pub sids_stage-requires : goal.sids_stage-requires
+sids_stage-requires c =
     record { nodes_to = (c.requires.nodes_to.0, sym c.is_validated.ensures ∙ c.if-not-is_validated.false); index = c.requires.nodes_to.1 }
 
-pub returns-in_default : goal.returns-in_default
-returns-in_default c =
-    stop c.sids_stage-s.ensures _ c.in_default.is
+pub returns-in_err-sids_stage : goal.returns-in_err-sids_stage
+returns-in_err-sids_stage c =
+    stop c.sids_stage.ensures _ _ _ c.in_err-sids_stage.was c.from_residual.ensures.1
     ∙ node_checked _ _ (sym c.is_validated.ensures ∙ c.if-not-is_validated.false)
 
 pub section_stage-requires : goal.section_stage-requires
 section_stage-requires c = record {
   nodes_to = c.requires.nodes_to;
   i_value = sym c.is_validated.ensures ∙ c.if-not-is_validated.false;
-  i_value_2 = passes c.sids_stage-s.ensures c.in-Pass.is;
+  i_value_2 = passes c.sids_stage.ensures c.in_ok-sids_stage.was;
   overlap_value = c.requires.overlap_value;
   faces = c.requires.faces;
 }
 
 pub returns : goal.returns
 returns c =
-    go c.sids_stage-s.ensures c.in-Pass.is c.section_stage.ensures
+    go c.sids_stage.ensures c.in_ok-sids_stage.was c.section_stage.ensures
     ∙ node_checked _ _ (sym c.is_validated.ensures ∙ c.if-not-is_validated.false)

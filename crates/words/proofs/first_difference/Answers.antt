@@ -3,11 +3,8 @@ use Prim.Native.Nat.{◌+◌, ◌*◌}
 use mathlib.Core.Path.{◌≡◌, sym, ◌∙◌}
 use native.Mathlib.Omega.{arith}
 use borrow.Author.Rules.{rules}
-use Rattle.words.proofs.Difference.{agree_start, agree_more, agree_stop, agree-done}
+use Rattle.words.proofs.Difference.{agree_more, agree_stop, agree-done}
 use Rattle.words.proofs.first_difference.Goals as goal
-
-pub loop-j-init : goal.loop-j-init
-loop-j-init c = agree_start _ _ _ _ _
 
 pub returns-then-x-y : goal.returns-then-x-y
 returns-then-x-y c =

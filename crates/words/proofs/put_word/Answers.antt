@@ -1,24 +1,20 @@
--- What is left to write gives the whole (`Left`).
+-- The lowest bytes of x take the place of those from `at` on.
+use Prim.Native.Nat.{◌/◌, ◌^◌}
+use mathlib.Core.Path.{◌≡◌, ap, ◌∙◌}
 use native.Mathlib.Omega.{arith}
-use Rattle.words.proofs.Writes.{word_start, word_more, done}
+use lib.ListN.{take}
+use Rattle.std.specs.Int.{bytes_low_first}
+use Rattle.model.specs.Bytes.{le_bytes}
 use Rattle.model.proofs.LittleEndian.{length-le_bytes}
+use Rattle.words.proofs.Writes.{put_mid_over_at, take-bytes_low_first}
 use Rattle.words.proofs.put_word.Goals as goal
 
-pub loop-k-init : goal.loop-k-init
-loop-k-init c = word_start c.args.out.now c.args.at c.args.width c.args.x
-
-pub overflow_cast-out : goal.overflow_cast-out
-overflow_cast-out c = omega arith
-
-pub bounds-out-at : goal.bounds-out-at
-bounds-out-at c = omega (arith, c.loop-k.invariant.long)
-
-pub loop-k-preserved : goal.loop-k-preserved
-loop-k-preserved c = word_more c.args.width c.loop-k.rest c.loop-k.invariant (omega arith)
-    (rw (length-le_bytes c.args.width c.args.x) (omega arith))
-
-pub shape_of-out : goal.shape_of-out
-shape_of-out c = c.loop-k.invariant.long
-
 pub returns : goal.returns
-returns c = done c.loop-k.invariant (rw (length-le_bytes c.args.width c.args.x) (omega arith))
+returns c =
+    let w = c.args.width in
+    let x = c.args.x in
+    let bytes : c.to_le_bytes.result ≡ bytes_low_first 0 8 x = c.to_le_bytes.ensures in
+    let same : x / 256 ^ 0 ≡ x = omega arith in
+    put_mid_over_at _ _ _ _ _
+    (c.copy_from_slice.ensures.after ∙ ap (take w) bytes ∙ take-bytes_low_first w 0 8 x (omega arith) ∙ ap (le_bytes w) same)
+    (rw length-le_bytes (omega arith))

@@ -5,6 +5,6 @@ use Rattle.words.proofs.same_bytes.Goals as goal
 
 pub returns : goal.returns
 returns c =
-    let s = rw (← c.gap.ensures) at (shared_bytes 8 c.args.x c.args.y) in
+    let s = rw (← c.abs_diff.ensures) at (shared_bytes 8 c.args.x c.args.y) in
     let m = some_differ 8 c.args.x c.args.y (omega (arith, c.ranges.x)) (omega (arith, c.ranges.y)) c.requires in
     (omega (arith, s, m), omega arith)

@@ -1,10 +1,6 @@
 -- From the last byte down, what is read is the number of the bytes from here on.
-use Prim.Native.Nat.{◌≤◌}
 use Rattle.words.proofs.Laws.{Tail}
 use Rattle.words.proofs.word_at.Given as goal
 
 abbrev pub invariant-loop-k : goal.invariant-loop-k
-invariant-loop-k l = (l.k ≤ l.width) × Tail l.s l.at l.width l.k l.r
-
-abbrev pub decreases-loop-k : goal.decreases-loop-k
-decreases-loop-k l = l.k
+invariant-loop-k l = Tail l.s l.at l.width l.k l.r

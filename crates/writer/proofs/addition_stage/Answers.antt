@@ -6,52 +6,52 @@ use Rattle.writer_model.specs.Writer.{addition}
 use Rattle.writer.proofs.Calls.{turn_room, addition_groups}
 use Rattle.writer.proofs.addition_stage.Goals as goal
 
-pub returns-in_default : goal.returns-in_default
-returns-in_default c =
+pub returns-in_err-turn_stage : goal.returns-in_err-turn_stage
+returns-in_err-turn_stage c =
     let p = c.args in
     let a : Addition = addition p.name.now p.label.now p.data_type.now p.dimensions.now p.parent p.bytes.now in
-    stop c.turn_stage-turn.ensures _ c.in_default.is ∙ sym (addition_groups p.state a p.room.now)
+    stop c.turn_stage.ensures _ _ _ c.in_err-turn_stage.was c.from_residual.ensures.1 ∙ sym (addition_groups p.state a p.room.now)
 
-pub line_stage-place-requires : goal.line_stage-place-requires
-line_stage-place-requires c = turn_room _ _ (passes c.turn_stage-turn.ensures c.in-Pass.is)
+pub line_stage-requires : goal.line_stage-requires
+line_stage-requires c = turn_room _ _ (passes c.turn_stage.ensures c.in_ok-turn_stage.was)
 
-pub returns-in_default-place : goal.returns-in_default-place
-returns-in_default-place c =
+pub returns-in_err-line_stage : goal.returns-in_err-line_stage
+returns-in_err-line_stage c =
     let p = c.args in
     let a : Addition = addition p.name.now p.label.now p.data_type.now p.dimensions.now p.parent p.bytes.now in
-    go c.turn_stage-turn.ensures c.in-Pass.is
-    (stop (c.line_stage-place.ensures a refl) _ c.in_default-place.is)
+    go c.turn_stage.ensures c.in_ok-turn_stage.was
+    (stop (c.line_stage.ensures a refl) _ _ _ c.in_err-line_stage.was c.from_residual-in_err-line_stage.ensures.1)
     ∙ sym (addition_groups p.state a p.room.now)
 
-pub text_stage-text-requires : goal.text_stage-text-requires
-text_stage-text-requires c = turn_room _ _ (passes c.turn_stage-turn.ensures c.in-Pass.is)
+pub text_stage-requires : goal.text_stage-requires
+text_stage-requires c = turn_room _ _ (passes c.turn_stage.ensures c.in_ok-turn_stage.was)
 
-pub returns-in_default-text : goal.returns-in_default-text
-returns-in_default-text c =
+pub returns-in_err-text_stage : goal.returns-in_err-text_stage
+returns-in_err-text_stage c =
     let p = c.args in
     let a : Addition = addition p.name.now p.label.now p.data_type.now p.dimensions.now p.parent p.bytes.now in
-    go c.turn_stage-turn.ensures c.in-Pass.is
-    (go (c.line_stage-place.ensures a refl) c.in-Pass-place.is
-    (stop (c.text_stage-text.ensures a refl refl refl) _ c.in_default-text.is))
+    go c.turn_stage.ensures c.in_ok-turn_stage.was
+    (go (c.line_stage.ensures a refl) c.in_ok-line_stage.was
+    (stop (c.text_stage.ensures a refl refl refl) _ _ _ c.in_err-text_stage.was c.from_residual-in_err-text_stage.ensures.1))
     ∙ sym (addition_groups p.state a p.room.now)
 
-pub returns-in_default-types : goal.returns-in_default-types
-returns-in_default-types c =
+pub returns-in_err-type_stage : goal.returns-in_err-type_stage
+returns-in_err-type_stage c =
     let p = c.args in
     let a : Addition = addition p.name.now p.label.now p.data_type.now p.dimensions.now p.parent p.bytes.now in
-    go c.turn_stage-turn.ensures c.in-Pass.is
-    (go (c.line_stage-place.ensures a refl) c.in-Pass-place.is
-    (go (c.text_stage-text.ensures a refl refl refl) c.in-Pass-text.is
-    (stop (c.type_stage-types.ensures a refl refl) _ c.in_default-types.is)))
+    go c.turn_stage.ensures c.in_ok-turn_stage.was
+    (go (c.line_stage.ensures a refl) c.in_ok-line_stage.was
+    (go (c.text_stage.ensures a refl refl refl) c.in_ok-text_stage.was
+    (stop (c.type_stage.ensures a refl refl) _ _ _ c.in_err-type_stage.was c.from_residual-in_err-type_stage.ensures.1)))
     ∙ sym (addition_groups p.state a p.room.now)
 
 pub returns : goal.returns
 returns c =
     let p = c.args in
     let a : Addition = addition p.name.now p.label.now p.data_type.now p.dimensions.now p.parent p.bytes.now in
-    go c.turn_stage-turn.ensures c.in-Pass.is
-    (go (c.line_stage-place.ensures a refl) c.in-Pass-place.is
-    (go (c.text_stage-text.ensures a refl refl refl) c.in-Pass-text.is
-    (go (c.type_stage-types.ensures a refl refl) c.in-Pass-types.is
+    go c.turn_stage.ensures c.in_ok-turn_stage.was
+    (go (c.line_stage.ensures a refl) c.in_ok-line_stage.was
+    (go (c.text_stage.ensures a refl refl refl) c.in_ok-text_stage.was
+    (go (c.type_stage.ensures a refl refl) c.in_ok-type_stage.was
     (c.size_stage.ensures a refl refl refl))))
     ∙ sym (addition_groups p.state a p.room.now)

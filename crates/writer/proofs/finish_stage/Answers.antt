@@ -10,17 +10,17 @@ use Rattle.model.proofs.Staging.{stop, go, passes}
 use Rattle.writer_model.specs.Writer.{finish_check}
 use Rattle.writer.proofs.finish_stage.Goals as goal
 
-pub returns-in_default : goal.returns-in_default
+pub returns-in_err-end_stage : goal.returns-in_err-end_stage
 unfolding finish_check
-returns-in_default c = stop c.end_stage-s.ensures _ c.in_default.is
+returns-in_err-end_stage c = stop c.end_stage.ensures _ _ _ c.in_err-end_stage.was c.from_residual.ensures.1
 
 pub slice_bounds-table_stage-end : goal.slice_bounds-table_stage-end
 slice_bounds-table_stage-end c =
-    let e = c.end_stage-s.ensures in
-    sym (length-take-le _ _ (rw c.needed_room-end.ensures (leb-true _ _ (check_pass 0 _ (passes e c.in-Pass.is)).0)))
+    let e = c.end_stage.ensures in
+    sym (length-take-le _ _ (rw c.needed_room-end.ensures (leb-true _ _ (check_pass 0 _ (passes e c.in_ok-end_stage.was)).0)))
 
 pub returns : goal.returns
 unfolding finish_check
 returns c =
     let n = c.needed_room-end.ensures in
-    go c.end_stage-s.ensures c.in-Pass.is (c.table_stage.ensures ∙ ap (λ (k : ℕ). table_check (take k c.args.room.now)) n)
+    go c.end_stage.ensures c.in_ok-end_stage.was (c.table_stage.ensures ∙ ap (λ (k : ℕ). table_check (take k c.args.room.now)) n)

@@ -11,7 +11,7 @@ returns-in_default c = rw c.in_default.is
 
 pub returns : goal.returns
 unfolding state_after state_numbers
-returns c = rw c.in-State.is (six _ _ _ _ _ _ _ c.requires)
+returns c = rw c.in-Ok.is (six _ _ _ _ _ _ _ c.requires)
 
 pub bounds-state-1 : goal.bounds-state-1
 bounds-state-1 c = simp length-set (omega arith)

@@ -4,10 +4,10 @@ use Rattle.model.specs.ReadList.{rule_of}
 use Rattle.writer_model.specs.Exports.{writing_words}
 use Rattle.writer_exports.proofs.writing_answer.Goals as goal
 
-pub returns-in-State : goal.returns-in-State
+pub returns-in-Ok : goal.returns-in-Ok
 unfolding rule_of writing_words
-returns-in-State c = rw c.in-State.is (refl, refl)
+returns-in-Ok c = rw c.in-Ok.is (refl, refl)
 
-pub returns-in-Rejected : goal.returns-in-Rejected
+pub returns-in-Err : goal.returns-in-Err
 unfolding rule_of writing_words
-returns-in-Rejected c = rw c.in-Rejected.is (refl, refl)
+returns-in-Err c = rw c.in-Err.is (refl, refl)

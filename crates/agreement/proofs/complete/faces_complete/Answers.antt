@@ -1,23 +1,15 @@
--- One face after the other.
-use mathlib.Core.Path.{sym, ◌∙◌}
-use native.Mathlib.Omega.{arith}
-use Rattle.model.proofs.Loops.{every_start, every_more, every_stop, every_done}
+-- All are matched where the call says so.
+use Rattle.std.proofs.Common.{refl, ◌∙◌, rules, arith}
+use Rattle.std.proofs.lemmas.Iterator.{YieldsList-from_range}
+use Rattle.std.proofs.lemmas.Iterator.Search.{all_from_yields_List}
+use borrow.Author.Tests.{tests}
 use Rattle.agreement.specs.Matching.{complete_at}
+use Rattle.model.proofs.Chains.{every_in_range}
 use Rattle.agreement.proofs.complete.faces_complete.Goals as goal
 
-pub loop-d-init : goal.loop-d-init
-loop-d-init c = every_start _ _
-
-pub returns-then-not-is_complete : goal.returns-then-not-is_complete
-unfolding complete_at
-returns-then-not-is_complete c =
-    every_stop c.loop-d.invariant (omega arith)
-    (rw (← c.number_at-single.ensures) (sym c.is_complete.ensures ∙ c.if-not-is_complete.true))
-
-pub loop-d-preserved : goal.loop-d-preserved
-unfolding complete_at
-loop-d-preserved c = every_more c.loop-d.invariant (omega arith)
-    (rw (← c.number_at-single.ensures) (sym c.is_complete.ensures ∙ c.if-not-is_complete.false))
-
 pub returns : goal.returns
-returns c = every_done c.loop-d.invariant (omega arith)
+unfolding complete_at
+returns c =
+    let a = c.args in
+    let p = complete_at a.image.now a.row a.n a.place a.out.now in
+    all_from_yields_List p _ _ _ c.all.ensures.ran (YieldsList-from_range 0 a.n a.n refl (omega arith)) (λ d b q k. search (rules, tests)) ∙ every_in_range p a.n 0

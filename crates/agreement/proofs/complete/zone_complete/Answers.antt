@@ -5,7 +5,7 @@ use native.Mathlib.Omega.{arith}
 use Rattle.model.specs.Lists.{sum_before}
 use Rattle.model.specs.Image.{tree_of, node_count}
 use Rattle.model.specs.FaceUsage.{faces_in}
-use Rattle.model.specs.ParentElements.{section_agrees, all_agree}
+use Rattle.model.specs.ParentElements.{all_agree}
 use Rattle.model.proofs.Loops.{every_start, every_more, every_stop, every_done}
 use Rattle.model.proofs.Walks.{sum_before_step}
 use Rattle.face_places.proofs.Accepted.{total-small}
@@ -13,42 +13,27 @@ use Rattle.agreement.proofs.complete.zone_complete.Goals as goal
 
 pub loop-i-init : goal.loop-i-init
 unfolding sum_before all_agree tree_of
-loop-i-init c =
-    ((c.node_count-nodes.ensures.0, refl), every_start _ _)
-
-pub faces_of-n-requires : goal.faces_of-n-requires
-faces_of-n-requires c =
-    (c.requires.accepted.0, (c.requires.accepted.1, omega (arith, c.loop-i.invariant.0.0)))
-
-pub section_agrees-requires : goal.section_agrees-requires
-section_agrees-requires c =
-    let l = c.loop-i.invariant in
-    record { accepted = (c.requires.accepted.0, (c.requires.accepted.1, omega (arith, l.0.0))); n_value = (c.faces_of-n.ensures, l.0.1); z_in_bounds = (c.requires.z_in_bounds.0, c.requires.z_in_bounds.1) }
+loop-i-init c = (refl, every_start _ _)
 
 pub returns-then-not-section_agrees : goal.returns-then-not-section_agrees
 returns-then-not-section_agrees c =
-    let l = c.loop-i.invariant in every_stop l.1 (omega (arith, l.0.0)) (sym c.section_agrees.ensures ∙ c.if-not-section_agrees.true)
+    every_stop c.loop-i.invariant.1 (omega (arith, c.node_count-i-end.ensures.0)) (sym c.section_agrees.ensures ∙ c.if-not-section_agrees.true)
 
 pub overflow_add-place : goal.overflow_add-place
 overflow_add-place c =
     let a = c.requires.accepted.0 in
     let l = c.loop-i in
-    let h : l.i < node_count c.args.image.now = omega (arith, l.invariant.0.0) in
+    let h : l.i < node_count c.args.image.now = omega (arith, c.node_count-i-end.ensures.0) in
     let f = faces_in (tree_of c.args.image.now) c.args.z in
-    omega (arith, total-small a c.args.z (l.i + 1) (omega arith), sum_before_step f l.i, l.invariant.0.1, c.faces_of-n.ensures, a.sound.laid.few)
-
-pub loop-i-smaller : goal.loop-i-smaller
-loop-i-smaller c =
-    omega arith
+    omega (arith, total-small a c.args.z (l.i + 1) (omega arith), sum_before_step f l.i, l.invariant.0, c.faces_of-n.ensures, a.sound.laid.few)
 
 pub loop-i-preserved : goal.loop-i-preserved
 loop-i-preserved c =
     let l = c.loop-i.invariant in
     let e = c.faces_of-n.ensures in (
-      (l.0.0, sym (sum_before_step (faces_in (tree_of c.args.image.now) c.args.z) c.loop-i.i ∙ rw (← l.0.1, ← e))),
-      every_more l.1 (omega (arith, l.0.0)) (sym c.section_agrees.ensures ∙ c.if-not-section_agrees.false),
+      sym (sum_before_step (faces_in (tree_of c.args.image.now) c.args.z) c.loop-i.i ∙ rw (← l.0, ← e)),
+      every_more l.1 (omega (arith, c.node_count-i-end.ensures.0)) (sym c.section_agrees.ensures ∙ c.if-not-section_agrees.false),
     )
 
 pub returns : goal.returns
-returns c =
-    let l = c.loop-i.invariant in every_done l.1 (omega (arith, l.0.0))
+returns c = every_done c.loop-i.invariant.1 (omega (arith, c.node_count-i-end.ensures.0))

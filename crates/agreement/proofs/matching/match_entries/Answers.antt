@@ -11,9 +11,6 @@ use Rattle.agreement.proofs.RunLaws.{users-end, parents_most, cells_filled, elem
 use Rattle.agreement.proofs.Steps.{matched-then, matched-same, matched_stop}
 use Rattle.agreement.proofs.matching.match_entries.Goals as goal
 
-pub references_of-row-requires : goal.references_of-row-requires
-references_of-row-requires c = (c.requires.tables.accepted, c.requires.index.0)
-
 pub returns-then-row-eq0 : goal.returns-then-row-eq0
 returns-then-row-eq0 c = no_uses c.requires.index.0.1 (sym c.references_of-row.ensures.long ∙ c.if-row-eq0.true)
 
@@ -31,8 +28,6 @@ first_cell-cell-requires c =
 pub loop-k-init : goal.loop-k-init
 loop-k-init c =
     record {
-      to = omega arith;
-      nine = refl;
       at = c.first_cell-cell.ensures;
       known = λ h. absurd (omega arith);
       done = start_none c.requires.index.0.1;
@@ -44,16 +39,13 @@ cell_at-cell-requires c =
     let f = cells_filled c.references_of-row.ensures c.if-row-eq0.false c.span_of-span.ensures w in
     record { numbers = (w.numbers, (f, c.loop-k-test.true)); at_most = c.loop-k.invariant.at }
 
-pub slice_bounds-entry_of-end : goal.slice_bounds-entry_of-end
-slice_bounds-entry_of-end c = sym c.loop-k.invariant.nine
-
 pub entry_of-j-requires : goal.entry_of-j-requires
 entry_of-j-requires c =
     let l = c.loop-k in
     let r = c.references_of-row.ensures in
     let h = c.loop-k-test.true in
     let m = face-small c.requires.tables.accepted.sound _ _ (entry-face (r.each l.k h)) in
-    record { numbers = (r.numbers, h); k_bound = omega arith; ordered = c.requires.tables.ranges.gathered.ordered; built = ((c.requires.tables.tree, c.requires.index.1), omega (arith, l.invariant.nine)) }
+    record { numbers = (r.numbers, h); k_bound = omega arith; ordered = c.requires.tables.ranges.gathered.ordered; built = ((c.requires.tables.tree, c.requires.index.1), omega arith) }
 
 pub array_at-array-requires : goal.array_at-array-requires
 array_at-array-requires c =
@@ -61,11 +53,6 @@ array_at-array-requires c =
     let a = c.requires.tables.accepted in
     let h = c.loop-k-test.true in
     let at = found_at c.requires.tables (entry-face (c.references_of-row.ensures.each l.k h)) c.entry_of-j.ensures in record { sound = ((a.sound, omega (arith, at.inside, c.requires.arrays.room)), rw (array_is a c.requires.arrays at) (parents_most _ _)); stores_columns = (array_stores a c.requires.arrays at, λ e. rw e (l.invariant.known (omega (arith, at.inside, few-ranges a c.requires.tables.ranges)))) }
-
-pub overflow_add-element : goal.overflow_add-element
-overflow_add-element c =
-    let s = c.span_of-span.ensures in
-    omega (arith, c.cell_at-cell.ensures.0.inside, c.cell_offsets-offsets.ensures.long, s.up, s.most)
 
 pub match_entry-requires : goal.match_entry-requires
 match_entry-requires c =
@@ -76,10 +63,6 @@ match_entry-requires c =
     let e = c.entry_of-j.ensures in
     record { numbers = (r.numbers, h); k_value = f; tables = tables_kept c.requires.tables l.invariant.done.kept.long; found_for = e; parent_row = face-row c.requires.tables.accepted c.requires.arrays (found_at c.requires.tables f e) c.array_at-array.ensures }
 
-pub shape_of-out-then-not-match_entry : goal.shape_of-out-then-not-match_entry
-shape_of-out-then-not-match_entry c =
-    c.match_entry.auto.out ∙ c.loop-k.invariant.done.kept.long
-
 pub returns-then-not-match_entry : goal.returns-then-not-match_entry
 returns-then-not-match_entry c =
     let l = c.loop-k in
@@ -89,9 +72,6 @@ returns-then-not-match_entry c =
     let m = one_more (r.each l.k h) (omega (arith, h, r.long)) q c.match_entry.ensures in
     matched-then l.invariant.done (matched_stop (c.if-not-match_entry.true) m)
 
-pub overflow_add-k : goal.overflow_add-k
-overflow_add-k c = omega (arith, c.loop-k-test.true, c.struct_known-in-loop-k-1.given)
-
 pub loop-k-preserved : goal.loop-k-preserved
 loop-k-preserved c =
     let l = c.loop-k in
@@ -100,17 +80,12 @@ loop-k-preserved c =
     let q = element-is r c.if-row-eq0.false c.span_of-span.ensures c.cell_offsets-offsets.ensures c.cell_at-cell.ensures in
     let m = one_more (r.each l.k h) (omega (arith, h, r.long)) q c.match_entry.ensures in
     record {
-      to = omega arith;
-      nine = c.entry_of-j.auto.guesses ∙ l.invariant.nine;
       at = at_next c.cell_at-cell.ensures;
       known = λ _. c.array_at-array.ensures;
       done = matched-then l.invariant.done (rw c.if-not-match_entry.false at m);
     }
 
-pub shape_of-out : goal.shape_of-out
-shape_of-out c = c.loop-k.invariant.done.kept.long
-
 pub returns : goal.returns
 returns c =
     let l = c.loop-k in
-    matched-same (λ f. refl) (λ f. users-end _ _ _ f l.k (omega (arith, c.loop-k-test.false, c.references_of-row.ensures.long))) l.invariant.done
+    matched-same (λ f. refl) (λ f. users-end _ _ _ f l.k (omega (arith, c.references_of-row.ensures.long))) l.invariant.done

@@ -1,32 +1,20 @@
--- 41 by the entry's range, 43 where no span was found, and what `corner_in` answers of the span.
-use native.Mathlib.Omega.{arith}
-use mathlib.Core.Path.{refl, sym, ap, ◌∙◌}
-use Rattle.model.specs.Rules.{rejected}
-use Rattle.corners.proofs.Outcomes.{below-range, above-range, corner_outside, corner_unreadable, corner-is}
+-- What is told of the span, and what `corner_in` answers of it.
+use mathlib.Core.Path.{refl, ◌∙◌}
+use Rattle.model.proofs.Staging.{handed}
+use Rattle.corners.proofs.Outcomes.{corner_refused, corner-is}
 use Rattle.corners.proofs.reader.corner.Goals as goal
 
-pub returns-then-element-first : goal.returns-then-element-first
-returns-then-element-first c = record { answers = ap rejected c.at.ensures ∙ corner_outside _ _ _ _ (below-range _ _ c.if-element-first.true); image-kept = refl }
-
-pub returns-then-last-element : goal.returns-then-last-element
-returns-then-last-element c = record { answers = ap rejected c.at-then-last-element.ensures ∙ corner_outside _ _ _ _ (above-range _ _ c.if-last-element.true); image-kept = refl }
-
-pub returns-in_default : goal.returns-in_default
-returns-in_default c =
+pub returns-in_err-span : goal.returns-in_err-span
+returns-in_err-span c =
     record {
-      answers = ap rejected c.at-in_default.ensures
-          ∙ corner_unreadable _ _ _ _ (omega arith) (omega arith) (sym c.in_default.is ∙ c.element_span-span.ensures.0);
+      answers = handed _ _ c.from_residual.ensures.1 (corner_refused _ _ _ _ c.in_err-span.ensures.answers);
       image-kept = refl;
     }
 
-pub corner_in-requires : goal.corner_in-requires
-corner_in-requires c = rw c.in-Range.is at c.element_span-span.ensures.1
-
 pub returns : goal.returns
 returns c =
-    let g = c.in-Range.is in
-    let e = c.element_span-span.ensures in
+    let e = c.in_ok-span.ensures in
     record {
-      answers = c.corner_in.ensures ∙ corner-is _ _ _ _ (omega arith) (omega arith) _ _ (sym g ∙ e.0) (rw g at e.1).0;
+      answers = c.corner_in.ensures ∙ corner-is _ _ _ _ e.answers e.held.0;
       image-kept = refl;
     }

@@ -1,38 +1,24 @@
--- The product of k / 32 tells whether k's product is beyond the length; where it is not, that product fits.
-use Prim.Native.Nat.{◌+◌, ◌*◌, ◌<◌, ◌^◌}
+-- A product or an end that does not fit in 64 bits is beyond the length.
 use native.Mathlib.Omega.{arith}
-use Rattle.corners.proofs.Ranges.{product_low, product_high, product_fits, fixed_none, fixed_beyond, fixed_range}
+use Rattle.corners.proofs.Ranges.{fixed_none, fixed_beyond, fixed_range}
 use Rattle.corners.proofs.spans.fixed_span.Goals as goal
-use Rattle.corners.proofs.spans.fixed_span.Goals.{Else-length-k}
+use Rattle.corners.proofs.spans.fixed_span.Goals.{then-nodes-eq0-via-then-nodes-eq0, then-nodes-eq0-via-else-nodes-eq0+then-length-end}
+
+pub returns-in_err-start : goal.returns-in_err-start
+returns-in_err-start c = rw c.from_residual.ensures (fixed_beyond _ _ _ (omega (arith, c.in_err-start.ensures)), tt)
+
+pub returns-in_err-end : goal.returns-in_err-end
+returns-in_err-end c = rw c.from_residual-in_err-end.ensures (fixed_beyond _ _ _ (omega (arith, c.in_ok-start.ensures, c.in_err-end.ensures)), tt)
 
 pub returns-then-nodes-eq0 : goal.returns-then-nodes-eq0
-returns-then-nodes-eq0 c = (fixed_none _ _ _ c.if-nodes-eq0.true, tt)
-
-pub overflow_mul-k : goal.overflow_mul-k
-overflow_mul-k c = let a = c.args in omega (arith, product_fits a.k a.nodes (omega arith) (omega arith))
-
-pub returns-then-length-k : goal.returns-then-length-k
-returns-then-length-k c =
-    let a = c.args in
-    (fixed_beyond a.k a.nodes a.length (omega arith) (omega (arith, product_low a.k a.nodes (omega arith))), tt)
-
--- the product and one element more
-fits : (c : Else-length-k) → let a = c.args in a.k * a.nodes + a.nodes < 2 ^ 64
-fits c = let a = c.args in omega (arith, product_high a.k a.nodes (omega arith))
-
-pub overflow_mul-start : goal.overflow_mul-start
-overflow_mul-start c = omega (arith, fits c)
-
-pub overflow_add-start : goal.overflow_add-start
-overflow_add-start c = omega (arith, fits c)
-
-pub returns-then-length-start : goal.returns-then-length-start
-returns-then-length-start c = let a = c.args in (fixed_beyond a.k a.nodes a.length (omega arith) c.if-length-start.true, tt)
-
-pub overflow_add-result : goal.overflow_add-result
-overflow_add-result c = omega (arith, fits (goal.at.overflow_add-result c).Else-length-k)
+returns-then-nodes-eq0 c =
+    elim c.then-nodes-eq0.branch [
+      | then-nodes-eq0-via-then-nodes-eq0 w ↦ (fixed_none _ _ _ w.if-nodes-eq0.true, tt)
+      | then-nodes-eq0-via-else-nodes-eq0+then-length-end w ↦ (fixed_beyond _ _ _ (omega (arith, c.in_ok-start.ensures, c.in_ok-end.ensures, w.if-length-end.true)), tt)
+    ]
 
 pub returns : goal.returns
 returns c =
-    let a = c.args in
-    (fixed_range a.k a.nodes a.length (omega arith) c.if-length-start.false, (omega arith, c.if-length-start.false))
+    let s = c.in_ok-start.ensures in
+    let e = c.in_ok-end.ensures in
+    (rw (e.1, s.1) (fixed_range _ _ _ (omega arith) (omega (arith, s, e, c.if-length-end.false))), (omega (arith, s, e), c.if-length-end.false))

@@ -2,42 +2,39 @@
 use Prim.Native.Nat.{◌+◌, ◌<◌, ◌^◌}
 use native.Mathlib.Numerals.{add-one}
 use native.Mathlib.Omega.{arith}
-use mathlib.Core.Path.{◌≡◌, sym, ◌∙◌}
-use mathlib.Core.Bool.{true}
+use mathlib.Core.Path.{sym}
 use lib.ListN.{length}
-use Rattle.model.specs.Corner.{inside}
 use Rattle.corners.specs.Spans.{offset_span}
 use Rattle.rows.proofs.Rows.{inside-numbers, inside_many}
 use Rattle.corners.proofs.spans.offset_span.Goals as goal
-use Rattle.corners.proofs.spans.offset_span.Goals.{Then-inside}
+use Rattle.corners.proofs.spans.offset_span.Goals.{Else-not-inside}
 
-pub returns-then-k-ge4611686018427387904 : goal.returns-then-k-ge4611686018427387904
+-- no image has so many numbers
+pub returns-in_err-n : goal.returns-in_err-n
 unfolding offset_span
-returns-then-k-ge4611686018427387904 c =
+returns-in_err-n c =
     let a = c.args in
     let s : length a.image.now < 2 ^ 64 = omega arith in
-    (rw (inside_many a.image.now a.at a.width (a.k + 2) s (omega arith)), tt)
+    rw c.from_residual.ensures
+    (rw (inside_many a.image.now a.at a.width (a.k + 2) s (omega (arith, c.in_err-n.ensures))), tt)
 
-within : (c : Then-inside) → let a = c.args in inside a.image.now a.at a.width (a.k + 2) ≡ true
-within c = sym c.inside.ensures ∙ c.if-inside.true
+pub returns-then-not-inside : goal.returns-then-not-inside
+unfolding offset_span
+returns-then-not-inside c = (rw (← c.in_ok-n.ensures.1, sym c.if-not-inside.ensures), tt)
 
 pub number_at-start-requires : goal.number_at-start-requires
-number_at-start-requires c = (inside-numbers _ _ _ _ (within c), omega arith)
+number_at-start-requires c = (inside-numbers _ _ _ _ (sym c.if-not-inside.ensures), omega (arith, c.in_ok-n.ensures))
 
 pub number_at-end-requires : goal.number_at-end-requires
-number_at-end-requires c = (inside-numbers _ _ _ _ (within (goal.at.number_at-end-requires c).Then-inside), omega arith)
+number_at-end-requires c = (inside-numbers _ _ _ _ (sym c.if-not-inside.ensures), omega (arith, c.in_ok-n.ensures))
 
 pub range_between-requires : goal.range_between-requires
-range_between-requires c = (inside-numbers _ _ _ _ (within (goal.at.range_between-requires c).Then-inside)).wide
-
-pub returns-then-inside : goal.returns-then-inside
-unfolding offset_span
-returns-then-inside c = (
-  rw (within (goal.at.returns-then-inside c).Then-inside)
-      (rw (c.number_at-start.ensures, c.number_at-end.ensures, add-one) at c.range_between.ensures.0),
-  c.range_between.ensures.1,
-)
+range_between-requires c = (inside-numbers _ _ _ _ (sym c.if-not-inside.ensures)).wide
 
 pub returns : goal.returns
 unfolding offset_span
-returns c = (rw (sym c.inside.ensures ∙ c.if-inside.false), tt)
+returns c = (
+  rw (← c.in_ok-n.ensures.1, sym c.if-not-inside.ensures)
+      (rw (c.number_at-start.ensures, c.number_at-end.ensures, add-one) at c.range_between.ensures.0),
+  c.range_between.ensures.1,
+)

@@ -1,10 +1,6 @@
 -- The whole is the rest from start offset k on, which is at hand and not negative.
-use Prim.Native.Nat.{◌-◌}
 use Rattle.elements.proofs.Offsets.{Rising}
 use Rattle.elements.proofs.lengths.all_rise.Given as goal
 
 abbrev pub invariant-loop-k : goal.invariant-loop-k
 invariant-loop-k l = Rising l.image l.row.at l.width l.least l.n l.k l.last
-
-abbrev pub decreases-loop-k : goal.decreases-loop-k
-decreases-loop-k l = l.n - l.k

@@ -19,7 +19,7 @@ use Rattle.section_data.proofs.RangeLaws.{ready_ranged, overlap-is}
 use Rattle.parents.proofs.ParentLaws.{parents_is}
 use Rattle.elements.proofs.StageLaws.{type_read, type_broken, overlap_broken, arrays_left, parents_broken_lem, parents_kept}
 use Rattle.elements.proofs.stage.element_stage.Goals as goal
-use Rattle.elements.proofs.stage.element_stage.Goals.{After-array_stage-stage, Start}
+use Rattle.elements.proofs.stage.element_stage.Goals.{After-array_stage, Start}
 
 -- what rules 20 to 26 buy
 module _ (c : Start) where
@@ -53,14 +53,14 @@ element_count-n-requires c =
     let p = (goal.at.element_count-n-requires c).Start in
     (p.requires.nodes_to.0.sound, (c.range_of.ensures.0, (ready p).ranged))
 
-pub array_stage-stage-requires : goal.array_stage-stage-requires
-array_stage-stage-requires c =
-    let p = (goal.at.array_stage-stage-requires c).Start in
+pub array_stage-requires : goal.array_stage-requires
+array_stage-requires c =
+    let p = (goal.at.array_stage-requires c).Start in
     let e = type_read _ _ c.whole-element_type.ensures in
     record { index = (p.requires.nodes_to.1, ready p); element_type_value = (e, c.element_count-n.ensures.0); faces = p.requires.faces }
 
 -- rules 27 and 28 hold, and the others are left
-module _ (c : After-array_stage-stage) where
+module _ (c : After-array_stage) where
   abbrev t : Tree
   t = tree_of c.args.image.now
 
@@ -79,17 +79,17 @@ module _ (c : After-array_stage-stage) where
   parents : eqb s c.args.parents ≡ not (found t (parents_of t s) ⊃ parents_lawful t s)
   parents = parents_is c.requires.nodes_to.0 prepared c.requires.s_value.0 c.requires.s_value_2 c.requires.overlap_value.1
 
-pub returns-in_default : goal.returns-in_default
-returns-in_default c = let a = (goal.at.returns-in_default c).After-array_stage-stage in left a _ (stop a.array_stage-stage.ensures _ c.in_default.is)
+pub returns-in_err-array_stage : goal.returns-in_err-array_stage
+returns-in_err-array_stage c = let a = (goal.at.returns-in_err-array_stage c).After-array_stage in left a _ (stop a.array_stage.ensures _ _ _ c.in_err-array_stage.was c.from_residual.ensures.1)
 
 pub returns-then-s-parents : goal.returns-then-s-parents
 returns-then-s-parents c =
-    let a = (goal.at.returns-then-s-parents c).After-array_stage-stage in
+    let a = (goal.at.returns-then-s-parents c).After-array_stage in
     left a _
-    (go a.array_stage-stage.ensures c.in-Pass.is
+    (go a.array_stage.ensures c.in_ok-array_stage.was
     (ap rejected c.at-then-s-parents.ensures ∙ parents_broken_lem _ _ (parents a) (eq-eqb _ _ c.if-s-parents.true)))
 
 pub returns : goal.returns
 returns c =
-    let a = (goal.at.returns c).After-array_stage-stage in
-    left a _ (go a.array_stage-stage.ensures c.in-Pass.is (parents_kept _ _ (parents a) (ne_eqb _ _ c.if-s-parents.false)))
+    let a = (goal.at.returns c).After-array_stage in
+    left a _ (go a.array_stage.ensures c.in_ok-array_stage.was (parents_kept _ _ (parents a) (ne_eqb _ _ c.if-s-parents.false)))

@@ -1,24 +1,16 @@
--- No node before s has them.
-use mathlib.Core.Path.{sym, ◌∙◌}
-use native.Mathlib.Omega.{arith}
+-- Some node has them where the call says so.
+use Rattle.std.proofs.Common.{refl, ◌∙◌, rules, arith}
+use Rattle.std.proofs.lemmas.Iterator.{YieldsList-from_range}
+use Rattle.std.proofs.lemmas.Iterator.Search.{any_from_yields_List}
+use borrow.Author.Tests.{tests}
+use Rattle.model.specs.Image.{tree_of}
 use Rattle.model.specs.ParentElements.{has_parents}
-use Rattle.model.proofs.Loops.{some_start, some_more, some_stop, some-done}
+use Rattle.model.proofs.Chains.{some_in_range}
 use Rattle.face_parents.proofs.face.any_parents.Goals as goal
 
-pub loop-s-init : goal.loop-s-init
-loop-s-init c = rw (← c.node_count-nodes.ensures.0) (some_start _ _ 0 (omega arith) (λ j h. absurd (omega arith)))
-
-pub has_parents-requires : goal.has_parents-requires
-has_parents-requires c =
-    let p = c.requires in (p.0, (p.1, omega (arith, c.loop-s-test.true, c.node_count-nodes.ensures.0)))
-
-pub returns-then-has_parents : goal.returns-then-has_parents
-returns-then-has_parents c =
-    some_stop c.loop-s.invariant (omega (arith, c.loop-s-test.true)) (sym c.has_parents.ensures ∙ c.if-has_parents.true)
-
-pub loop-s-preserved : goal.loop-s-preserved
-loop-s-preserved c =
-    some_more c.loop-s.invariant (omega (arith, c.loop-s-test.true)) (sym c.has_parents.ensures ∙ c.if-has_parents.false)
-
 pub returns : goal.returns
-returns c = some-done c.loop-s.invariant (omega arith)
+returns c =
+    let n = c.node_count.result in
+    let p = has_parents (tree_of c.args.image.now) c.args.z in
+    rw (← c.node_count.ensures.0)
+    (any_from_yields_List p _ _ _ c.any.ensures.ran (YieldsList-from_range 0 n n refl (omega arith)) (λ x b q k. search (rules, tests)) ∙ some_in_range p n 0)

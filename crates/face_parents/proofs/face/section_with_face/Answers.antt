@@ -1,28 +1,21 @@
--- No node before s brings the face.
-use mathlib.Core.Path.{sym, ◌∙◌}
-use native.Mathlib.Omega.{arith}
-use Rattle.model.specs.Elements.{has_face}
-use Rattle.model.proofs.Loops.{seek_more, seek_stop, seek_done}
-use Rattle.face_parents.proofs.OneFace.{section_start}
+-- The first node that brings the face, where the call found one.
+use Rattle.std.proofs.Common.{◌≡◌, true, false, rules, arith, ◌∙◌}
+use Rattle.std.proofs.lemmas.Iterator.{first_from_Range}
+use borrow.Author.Tests.{tests}
+use Rattle.model.specs.Lists.{seek_from}
+use Rattle.model.specs.Image.{tree_of}
+use Rattle.model.specs.Elements.{has_face, section_with_face}
+use Rattle.model.proofs.LookedUp.{seek_within}
+use Rattle.model.proofs.Chains.{seek_in_range}
 use Rattle.face_parents.proofs.face.section_with_face.Goals as goal
 
-pub loop-s-init : goal.loop-s-init
-loop-s-init c = section_start _ _ _ c.node_count-nodes.ensures.0
-
-pub has_face-requires : goal.has_face-requires
-has_face-requires c =
-    let p = c.requires in (p.0, (p.1, omega (arith, c.loop-s-test.true, c.node_count-nodes.ensures.0)))
-
-pub returns-then-has_face : goal.returns-then-has_face
-returns-then-has_face c = (
-  seek_stop c.loop-s.invariant (omega (arith, c.loop-s-test.true)) (sym c.has_face.ensures ∙ c.if-has_face.true),
-  omega (arith, c.loop-s.invariant.inside, c.node_count-nodes.ensures.0),
-)
-
-pub loop-s-preserved : goal.loop-s-preserved
-loop-s-preserved c =
-    seek_more c.loop-s.invariant (omega (arith, c.loop-s-test.true)) (sym c.has_face.ensures ∙ c.if-has_face.false)
-
 pub returns : goal.returns
+unfolding section_with_face tree_of
 returns c =
-    (seek_done c.loop-s.invariant (omega arith), omega (arith, c.loop-s.invariant.inside, c.node_count-nodes.ensures.0))
+    let p = has_face (tree_of c.args.image.now) c.args.z c.args.f in
+    let n = c.node_count-nodes.result in
+    let e : c.unwrap_or.result ≡ seek_from p n 0 =
+    c.unwrap_or.ensures
+    ∙ seek_in_range p n c.find.result
+    (first_from_Range _ _ _ c.find.result (λ s. p s ≡ true) (λ s. p s ≡ false) c.find.ensures.ran (λ s q k. search (rules, tests)) (λ s q k. search (rules, tests))) in
+    (rw c.node_count-nodes.ensures.0 at e, omega (arith, e, seek_within p n 0, c.node_count-nodes.ensures.0))

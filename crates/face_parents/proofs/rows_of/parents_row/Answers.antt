@@ -1,16 +1,12 @@
 -- A node with two columns has a word for each, and its first dimension is how long they are.
 use native.Mathlib.Omega.{arith}
-use Rattle.face_parents.proofs.Columns.{two-words, column_short, parent_row}
+use Rattle.face_parents.proofs.Columns.{two-words, parent_row}
 use Rattle.face_parents.proofs.rows_of.parents_row.Goals as goal
 
 pub dimension-n-requires : goal.dimension-n-requires
 dimension-n-requires c =
     let w = two-words c.requires.sound.0 (c.requires.columns (omega arith)) in
     record { laid = (c.requires.sound.0.laid, omega arith); k_bound = (omega (arith, w.0), w.1) }
-
-pub overflow_mul-result : goal.overflow_mul-result
-overflow_mul-result c =
-    record { fits = omega (arith, column_short c.requires.sound.0 (c.requires.columns (omega arith)), c.dimension-n.ensures) }
 
 pub returns : goal.returns
 returns c =

@@ -25,10 +25,6 @@ add_place-requires c =
     let r = room_for_lem c.requires.accepted.0 c.requires.ranges c.requires.accepted.1.1 (sym c.has_type.ensures ∙ c.if-not-has_type.false) in
     record { place_le_n = (c.insert-place.ensures.inside, omega (arith, r)); n_bound = (total-few c.requires.accepted.0 c.requires.ranges (omega arith), omega (arith, s.one, s.up, s.most)) }
 
-pub overflow_add-result : goal.overflow_add-result
-overflow_add-result c =
-    omega (arith, room_for_lem c.requires.accepted.0 c.requires.ranges c.requires.accepted.1.1 (sym c.has_type.ensures ∙ c.if-not-has_type.false))
-
 pub returns : goal.returns
 returns c =
     more_ranges c.requires.accepted.0 c.requires.ranges c.requires.accepted.1.1 (sym c.has_type.ensures ∙ c.if-not-has_type.false) c.span_of-span.ensures

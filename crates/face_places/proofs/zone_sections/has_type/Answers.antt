@@ -3,12 +3,9 @@ use mathlib.Core.Path.{sym, ap, ◌∙◌}
 use Prim.Native.Nat.{ℕ}
 use lib.Dec.{eqb}
 use Rattle.model.specs.Elements.{element_type_of}
-use Rattle.model.proofs.Joins.{and_on, and_done}
+use Rattle.model.proofs.Joins.{and_on}
 use Rattle.face_places.proofs.Accepted.{section-has}
 use Rattle.face_places.proofs.zone_sections.has_type.Goals as goal
-
-pub returns-then-not-section_of : goal.returns-then-not-section_of
-returns-then-not-section_of c = and_done _ c.section_of.ensures (c.if-not-section_of.true)
 
 pub whole-requires : goal.whole-requires
 whole-requires c =

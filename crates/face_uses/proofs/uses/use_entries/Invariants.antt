@@ -11,6 +11,3 @@ abbrev pub invariant-loop-k : goal.invariant-loop-k
 invariant-loop-k l = ((l.k ≤ l.row.n) × (length l.guesses ≡ 9))
     × Left (face_count (tree_of l.image) l.faces.zone) (use_entries (tree_of l.image) l.s (uses_in (tree_of l.image) l.faces.zone l.s) 0 l.initial.out) l.initial.out
     (use_entries (tree_of l.image) l.s (l.row.n - l.k) l.k l.out) l.out
-
-abbrev pub decreases-loop-k : goal.decreases-loop-k
-decreases-loop-k l = l.row.n - l.k

@@ -4,35 +4,35 @@ use mathlib.Core.Path.{◌∙◌}
 use native.Mathlib.Omega.{arith}
 use Rattle.model.specs.Image.{tree_of, node_count}
 use Rattle.model.specs.FaceUsage.{use_nodes}
-use Rattle.face_uses.proofs.Runs.{tables_kept, left_more, left_stop, left-done, nodes_start, nodes_step, nodes-end}
+use Rattle.face_uses.proofs.Runs.{tables_kept, left_more, left_handed, left-done, nodes_start, nodes_step, nodes-end}
 use Rattle.face_uses.proofs.uses.use_nodes.Goals as goal
 
 pub loop-i-init : goal.loop-i-init
-loop-i-init c = ((c.node_count-nodes.ensures.0, omega arith), nodes_start _ _ _ _ _)
+loop-i-init c = (c.node_count-i-end.ensures.0, nodes_start _ _ _ _ _)
 
-pub use_entries-s-requires : goal.use_entries-s-requires
-use_entries-s-requires c =
+pub use_entries-requires : goal.use_entries-requires
+use_entries-requires c =
     record { index = ((c.requires.index.0, omega (arith, c.loop-i.invariant.0)), c.requires.index.1); tables = tables_kept c.requires.tables c.loop-i.invariant.1.long }
 
-pub shape_of-out-in_default : goal.shape_of-out-in_default
-shape_of-out-in_default c =
-    c.use_entries-s.auto.out ∙ c.loop-i.invariant.1.long
+pub shape_of-out-in_err-use_entries : goal.shape_of-out-in_err-use_entries
+shape_of-out-in_err-use_entries c =
+    c.use_entries.auto.out ∙ c.loop-i.invariant.1.long
 
-pub returns-in_default : goal.returns-in_default
-returns-in_default c =
+pub returns-in_err-use_entries : goal.returns-in_err-use_entries
+returns-in_err-use_entries c =
     let a = c.args in
-    left_stop c.loop-i.invariant.1
+    left_handed c.loop-i.invariant.1
     (λ later. use_nodes (tree_of a.image.now) a.faces.zone (node_count a.image.now - (c.loop-i.i + 1)) (c.loop-i.i + 1) later)
-    (nodes_step _ _ _ _ _ (omega (arith, c.loop-i.invariant.0))) c.use_entries-s.ensures c.in_default.is
+    (nodes_step _ _ _ _ _ (omega (arith, c.loop-i.invariant.0))) c.use_entries.ensures c.in_err-use_entries.was _ c.from_residual.ensures.1
 
 pub loop-i-preserved : goal.loop-i-preserved
 loop-i-preserved c =
     let a = c.args in (
-      (c.loop-i.invariant.0.0, omega arith),
+      c.loop-i.invariant.0,
       left_more c.loop-i.invariant.1
           (λ later. use_nodes (tree_of a.image.now) a.faces.zone (node_count a.image.now - (c.loop-i.i + 1)) (c.loop-i.i + 1) later)
-          (nodes_step _ _ _ _ _ (omega (arith, c.loop-i.invariant.0))) c.use_entries-s.ensures c.in-Pass.is
-          c.use_entries-s.auto.out,
+          (nodes_step _ _ _ _ _ (omega (arith, c.loop-i.invariant.0))) c.use_entries.ensures c.in_ok-use_entries.was
+          c.use_entries.auto.out,
     )
 
 pub shape_of-out : goal.shape_of-out

@@ -7,9 +7,6 @@ use Rattle.face_uses.proofs.Runs.{Left}
 use Rattle.face_uses.proofs.uses.use_nodes.Given as goal
 
 abbrev pub invariant-loop-i : goal.invariant-loop-i
-invariant-loop-i l = ((l.nodes ≡ node_count l.image) × (l.i ≤ l.nodes))
+invariant-loop-i l = (l.i-end ≡ node_count l.image)
     × Left (face_count (tree_of l.image) l.faces.zone) (use_nodes (tree_of l.image) l.faces.zone (node_count l.image) 0 l.initial.out) l.initial.out
     (use_nodes (tree_of l.image) l.faces.zone (node_count l.image - l.i) l.i l.out) l.out
-
-abbrev pub decreases-loop-i : goal.decreases-loop-i
-decreases-loop-i l = l.nodes - l.i

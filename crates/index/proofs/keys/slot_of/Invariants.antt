@@ -1,5 +1,5 @@
 -- No slot before the first of its role is for the node, and those after it were asked.
-use Prim.Native.Nat.{ℕ, ◌-◌, ◌<◌}
+use Prim.Native.Nat.{ℕ, ◌<◌}
 use mathlib.Core.Path.{◌≡◌}
 use mathlib.Core.Bool.{false}
 use Rattle.model.specs.Image.{tree_of}
@@ -8,6 +8,3 @@ use Rattle.index.proofs.keys.slot_of.Given as goal
 
 abbrev pub invariant-loop-k : goal.invariant-loop-k
 invariant-loop-k l = (i : ℕ) → i < 4 → i < l.k → is_key (tree_of l.image) l.above i l.j ≡ false
-
-abbrev pub decreases-loop-k : goal.decreases-loop-k
-decreases-loop-k l = 4 - l.k

@@ -21,6 +21,6 @@ returns c =
     let a = c.args in
     let n = name-text a.k (omega arith) in
     let e = sym c.u64_at.ensures ∙ c.if-u64_at-first_word.false ∙ c.first_word.ensures ∙ ap (λ (x : List ℕ). field_word x 0) (sym n) in
-    let r = rw (c.u64_at-2.ensures, c.u64_at-3.ensures, c.u64_at-4.ensures) at c.rest_of_name.ensures in
+    let r = rw (c.u64_at-2.ensures, c.u64_at-3.ensures, c.u64_at-4.ensures) at c.rest_is.ensures in
     rw (name-field a.image.now a.i (omega arith) c.at-at.ensures, n) at
     (r ∙ rest-spells a.image.now (c.at-at.result + 0) (14 + a.k) (omega arith) (λ i. omega (arith, c.type_inv.image i)) (omega arith) e)

@@ -22,8 +22,8 @@ module _ (b : List ℕ) (i p k : ℕ) (inside : p + 32 ≤ length b) (bytes : By
   absent : (k < 14 → spells (take 32 (drop p b)) (get_or known_texts k []) ≡ false) → (0 ≡ role (tree_of b) i) × (0 < 16)
   absent e = (no_candidate b p k inside bytes begins e ∙ by_label, omega arith)
 
-pub returns-then-rest_of_label : goal.returns-then-rest_of_label
-returns-then-rest_of_label c =
+pub returns-then-rest_is : goal.returns-then-rest_is
+returns-then-rest_is c =
     let b = c.args.image.now in
     let p = c.at-at.result + 32 in
     let k = c.candidate-k.result in
@@ -31,12 +31,12 @@ returns-then-rest_of_label c =
     let bytes : Bytes b = λ i. omega (arith, c.type_inv.image i) in
     let begins : Begins (le 8 (drop p b)) k = rw c.u64_at.ensures at c.candidate-k.ensures in
     let by_label = role_by_label _ _ c.at-at.ensures (omega arith) c.if-i-eq0.false in
-    let spelled = rw (c.u64_at-second.ensures, c.u64_at-third.ensures, c.u64_at-fourth.ensures) at c.rest_of_label.ensures
+    let spelled = rw (c.u64_at-second.ensures, c.u64_at-third.ensures, c.u64_at-fourth.ensures) at c.rest_is.ensures
     ∙ rest-spells b p k inside bytes (omega arith) (begins.is (omega arith)) in
-    (is_candidate b p k inside bytes begins (omega arith) (sym spelled ∙ c.if-rest_of_label.true) ∙ by_label, omega arith)
+    (is_candidate b p k inside bytes begins (omega arith) (sym spelled ∙ c.if-rest_is.true) ∙ by_label, omega arith)
 
-pub returns-else-rest_of_label : goal.returns-else-rest_of_label
-returns-else-rest_of_label c =
+pub returns-else-rest_is : goal.returns-else-rest_is
+returns-else-rest_is c =
     let b = c.args.image.now in
     let p = c.at-at.result + 32 in
     let k = c.candidate-k.result in
@@ -44,9 +44,9 @@ returns-else-rest_of_label c =
     let bytes : Bytes b = λ i. omega (arith, c.type_inv.image i) in
     let begins : Begins (le 8 (drop p b)) k = rw c.u64_at.ensures at c.candidate-k.ensures in
     let by_label = role_by_label _ _ c.at-at.ensures (omega arith) c.if-i-eq0.false in
-    let spelled = rw (c.u64_at-second.ensures, c.u64_at-third.ensures, c.u64_at-fourth.ensures) at c.rest_of_label.ensures
+    let spelled = rw (c.u64_at-second.ensures, c.u64_at-third.ensures, c.u64_at-fourth.ensures) at c.rest_is.ensures
     ∙ rest-spells b p k inside bytes (omega arith) (begins.is (omega arith)) in
-    absent b c.args.i p k inside bytes begins by_label (λ h. sym spelled ∙ c.if-rest_of_label.false)
+    absent b c.args.i p k inside bytes begins by_label (λ h. sym spelled ∙ c.if-rest_is.false)
 
 pub returns-else-k-lt14 : goal.returns-else-k-lt14
 returns-else-k-lt14 c =

@@ -1,5 +1,4 @@
 -- Every number before k is a parent: known ones are, and a number that was looked up where it was found. Number k is not known.
-use mathlib.Core.Bool.{false}
 use Rattle.ranges.proofs.Intervals.{none-covered}
 use Rattle.section_data.proofs.Passing.{passed_more, passed_on, passed_every, failed_every}
 use Rattle.parents.proofs.ColumnLaws.{not_none, known_parents, found-parent, no_parent_lem}

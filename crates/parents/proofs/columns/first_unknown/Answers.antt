@@ -1,6 +1,6 @@
 -- Every number before j is known.
 use mathlib.Core.Path.{sym, ◌∙◌}
-use Rattle.section_data.proofs.Passing.{passed_none, passed_more}
+use Rattle.section_data.proofs.Passing.{passed_more}
 use Rattle.parents.specs.Parents.{known_at}
 use native.Mathlib.Omega.{arith}
 use Rattle.parents.proofs.columns.first_unknown.Goals as goal
@@ -14,9 +14,3 @@ pub loop-j-preserved : goal.loop-j-preserved
 unfolding known_at
 loop-j-preserved c =
     passed_more c.loop-j.invariant (omega arith) (rw (← c.number_at.ensures) (sym c.is_known.ensures ∙ c.if-not-is_known.false))
-
-pub returns : goal.returns
-returns c = record { passed = c.loop-j.invariant; result_value = λ h. absurd (omega arith) }
-
-pub loop-j-init : goal.loop-j-init
-loop-j-init c = passed_none _ _ _ c.requires.numbers.1

@@ -1,5 +1,4 @@
 -- No node before i breaks the rule.
-use Prim.Native.Nat.{◌-◌}
 use Rattle.model.specs.Lists.{seek_from}
 use Rattle.model.specs.Image.{tree_of}
 use Rattle.model.proofs.Loops.{SeekLeft}
@@ -8,6 +7,3 @@ use Rattle.parents.proofs.rule.first_broken_from.Given as goal
 
 abbrev pub invariant-loop-i : goal.invariant-loop-i
 invariant-loop-i l = SeekLeft (parents_broken (tree_of l.image)) l.nodes l.i (seek_from (parents_broken (tree_of l.image)) l.nodes 0)
-
-abbrev pub decreases-loop-i : goal.decreases-loop-i
-decreases-loop-i l = l.nodes - l.i

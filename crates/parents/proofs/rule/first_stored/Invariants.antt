@@ -1,5 +1,4 @@
 -- No node before i stores parents.
-use Prim.Native.Nat.{◌-◌}
 use Rattle.model.specs.Lists.{seek_from}
 use Rattle.model.specs.Image.{tree_of}
 use Rattle.model.proofs.Loops.{SeekLeft}
@@ -8,6 +7,3 @@ use Rattle.parents.proofs.rule.first_stored.Given as goal
 
 abbrev pub invariant-loop-i : goal.invariant-loop-i
 invariant-loop-i l = SeekLeft (stores_parents (tree_of l.image)) l.nodes l.i (seek_from (stores_parents (tree_of l.image)) l.nodes 0)
-
-abbrev pub decreases-loop-i : goal.decreases-loop-i
-decreases-loop-i l = l.nodes - l.i

@@ -1,11 +1,12 @@
 -- Every number before j refers to a face.
-use mathlib.Core.Path.{refl, sym, ◌∙◌}
+use Prim.Native.Nat.{◌-◌, ◌%◌}
+use mathlib.Core.Path.{◌≡◌, refl, sym, ◌∙◌}
 use Rattle.section_data.proofs.Passing.{passed_none, passed_on}
 use native.Mathlib.Omega.{arith}
 use Rattle.references.proofs.face_references.guessed_to.Goals as goal
 
 pub loop-j-init : goal.loop-j-init
-loop-j-init c = ((passed_none _ _ _ (omega arith), omega arith), refl)
+loop-j-init c = ((passed_none _ _ _ (omega arith), (omega arith, omega arith)), refl)
 
 pub slice_bounds-guess_eight-end : goal.slice_bounds-guess_eight-end
 slice_bounds-guess_eight-end c = sym c.loop-j.invariant.1
@@ -27,9 +28,9 @@ returns-then-not-eight_refer c = c.loop-j.invariant.0.0
 pub loop-j-preserved : goal.loop-j-preserved
 loop-j-preserved c =
     let l = c.loop-j in (
-      (passed_on l.invariant.0.0 (c.eight_refer.ensures (c.if-not-eight_refer.false)), omega arith),
+      (passed_on l.invariant.0.0 (c.eight_refer.ensures (c.if-not-eight_refer.false)), (omega arith, omega arith)),
       c.guess_eight.auto.entries ∙ l.invariant.1,
     )
 
 pub returns : goal.returns
-returns c = c.loop-j.invariant.0.0
+returns c = let e : c.loop-j.j ≡ c.args.end - (c.args.end - c.args.k) % 8 = omega arith in rw e at c.loop-j.invariant.0.0

@@ -1,22 +1,24 @@
--- Every number before k lies in 1 to limit.
-use mathlib.Core.Path.{sym, ◌∙◌}
+-- Every number before 2 * pair lies in 1 to limit.
+use Prim.Native.Nat.{◌+◌, ◌*◌, ◌-◌}
+use mathlib.Core.Path.{◌≡◌, sym, ◌∙◌}
 use native.Mathlib.Omega.{arith}
 use Rattle.section_data.proofs.Passing.{passed_none}
-use Rattle.references.proofs.Failing.{passed-two, failing_two, failing_last, failing_none}
+use Rattle.references.proofs.Failing.{passed-two, failing_two, failing_last}
 use Rattle.references.proofs.nodes.first_no_node.Goals as goal
 
-pub loop-k-init : goal.loop-k-init
-loop-k-init c = passed_none _ _ _ (omega arith)
+pub loop-pair-init : goal.loop-pair-init
+loop-pair-init c = passed_none _ _ _ (omega arith)
 
 pub returns-then-not-two_within : goal.returns-then-not-two_within
 returns-then-not-two_within c =
-    failing_two c.loop-k.invariant (omega arith) (sym c.two_within.ensures ∙ c.if-not-two_within.true) c.past_within.ensures
+    failing_two c.loop-pair.invariant (omega arith) (sym c.two_within.ensures ∙ c.if-not-two_within.true) c.past_within.ensures
 
-pub loop-k-preserved : goal.loop-k-preserved
-loop-k-preserved c = passed-two c.loop-k.invariant (omega arith) (sym c.two_within.ensures ∙ c.if-not-two_within.false)
-
-pub returns-then-k-n : goal.returns-then-k-n
-returns-then-k-n c = failing_last c.loop-k.invariant c.if-k-n.true (omega arith) c.past_within-then-k-n.ensures
+pub loop-pair-preserved : goal.loop-pair-preserved
+loop-pair-preserved c =
+    let e : 2 * c.loop-pair.pair + 2 ≡ 2 * (c.loop-pair.pair + 1) = omega arith in
+    rw e at (passed-two c.loop-pair.invariant (omega arith) (sym c.two_within.ensures ∙ c.if-not-two_within.false))
 
 pub returns : goal.returns
-returns c = failing_none c.loop-k.invariant (omega arith)
+returns c =
+    let e : c.args.row.n - 1 ≡ 2 * c.loop-pair.pair = omega arith in
+    failing_last c.loop-pair.invariant (omega arith) (omega arith) (rw e at c.past_within-2.ensures)

@@ -1,17 +1,9 @@
 -- No node before i brings the element to the zone.
 use mathlib.Core.Path.{sym, ◌∙◌}
 use native.Mathlib.Omega.{arith}
-use Rattle.model.specs.Elements.{has_element}
-use Rattle.model.proofs.Loops.{some_start, some_more, some_stop, some-done}
+use Rattle.model.proofs.Loops.{some_more, some_stop, some-done}
 use Rattle.section_data.proofs.RangeLaws.{element_by}
 use Rattle.section_data.proofs.element_ranges.is_element.Goals as goal
-
-pub loop-i-init : goal.loop-i-init
-loop-i-init c = some_start _ _ 0 (omega arith) (λ j h. absurd (omega arith))
-
-pub has_element-requires : goal.has_element-requires
-has_element-requires c =
-    (c.requires, omega (arith, c.loop-i-test.true, c.node_count-n.ensures.0))
 
 pub returns-then-has_element : goal.returns-then-has_element
 returns-then-has_element c =

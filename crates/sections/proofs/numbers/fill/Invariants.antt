@@ -1,5 +1,5 @@
 -- Each turn stores the entry of the next section: what is written are the entries of the sections visited.
-use Prim.Native.Nat.{◌-◌, ◌≤◌}
+use Prim.Native.Nat.{◌≤◌}
 use mathlib.Core.Path.{◌≡◌}
 use lib.ListN.{length}
 use Rattle.model.specs.Lists.{over}
@@ -10,6 +10,3 @@ use Rattle.sections.proofs.numbers.fill.Given as goal
 
 abbrev pub invariant-loop-k : goal.invariant-loop-k
 invariant-loop-k l = ((l.k ≤ l.n) × Visited l.image l.zone l.at l.k) × ((length l.out ≡ length l.initial.out) × (l.out ≡ over l.initial.out (all_numbers (first_entries (tree_of l.image) l.zone l.k))))
-
-abbrev pub decreases-loop-k : goal.decreases-loop-k
-decreases-loop-k l = l.n - l.k

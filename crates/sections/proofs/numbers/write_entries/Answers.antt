@@ -13,10 +13,10 @@ returns-in_default c =
 
 pub fill-requires : goal.fill-requires
 fill-requires c =
-    let q = counts _ _ _ (sym (ap count_tells c.in-Of.is) ∙ c.requires.answer_value) in
+    let q = counts _ _ _ (sym (ap count_tells c.in-Ok.is) ∙ c.requires.answer_value) in
     record { index = c.requires.index q.is-accepted.image; accepted = (q.is-accepted, q.zone-inside); n_value = (q.all, omega (arith, q.fits)) }
 
 pub returns : goal.returns
 unfolding section_numbers_memory
 returns c =
-    c.fill.ensures ∙ count-leaves _ _ _ _ _ (sym (ap count_tells c.in-Of.is) ∙ c.requires.answer_value)
+    c.fill.ensures ∙ count-leaves _ _ _ _ _ (sym (ap count_tells c.in-Ok.is) ∙ c.requires.answer_value)

@@ -2,12 +2,8 @@
 use native.Mathlib.Omega.{arith}
 use mathlib.Core.Path.{sym, ◌∙◌}
 use borrow.Author.Rules.{rules}
-use Rattle.model.specs.Values.{base_child}
-use Rattle.model.proofs.Loops.{some_start, some_more, some_stop, some-done}
+use Rattle.model.proofs.Loops.{some_more, some_stop, some-done}
 use Rattle.sids.proofs.required.has_base.Goals as goal
-
-pub loop-j-init : goal.loop-j-init
-loop-j-init c = some_start _ _ 0 (search rules) (λ j h. absurd (omega arith))
 
 pub returns-then-base_child : goal.returns-then-base_child
 returns-then-base_child c =

@@ -1,5 +1,4 @@
 -- What is left of the nodes decides.
-use Prim.Native.Nat.{◌-◌}
 use Rattle.model.specs.Image.{tree_of}
 use Rattle.model.specs.Lists.{some_from}
 use Rattle.model.specs.Values.{base_child}
@@ -8,6 +7,3 @@ use Rattle.sids.proofs.required.has_base.Given as goal
 
 abbrev pub invariant-loop-j : goal.invariant-loop-j
 invariant-loop-j l = SomeLeft (base_child (tree_of l.image)) l.n l.j (some_from (base_child (tree_of l.image)) l.n 0)
-
-abbrev pub decreases-loop-j : goal.decreases-loop-j
-decreases-loop-j l = l.n - l.j

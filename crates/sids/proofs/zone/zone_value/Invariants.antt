@@ -1,5 +1,4 @@
 -- What is left of the directions decides.
-use Prim.Native.Nat.{◌-◌}
 use Rattle.model.specs.Image.{tree_of}
 use Rattle.model.specs.Values.{zone_value}
 use Rattle.model.proofs.Loops.{EveryLeft}
@@ -8,6 +7,3 @@ use Rattle.sids.proofs.zone.zone_value.Given as goal
 
 abbrev pub invariant-loop-d : goal.invariant-loop-d
 invariant-loop-d l = EveryLeft (permitted_in (tree_of l.image) l.z) l.n l.d (zone_value (tree_of l.image) l.z)
-
-abbrev pub decreases-loop-d : goal.decreases-loop-d
-decreases-loop-d l = l.n - l.d

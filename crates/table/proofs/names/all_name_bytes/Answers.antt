@@ -8,40 +8,24 @@ use Rattle.table.proofs.names.all_name_bytes.Goals as goal
 
 pub loop-i-init : goal.loop-i-init
 unfolding sum_before
-loop-i-init c = ((refl, (omega arith, omega arith)), (linked_start _ _ c.clear.ensures, refl))
+loop-i-init c = ((refl, omega arith), linked_start _ _ c.clear.ensures)
 
 pub link-requires : goal.link-requires
 link-requires c =
-    let l = c.loop-i in
-    record { has_record = (((omega arith, omega arith), λ j h. c.requires.count_bound.1 j (omega arith)), omega (arith, c.requires.in_bounds, l.invariant.1.1, c.clear.auto.links)); linked = l.invariant.1.0 }
+    record { has_record = (((omega arith, omega arith), λ j h. c.requires.count_bound.1 j (omega arith)), omega arith); linked = c.loop-i.invariant.1 }
 
 pub bytes_with_earlier-sum-requires : goal.bytes_with_earlier-sum-requires
 bytes_with_earlier-sum-requires c =
-    let l = c.loop-i in
-    record { has_record = ((omega arith, omega arith), omega (arith, c.requires.in_bounds, c.link.auto.siblings, l.invariant.1.1, c.clear.auto.links)); linked = c.link.ensures }
+    record { has_record = ((omega arith, omega arith), omega arith); linked = c.link.ensures }
 
 pub loop-i-preserved : goal.loop-i-preserved
 loop-i-preserved c =
     let l = c.loop-i in
-    let p = c.bytes_with_earlier-sum.ensures in (
-      (rw (l.invariant.0.0, p.0) (sym (sum_before_step _ l.i)), (omega (arith, l.invariant.0), omega (arith, l.invariant.0, p.1))),
-      (c.link.ensures, c.link.auto.siblings ∙ l.invariant.1.1),
-    )
+    let p = c.bytes_with_earlier-sum.ensures in
+    ((rw (l.invariant.0.0, p.0) (sym (sum_before_step _ l.i)), omega (arith, p.1)), c.link.ensures)
 
 pub returns : goal.returns
 returns c =
     let l = c.loop-i in
     let e : l.i ≡ c.args.count = omega arith in
     l.invariant.0.0 ∙ ap (sum_before _) e
-
-pub overflow_add-sum : goal.overflow_add-sum
-overflow_add-sum c = omega (arith, c.loop-i.invariant.0, c.bytes_with_earlier-sum.ensures.1)
-
-pub overflow_add-i : goal.overflow_add-i
-overflow_add-i c = omega (arith, c.loop-i.invariant.0)
-
-pub loop-i-smaller : goal.loop-i-smaller
-loop-i-smaller c = omega arith
-
-pub shape_of-siblings : goal.shape_of-siblings
-shape_of-siblings c = c.loop-i.invariant.1.1 ∙ c.clear.auto.links

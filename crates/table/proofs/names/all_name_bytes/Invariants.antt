@@ -1,7 +1,6 @@
 -- The sum of what stands before node i; the nodes before it are linked.
-use Prim.Native.Nat.{◌*◌, ◌-◌, ◌≤◌}
+use Prim.Native.Nat.{◌*◌, ◌≤◌}
 use mathlib.Core.Path.{◌≡◌}
-use lib.ListN.{length}
 use Rattle.model.specs.Lists.{sum_before}
 use Rattle.model.specs.Image.{parent}
 use Rattle.model.specs.NameBytes.{bytes_with_earlier}
@@ -10,8 +9,5 @@ use Rattle.texts.specs.Links.{Linked}
 use Rattle.table.proofs.names.all_name_bytes.Given as goal
 
 abbrev pub invariant-loop-i : goal.invariant-loop-i
-invariant-loop-i l = ((l.sum ≡ sum_before (bytes_with_earlier (all_records l.table)) l.i) × ((l.i ≤ l.count) × (l.sum ≤ 135168 * l.i)))
-    × (Linked (parent (all_records l.table)) l.i l.siblings × (length l.siblings ≡ length l.initial.siblings))
-
-abbrev pub decreases-loop-i : goal.decreases-loop-i
-decreases-loop-i l = l.count - l.i
+invariant-loop-i l =
+    ((l.sum ≡ sum_before (bytes_with_earlier (all_records l.table)) l.i) × (l.sum ≤ 135168 * l.i)) × Linked (parent (all_records l.table)) l.i l.siblings

@@ -23,7 +23,7 @@ loop-k-init c =
     let t = records_of a.table.now a.count in
     let w = same_width _ t a.i (table-node _ _ a.i c.requires.has_record.0.1.0 c.requires.has_record.0.1.1) in
     let z = ap (λ (x : RecordNumbers). x.data_size) c.requires.has_record.1 in
-    (omega arith, rw (c.width_at-m.ensures.0 ∙ w, z) (sized_is t a.i))
+    rw (c.width_at-m.ensures.0 ∙ w, z) (sized_is t a.i)
 
 -- the node has as many dimensions as its numbers say
 ranked : (w : After-width_at-m) → let a = w.args in
@@ -41,7 +41,7 @@ returns-then-not-product_fits c =
     let l = (goal.at.returns-then-not-product_fits c).At-loop-k in
     sym (size-off l.loop-k.m _ _ l.loop-k.k (omega (arith, ranked (goal.at.returns-then-not-product_fits c).After-width_at-m)) c.dimension-d.ensures
     (sym c.product_fits.ensures ∙ c.if-not-product_fits.true))
-    ∙ l.loop-k.invariant.1
+    ∙ l.loop-k.invariant
 
 pub overflow_mul-m : goal.overflow_mul-m
 overflow_mul-m c =
@@ -51,13 +51,11 @@ overflow_mul-m c =
 
 pub loop-k-preserved : goal.loop-k-preserved
 loop-k-preserved c =
-    let l = (goal.at.loop-k-preserved c).At-loop-k in (
-      omega arith,
-      size-on l.loop-k.m _ _ l.loop-k.k (omega (arith, ranked (goal.at.loop-k-preserved c).After-width_at-m)) c.dimension-d.ensures
-          (sym c.product_fits.ensures ∙ c.if-not-product_fits.false) ∙ l.loop-k.invariant.1,
-    )
+    let l = (goal.at.loop-k-preserved c).At-loop-k in
+    size-on l.loop-k.m _ _ l.loop-k.k (omega (arith, ranked (goal.at.loop-k-preserved c).After-width_at-m)) c.dimension-d.ensures
+    (sym c.product_fits.ensures ∙ c.if-not-product_fits.false) ∙ l.loop-k.invariant
 
 pub returns : goal.returns
 returns c =
     let l = (goal.at.returns c).At-loop-k in
-    sym (size-end l.loop-k.m _ _ l.loop-k.k (omega (arith, ranked (goal.at.returns c).After-width_at-m))) ∙ l.loop-k.invariant.1
+    sym (size-end l.loop-k.m _ _ l.loop-k.k (omega (arith, ranked (goal.at.returns c).After-width_at-m))) ∙ l.loop-k.invariant

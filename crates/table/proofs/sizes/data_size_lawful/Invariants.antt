@@ -1,5 +1,4 @@
 -- The dimensions from k on, and the product before them, decide.
-use Prim.Native.Nat.{◌-◌, ◌≤◌}
 use mathlib.Core.Path.{◌≡◌}
 use lib.ListN.{drop}
 use Rattle.records.specs.Table.{records_of}
@@ -9,7 +8,4 @@ use Rattle.table.proofs.Laws.{sized}
 use Rattle.table.proofs.sizes.data_size_lawful.Given as goal
 
 abbrev pub invariant-loop-k : goal.invariant-loop-k
-invariant-loop-k l = (l.k ≤ l.rank) × (sized l.m l.size (drop l.k (dimensions (records_of l.table l.count) l.i)) ≡ data_size_lawful (records_of l.table l.count) l.i)
-
-abbrev pub decreases-loop-k : goal.decreases-loop-k
-decreases-loop-k l = l.rank - l.k
+invariant-loop-k l = sized l.m l.size (drop l.k (dimensions (records_of l.table l.count) l.i)) ≡ data_size_lawful (records_of l.table l.count) l.i

@@ -1,5 +1,4 @@
 -- Rules 7 to 17 hold before node i, with the sums so far and what is known of names.
-use Prim.Native.Nat.{◌-◌}
 use mathlib.Core.Path.{◌≡◌}
 use lib.ListN.{length}
 use Rattle.table.specs.Siblings.{Names}
@@ -8,6 +7,3 @@ use Rattle.table.proofs.stages.node_stages.Given as goal
 
 abbrev pub invariant-loop-i : goal.invariant-loop-i
 invariant-loop-i l = Progress l.table l.size l.i l.words l.bytes × Names l.table l.size.nodes l.i l.names.taken l.seen × (length l.seen ≡ length l.initial.seen)
-
-abbrev pub decreases-loop-i : goal.decreases-loop-i
-decreases-loop-i l = l.count - l.i

@@ -7,28 +7,28 @@ use Rattle.table.proofs.Progress.{record_groups, lawful_before, free_before, num
 use Rattle.table.proofs.Taken.{names_at}
 use Rattle.table.proofs.stages.record_stage.Goals as goal
 
-pub returns-in_default : goal.returns-in_default
-returns-in_default c =
-    stop c.place_stage-place.ensures _ c.in_default.is ∙ sym (record_groups c.requires.table_to.0.0)
+pub returns-in_err-place_stage : goal.returns-in_err-place_stage
+returns-in_err-place_stage c =
+    stop c.place_stage.ensures _ _ _ c.in_err-place_stage.was c.from_residual.ensures.1 ∙ sym (record_groups c.requires.table_to.0.0)
 
-pub text_stage-text-requires : goal.text_stage-text-requires
-text_stage-text-requires c =
+pub text_stage-requires : goal.text_stage-requires
+text_stage-requires c =
     let t = c.requires.table_to.0.0 in
     record { has_record = (omega arith, omega arith); key_value = (c.requires.key_value.0, names_at c.requires.key_value.1 t.inside (free_before t)) }
 
-pub returns-in_default-text : goal.returns-in_default-text
-returns-in_default-text c =
-    go c.place_stage-place.ensures c.in-Pass.is (stop c.text_stage-text.ensures _ c.in_default-text.is)
+pub returns-in_err-text_stage : goal.returns-in_err-text_stage
+returns-in_err-text_stage c =
+    go c.place_stage.ensures c.in_ok-place_stage.was (stop c.text_stage.ensures _ _ _ c.in_err-text_stage.was c.from_residual-in_err-text_stage.ensures.1)
     ∙ sym (record_groups c.requires.table_to.0.0)
 
-pub type_stage-types-requires : goal.type_stage-types-requires
-type_stage-types-requires c =
+pub type_stage-requires : goal.type_stage-requires
+type_stage-requires c =
     ((omega arith, omega arith), ap (λ (x : RecordNumbers). x.rank) (c.requires.table_to.1 ∙ sym (numbers-here c.requires.table_to.0.0)))
 
-pub returns-in_default-types : goal.returns-in_default-types
-returns-in_default-types c =
-    go c.place_stage-place.ensures c.in-Pass.is
-    (go c.text_stage-text.ensures c.in-Pass-text.is (stop c.type_stage-types.ensures _ c.in_default-types.is))
+pub returns-in_err-type_stage : goal.returns-in_err-type_stage
+returns-in_err-type_stage c =
+    go c.place_stage.ensures c.in_ok-place_stage.was
+    (go c.text_stage.ensures c.in_ok-text_stage.was (stop c.type_stage.ensures _ _ _ c.in_err-type_stage.was c.from_residual-in_err-type_stage.ensures.1))
     ∙ sym (record_groups c.requires.table_to.0.0)
 
 pub size_stage-requires : goal.size_stage-requires
@@ -37,10 +37,10 @@ size_stage-requires c =
 
 pub returns : goal.returns
 returns c =
-    go c.place_stage-place.ensures c.in-Pass.is
-    (go c.text_stage-text.ensures c.in-Pass-text.is
-    (go c.type_stage-types.ensures c.in-Pass-types.is c.size_stage.ensures))
+    go c.place_stage.ensures c.in_ok-place_stage.was
+    (go c.text_stage.ensures c.in_ok-text_stage.was
+    (go c.type_stage.ensures c.in_ok-type_stage.was c.size_stage.ensures))
     ∙ sym (record_groups c.requires.table_to.0.0)
 
-pub place_stage-place-requires : goal.place_stage-place-requires
-place_stage-place-requires c = ((omega arith, omega arith), lawful_before c.requires.table_to.0.0)
+pub place_stage-requires : goal.place_stage-requires
+place_stage-requires c = ((omega arith, omega arith), lawful_before c.requires.table_to.0.0)

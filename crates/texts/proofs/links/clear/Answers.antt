@@ -1,24 +1,10 @@
--- The places before k are 0.
-use native.Mathlib.Omega.{arith}
-use mathlib.Core.Path.{refl}
-use lib.ListN.{length-set}
-use Rattle.texts.proofs.Linking.{zeros_on}
+-- The first 4,096 places hold what was filled in.
+use Rattle.std.proofs.Common.{replicate, drop, ℕ, ◌∙◌, length-take-le}
+use Rattle.std.proofs.lemmas.List.{get_or_append_left, get_or-replicate, length-replicate}
 use Rattle.texts.proofs.links.clear.Goals as goal
 
-pub loop-k-init : goal.loop-k-init
-loop-k-init c = ((omega arith, refl), λ u h. absurd (omega arith))
-
-pub loop-k-preserved : goal.loop-k-preserved
-loop-k-preserved c =
-    let l = c.loop-k in
-    let n = l.invariant.0.1 in
-    ((omega arith, rw length-set n), zeros_on l.links l.k (omega (arith, n)) l.invariant.1)
-
 pub returns : goal.returns
-returns c = λ u h. c.loop-k.invariant.1 u (omega arith)
-
-pub bounds-links-k : goal.bounds-links-k
-bounds-links-k c = omega (arith, c.loop-k.invariant.0.1)
-
-pub shape_of-links : goal.shape_of-links
-shape_of-links c = c.loop-k.invariant.0.1
+returns c =
+    let links = c.args.links.now in
+    rw (c.fill.ensures.after (λ y h. h), length-take-le 4096 links c.requires) λ u h.
+    get_or_append_left (replicate 4096 0) (drop 4096 links) 0 u (rw (length-replicate {A = ℕ} 4096 0) h) ∙ get_or-replicate 4096 u 0 0 h

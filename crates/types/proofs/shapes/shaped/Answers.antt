@@ -1,6 +1,6 @@
 -- What is left of the dimensions decides.
 use Prim.Native.Nat.{◌≤◌}
-use mathlib.Core.Path.{◌≡◌, refl, sym, ap, ◌∙◌}
+use mathlib.Core.Path.{◌≡◌, sym, ap, ◌∙◌}
 use lib.ListN.{length}
 use lib.Seq.{length-take-le}
 use borrow.Author.Rules.{rules}
@@ -20,32 +20,29 @@ returns-then-read-n c =
     let l : a.n ≤ length a.sizes = (search rules) in
     sym (same_not _ _ (λ f. c.if-read-n.true (e ∙ sym (rank_is _ _) ∙ f ∙ length-take-le a.n a.sizes l)))
 
-pub loop-k-init : goal.loop-k-init
-loop-k-init c = ((search rules, sym (ap (λ r. r.rank) c.read.ensures) ∙ c.if-read-n.false, search rules), refl)
-
 pub dimension-requires : goal.dimension-requires
 dimension-requires c =
     let a = c.args in
     let p = node-placed a.image.now c.requires.sound.0.table a.i (search rules) in
+    let e : (node (tree_of a.image.now) a.i).rank ≡ a.n = sym (ap (λ r. r.rank) c.read.ensures) ∙ c.if-read-n.false in
     record { laid = (search rules, search rules); k_bound = search rules }
 
 pub returns-then-dimension-sizes : goal.returns-then-dimension-sizes
 unfolding shaped
 returns-then-dimension-sizes c =
     let a = c.args in
-    first_off _ a.sizes a.n c.loop-k.k (rank_is _ _ ∙ c.loop-k.invariant.0.1) c.loop-k.invariant.0.2 (search rules)
-    (λ e. c.if-dimension-sizes.true (c.dimension.ensures ∙ e)) ∙ c.loop-k.invariant.1
+    let e = rank_is _ _ ∙ sym (ap (λ r. r.rank) c.read.ensures) ∙ c.if-read-n.false in
+    first_off _ a.sizes a.n c.loop-k.k e (search rules) (search rules) (λ e. c.if-dimension-sizes.true (c.dimension.ensures ∙ e)) ∙ c.loop-k.invariant
 
 pub loop-k-preserved : goal.loop-k-preserved
 loop-k-preserved c =
-    let a = c.args in (
-      (search rules, c.loop-k.invariant.0.1, c.loop-k.invariant.0.2),
-      first_on _ a.sizes a.n c.loop-k.k (rank_is _ _ ∙ c.loop-k.invariant.0.1) c.loop-k.invariant.0.2 (search rules)
-          (sym c.dimension.ensures ∙ c.if-dimension-sizes.false) ∙ c.loop-k.invariant.1,
-    )
+    let a = c.args in
+    let e = rank_is _ _ ∙ sym (ap (λ r. r.rank) c.read.ensures) ∙ c.if-read-n.false in
+    first_on _ a.sizes a.n c.loop-k.k e (search rules) (search rules) (sym c.dimension.ensures ∙ c.if-dimension-sizes.false) ∙ c.loop-k.invariant
 
 pub returns : goal.returns
 unfolding shaped
 returns c =
     let a = c.args in
-    first-end _ a.sizes a.n c.loop-k.k (rank_is _ _ ∙ c.loop-k.invariant.0.1) c.loop-k.invariant.0.2 (search rules) ∙ c.loop-k.invariant.1
+    let e = rank_is _ _ ∙ sym (ap (λ r. r.rank) c.read.ensures) ∙ c.if-read-n.false in
+    first-end _ a.sizes a.n c.loop-k.k e (search rules) (search rules) ∙ c.loop-k.invariant

@@ -3,7 +3,7 @@ use mathlib.Core.Path.{◌≡◌, sym, ap, ◌∙◌}
 use lib.ListN.{length}
 use borrow.Author.Rules.{rules}
 use Rattle.model.specs.Image.{tree_of, node}
-use Rattle.model.specs.Values.{rind_value, not_negative, size}
+use Rattle.model.specs.Values.{rind_value, size}
 use Rattle.model.proofs.Bounds.{node-placed}
 use Rattle.types.proofs.StoredNumbers.{flat-is, whole_four, has_flat}
 use Rattle.model.proofs.Loops.{every_start, every_more, every_stop, every_done}
@@ -19,24 +19,22 @@ dimension-n-requires c =
 
 pub loop-k-init : goal.loop-k-init
 unfolding rind_value size
-loop-k-init c = (c.dimension-n.ensures, rw (← c.dimension-n.ensures) (every_start _ _))
+loop-k-init c = rw (← c.dimension-n.ensures) (every_start _ _)
 
 pub not_negative-requires : goal.not_negative-requires
+unfolding size
 not_negative-requires c =
     let a = c.args in (
       search rules,
       has_flat a.image.now c.requires.sound.0 a.i (search rules) (whole_four _ _ c.requires.i_value.0) c.requires.i_value.1 c.loop-k.k
-          (search rules),
+          (rw (← c.dimension-n.ensures) (search rules)),
     )
 
 pub returns-then-not-not_negative : goal.returns-then-not-not_negative
-returns-then-not-not_negative c =
-    every_stop c.loop-k.invariant.1 c.loop-k-test.true
-    (sym c.not_negative.ensures ∙ c.if-not-not_negative.true)
+returns-then-not-not_negative c = every_stop c.loop-k.invariant c.loop-k-test.true (sym c.not_negative.ensures ∙ c.if-not-not_negative.true)
 
 pub loop-k-preserved : goal.loop-k-preserved
-loop-k-preserved c =
-    (c.loop-k.invariant.0, every_more c.loop-k.invariant.1 c.loop-k-test.true (sym c.not_negative.ensures ∙ c.if-not-not_negative.false))
+loop-k-preserved c = every_more c.loop-k.invariant c.loop-k-test.true (sym c.not_negative.ensures ∙ c.if-not-not_negative.false)
 
 pub returns : goal.returns
-returns c = every_done c.loop-k.invariant.1 c.loop-k-test.false
+returns c = every_done c.loop-k.invariant c.loop-k-test.false

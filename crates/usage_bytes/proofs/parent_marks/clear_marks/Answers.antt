@@ -1,16 +1,10 @@
--- The first k bytes have no marks, and the others are as they were.
-use Prim.Native.Nat.{ℕ, ◌+◌, ◌%◌, ◌<◌}
-use mathlib.Core.Path.{◌≡◌, refl, ◌∙◌}
-use mathlib.Core.List.{List}
-use native.Mathlib.Omega.{arith}
+-- The first n bytes have no marks, and the others are as they were.
+use Rattle.std.proofs.Common.{ℕ, ◌+◌, ◌%◌, ◌<◌, ◌≤◌, List, ◌++◌, length, get_or, take, drop, set, refl, ◌∙◌, arith, length-set, get_or-set_same, get_or-set_other}
+use Rattle.std.proofs.lemmas.Grind.{common_steps}
+use Rattle.std.proofs.lemmas.List.{length-take-le}
 use native.Mathlib.Decide.{ℕ_discrete}
-use lib.ListN.{length, get_or, set, length-set}
-use lib.Seq.{get_or-set_same, get_or-set_other}
 use Rattle.usage_bytes.specs.ParentMarks.{Unmarked}
 use Rattle.usage_bytes.proofs.parent_marks.clear_marks.Goals as goal
-
-none : (bytes : List ℕ) → Unmarked 0 bytes bytes
-none bytes = record { long = refl; front = λ p h. absurd (omega arith); rest = λ p h. refl }
 
 -- one more
 more : (k : ℕ) {bytes after : List ℕ} → k < length after → Unmarked k bytes after → Unmarked (k + 1) bytes (set after k (get_or after k 0 % 4))
@@ -26,17 +20,23 @@ more k {bytes} {after} h u =
       rest = λ p l. get_or-set_other after k p _ 0 (omega arith) ∙ u.rest p (omega arith);
     }
 
-pub loop-k-init : goal.loop-k-init
-loop-k-init c = (omega arith, none _)
+-- a front part of the bytes, put back
+back : (n i : ℕ) (bytes part : List ℕ) → n ≤ length bytes → n ≤ i → Unmarked i (take n bytes) part → Unmarked n bytes (part ++ drop n bytes)
+back n i bytes part h l u =
+    record {
+      long = grind (arith, common_steps, u.long);
+      front = λ p m. grind (arith, common_steps, u.long, u.front p (omega arith));
+      rest = λ p m. grind (arith, common_steps, u.long);
+    }
 
-pub bounds-out-k : goal.bounds-out-k
-bounds-out-k c = omega (arith, c.loop-k.invariant.1.long)
+pub loop-byte-init : goal.loop-byte-init
+loop-byte-init c = record { long = refl; front = λ p h. absurd (omega arith); rest = λ p h. refl }
 
-pub loop-k-preserved : goal.loop-k-preserved
-loop-k-preserved c = let l = c.loop-k in (omega arith, more l.k (omega (arith, l.invariant.1.long)) l.invariant.1)
-
-pub shape_of-out : goal.shape_of-out
-shape_of-out c = c.loop-k.invariant.1.long
+pub loop-byte-preserved : goal.loop-byte-preserved
+loop-byte-preserved c = let l = c.loop-byte in more l.byte-index (omega arith) l.invariant
 
 pub returns : goal.returns
-returns c = let e : c.loop-k.k ≡ c.args.n = omega arith in rw e at c.loop-k.invariant.1
+returns c =
+    let l = c.loop-byte in
+    let bytes = c.args.out.now in
+    back c.args.n l.byte-index bytes l.byte-items c.requires (omega (arith, length-take-le c.args.n bytes c.requires)) l.invariant

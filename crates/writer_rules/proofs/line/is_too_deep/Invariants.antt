@@ -1,5 +1,5 @@
 -- The walk up: from here with what is left is as from the node itself with 32, whatever is added where its line is lawful.
-use Prim.Native.Nat.{◌<◌}
+use Prim.Native.Nat.{◌-◌, ◌<◌}
 use mathlib.Core.Path.{◌≡◌}
 use mathlib.Core.Bool.{true}
 use Rattle.writer_model.specs.declared.Writer.{Writer}
@@ -7,9 +7,6 @@ use Rattle.writer_model.specs.Writer.{Addition, tree_with, line_lawful}
 use Rattle.writer_rules.proofs.LineLaws.{Climb}
 use Rattle.writer_rules.proofs.line.is_too_deep.Given as goal
 
-abbrev pub invariant-loop-left : goal.invariant-loop-left
-invariant-loop-left l = (s : Writer) (a : Addition) → a.parent ≡ l.parent → 0 < s.node → line_lawful (tree_with s a l.room) s.node s.node ≡ true
-    → Climb (tree_with s a l.room) s.node l.left l.at
-
-abbrev pub decreases-loop-left : goal.decreases-loop-left
-decreases-loop-left l = l.left
+abbrev pub invariant-loop : goal.invariant-loop
+invariant-loop l = (s : Writer) (a : Addition) → a.parent ≡ l.parent → 0 < s.node → line_lawful (tree_with s a l.room) s.node s.node ≡ true
+    → Climb (tree_with s a l.room) s.node (32 - l.counter) l.at

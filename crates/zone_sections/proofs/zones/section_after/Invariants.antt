@@ -8,6 +8,3 @@ use Rattle.zone_sections.proofs.zones.section_after.Given as goal
 
 abbrev pub invariant-loop-j : goal.invariant-loop-j
 invariant-loop-j l = SeekLeft (section_of (tree_of l.image) l.zone) (node_count l.image) l.j (seek_from (section_of (tree_of l.image) l.zone) (node_count l.image - (l.i + 1)) (l.i + 1))
-
-abbrev pub decreases-loop-j : goal.decreases-loop-j
-decreases-loop-j l = l.n - l.j

@@ -1,6 +1,5 @@
 -- Each node after the zone counts as one section or as none.
 use mathlib.Core.Path.{sym, ◌∙◌}
-use Rattle.model.specs.Containment.{section_of}
 use Rattle.zone_sections.proofs.Walk.{count-one, count_none, count_all}
 use Rattle.zone_sections.proofs.After.{none_counted}
 use native.Mathlib.Omega.{arith}

@@ -1,5 +1,4 @@
 -- Each node after the zone counts as one section or as none.
-use Prim.Native.Nat.{◌-◌}
 use lib.ListN.{length}
 use Rattle.model.specs.Image.{tree_of, node_count}
 use Rattle.model.specs.Containment.{section_of}
@@ -9,6 +8,3 @@ use Rattle.zone_sections.proofs.zones.section_count.Given as goal
 
 abbrev pub invariant-loop-j : goal.invariant-loop-j
 invariant-loop-j l = Counted (section_of (tree_of l.image) l.zone) (node_count l.image) l.j l.count (length (section_nodes (tree_of l.image) l.zone))
-
-abbrev pub decreases-loop-j : goal.decreases-loop-j
-decreases-loop-j l = l.n - l.j
