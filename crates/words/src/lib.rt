@@ -6,7 +6,7 @@ ghost use Rattle.model.specs.Lists.{over_at};
 ghost use Rattle.model.specs.Bytes.{le, le_bytes, all_bytes, signed};
 ghost use Rattle.model.specs.NameBytes.{first_difference};
 ghost use Rattle.words.specs.Difference.{same_bytes};
-ghost use Rattle.words.specs.Width.{is_width, twos};
+ghost use Rattle.words.specs.Width.{is_width};
 
 // One byte, widened: its bound comes with it.
 pub fn byte_at(s: &[u8], at: usize) -> u64
@@ -74,35 +74,15 @@ pub fn first_difference(a: &[u8], p: usize, b: &[u8], q: usize) -> usize
     33
 }
 
-// The two's-complement number whose bits are x, where half of the patterns are below `half`.
-fn twos_complement(x: u64, half: u64) -> i64
-    requires { (x < half + half) × (half ≤ 2 ^ 63) }
-    ensures { result ≡ twos half x }
-{
-    if x < half {
-        x as i64
-    } else {
-        -1 - ((half - 1 - (x - half)) as i64)
-    }
-}
-
-// The same of 32 bits, with no branch: the upper half of the patterns moves below 0.
-fn sign_extended(x: u64) -> i64
-    requires { x < 4294967296 }
-    ensures { result ≡ twos 2147483648 x }
-{
-    ((x + 2147483648) % 4294967296) as i64 - 2147483648
-}
-
 // The signed number in `width` bytes from `at`, 4 or 8.
 pub fn signed_at(s: &[u8], at: usize, width: usize) -> i64
     requires { (T (is_width width)) × (at + width ≤ length s.now) }
     ensures { result ≡ signed width (le width (drop at s.now)) }
 {
     if width == 4 {
-        sign_extended(u32_at(s, at))
+        i32_at(s, at) as i64
     } else {
-        twos_complement(u64_at(s, at), 9223372036854775808)
+        i64_at(s, at)
     }
 }
 
@@ -111,7 +91,7 @@ pub fn i32_at(s: &[u8], at: usize) -> i32
     requires { at + 4 ≤ length s.now }
     ensures { result ≡ signed 4 (le 4 (drop at s.now)) }
 {
-    twos_complement(u32_at(s, at), 2147483648) as i32
+    (u32_at(s, at) as u32).cast_signed()
 }
 
 // A signed 64 bit number from `at`.
@@ -119,7 +99,7 @@ pub fn i64_at(s: &[u8], at: usize) -> i64
     requires { at + 8 ≤ length s.now }
     ensures { result ≡ signed 8 (le 8 (drop at s.now)) }
 {
-    signed_at(s, at, 8)
+    u64_at(s, at).cast_signed()
 }
 
 // Writes x in `width` little-endian bytes from `at` on; the rest stays.
