@@ -38,6 +38,7 @@ pub mod NameBytes
 pub mod SameNodes
 pub mod Known
 pub mod Joins
+pub mod Found
 pub mod Chains
 pub mod Loops
 pub mod Children

@@ -1,4 +1,5 @@
 pub mod Lists
+pub mod Found
 pub mod Bytes
 pub mod Rules
 pub mod Image
