@@ -1,5 +1,6 @@
 // The C interface: each call on numbers and slices, with no `requires`. An export answers the rule, 0 where there is none; the other numbers of its answer
-// are 64-bit words in lent bytes, little-endian. Where these are too short it answers 46 and writes nothing at all.
+// are 64-bit words in lent bytes, little-endian. Where these are too short it answers 46 and writes nothing at all. Exports of one shape stay apart: C calls
+// each by its own name, with its own arguments, and each promises another answer.
 #![tactic(auto)]
 
 ghost use Rattle.std.specs.Prelude.{◌≡◌, ◌/◌, length};

@@ -1,5 +1,6 @@
 // The C interface as a static library: each export calls the function of `gongaurora` that has its name, and promises the same. A slice is passed as its
-// address and its length; include/gongaurora.h declares them.
+// address and its length; include/gongaurora.h declares them. They stand twice because a crate is a library or a static library, and each has the name,
+// the arguments and the contract that C calls.
 #![tactic(auto)]
 
 ghost use Rattle.std.specs.Prelude.{◌≡◌, ◌/◌, length};
