@@ -20,7 +20,8 @@ fn is_known(interval: Interval, none: bool, x: u64) -> bool
     (none && x == 0) || ranges::within(interval, x)
 }
 
-// The first number of a row, from k on, that is no allowed 0 and in no interval; how many there are where each is one.
+// The first number of a row, from k on, that is no allowed 0 and in no interval; how many there are where each is one, since the scan goes on from the answer
+// to the row's end.
 fn first_unknown(image: &[u8], row: Row, k: usize, interval: Interval, none: bool) -> usize
     requires numbers { Numbers image.now row.at row.width row.n × (k ≤ row.n) }
     requires size_bound { interval.low + interval.size ≤ 4294967296 }
