@@ -12,7 +12,7 @@ loop-k-init c = (none-covered _ _ _ _, passed_none _ _ _ (omega arith))
 
 pub returns-then-f-gt-MAX_NUMBER : goal.returns-then-f-gt-MAX_NUMBER
 returns-then-f-gt-MAX_NUMBER c =
-    failing_here c.loop-k.invariant.1
+    failing_here c.loop-k.invariant.1 c.loop-k-test.true
     (refers_by _ _ _ _ _ _ c.magnitude_at-f.ensures (c.requires.numbers.1.small _ _ c.if-f-gt-MAX_NUMBER.true))
 
 pub interval_around-next-requires : goal.interval_around-next-requires
@@ -21,7 +21,7 @@ interval_around-next-requires c =
 
 pub returns-then-next-eq0 : goal.returns-then-next-eq0
 returns-then-next-eq0 c =
-    failing_here c.loop-k.invariant.1
+    failing_here c.loop-k.invariant.1 c.loop-k-test.true
     (refers_by _ _ _ _ _ _ c.magnitude_at-f.ensures (missed_is c.requires.numbers.1 _ (omega (arith, c.if-f-gt-MAX_NUMBER.false))
     c.interval_around-next.ensures.size_value c.if-next-eq0.true))
 
@@ -56,4 +56,4 @@ pub jumps_to-end-requires : goal.jumps_to-end-requires
 jumps_to-end-requires c = (omega (arith, c.first_outside-j.ensures.from), c.first_outside-j.ensures.to)
 
 pub returns : goal.returns
-returns c = failing_none c.loop-k.invariant.1 (omega arith)
+returns c = failing_none c.loop-k.invariant.1 (omega (arith, c.loop-k.invariant.1.to))
