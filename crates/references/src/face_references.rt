@@ -196,10 +196,9 @@ fn first_no_face(
         if types::MAX_NUMBER < f {
             return Some(k);
         }
-        let next = ranges::interval_around(firsts, reach, count, z, f);
-        if next.size == 0 {
+        let Some(next) = ranges::interval_around(firsts, reach, count, z, f) else {
             return Some(k);
-        }
+        };
         let j = first_outside(image, row, k + 1, next, last);
         let end = jumps_to(k, j, n);
         k = guessed_to(image, z, row, j, end, firsts, reach, count, levels, tree);
