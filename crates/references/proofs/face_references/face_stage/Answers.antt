@@ -1,6 +1,5 @@
 -- The first reference that is no face is the first that breaks a rule, and its number tells which.
 use mathlib.Core.Path.{ap, ◌∙◌}
-use native.Mathlib.Omega.{arith}
 use Rattle.model.specs.Rules.{rejected}
 use Rattle.section_data.proofs.ArrayLaws.{row-numbers}
 use Rattle.references.proofs.RuleLaws.{long-is, number_is, faces_kept, faces_broken}
