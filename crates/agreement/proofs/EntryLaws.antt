@@ -1,6 +1,6 @@
 -- The use that an entry makes: the parents of its face, as they were read, and the byte that tells which of them are matched.
 use Prim.Native.Nat.{ℕ, ◌+◌, ◌*◌, ◌-◌, ◌/◌, ◌≤◌, ◌<◌}
-use mathlib.Core.Path.{◌≡◌, refl, sym, ◌∙◌}
+use mathlib.Core.Path.{◌≡◌, sym, ◌∙◌}
 use mathlib.Core.Bool.{Bool, true, false}
 use mathlib.Core.List.{List}
 use native.Mathlib.Omega.{arith}
@@ -11,7 +11,7 @@ use borrow.Author.Tests.{ltb-true, lt-ltb}
 use Rattle.model.specs.Image.{tree_of, node_count}
 use Rattle.model.specs.Given.{Accepted}
 use Rattle.model.specs.Containment.{found}
-use Rattle.model.specs.Elements.{first_element, element_count, face_section, face_of, section_with_face, parents_of, first_parent, second_parent}
+use Rattle.model.specs.Elements.{first_element, element_count, face_section, section_with_face, parents_of, first_parent, second_parent}
 use Rattle.model.specs.FaceUsage.{face_count, face_place}
 use Rattle.model.specs.Corner.{number_at}
 use Rattle.model.specs.ParentElements.{stored_parents, has_parents}
