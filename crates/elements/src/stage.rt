@@ -7,6 +7,7 @@ ghost use Rattle.model.specs.Values.{sids_rules};
 ghost use Rattle.model.specs.Elements.{element_type_of, element_count, element_rules, reference_check, parent_rules};
 ghost use Rattle.model.specs.Rules.{check, passed, ◌then◌};
 ghost use Rattle.model.specs.Answers.{stage_tells};
+ghost use Rattle.model.specs.Found.{if_below};
 ghost use Rattle.model.specs.Lists.{seek_from};
 ghost use Rattle.index.specs.Index.{Index};
 ghost use Rattle.section_data.specs.Ranges.{overlap_at, Faces};
@@ -59,8 +60,8 @@ pub fn element_stage(
     image: &[u8],
     index: &[u16],
     s: usize,
-    overlap: usize,
-    parents: usize,
+    overlap: Option<usize>,
+    parents: Option<usize>,
     firsts: &[u64],
     reach: &[u64],
     faces: usize,
@@ -69,8 +70,8 @@ pub fn element_stage(
     requires nodes_to { NodesTo image.now s × Index image.now index.now }
     requires s_value { (validated (tree_of image.now) s ≡ true) × (role (tree_of image.now) s ≡ Elements) }
     requires s_value_2 { check s (sids_rules (tree_of image.now) s) ≡ passed }
-    requires overlap_value { (overlap ≡ seek_from (overlap_at (tree_of image.now)) (node_count image.now) 0)
-        × (parents ≡ seek_from (parents_broken (tree_of image.now)) (node_count image.now) 0) }
+    requires overlap_value { (overlap ≡ if_below (node_count image.now) (seek_from (overlap_at (tree_of image.now)) (node_count image.now) 0))
+        × (parents ≡ if_below (node_count image.now) (seek_from (parents_broken (tree_of image.now)) (node_count image.now) 0)) }
     requires faces { Faces (tree_of image.now) firsts.now reach.now faces × (2048 ≤ length levels.old) }
     ensures { stage_tells result ≡ (check s (element_rules (tree_of image.now) s) then reference_check (tree_of image.now) s
         then check s (parent_rules (tree_of image.now) s)) }
@@ -79,7 +80,7 @@ pub fn element_stage(
     if !is_supported(element_type) {
         return Err(Rejection::at(27, s as u64));
     }
-    if s == overlap {
+    if overlap == Some(s) {
         return Err(Rejection::at(28, s as u64));
     }
     let n = element_count(image, range_of(image, index, s), s);
@@ -94,7 +95,7 @@ pub fn element_stage(
         faces,
         levels,
     )?;
-    if s == parents {
+    if parents == Some(s) {
         return Err(Rejection::at(39, s as u64));
     }
     Ok(())

@@ -7,6 +7,9 @@ use native.Mathlib.Omega.{arith}
 use lib.Dec.{eqb, leb, ltb}
 use lib.ListN.{get_or}
 use borrow.Author.Tests.{lt-ltb, le-ltb, le-leb, lt-leb, leb-true, eqb-true}
+use Rattle.std.proofs.Common.{None, Some}
+use Rattle.model.specs.Found.{if_below}
+use Rattle.model.proofs.Found.{the_some, the_none}
 use Rattle.model.specs.Lists.{some_from, seek_from}
 use Rattle.model.specs.Rules.{◌unless◌, Answer, rejected, answer, rejection, check, ◌gives◌}
 use Rattle.model.specs.Image.{tree_of, node_count, dimensions}
@@ -78,49 +81,62 @@ module _ {b : List ℕ} {s : ℕ} {p : Span} (g : Spans b s p) (f : ℕ) where
           rw (q, u, ← g.is-first, count_read g, ← e, k, m)
 
 -- the section that a walk found
-module _ {b index : List ℕ} (a : Accepted b) (i : Index b index) (z f : ℕ) {s : ℕ} (e : s ≡ section_with_face (tree_of b) z f) (h : s < node_count b) where
+module _ {b index : List ℕ} (a : Accepted b) (i : Index b index) (z f : ℕ) {s : ℕ} (o : Some s ≡ if_below (node_count b) (section_with_face (tree_of b) z f)) where
+  e : s ≡ section_with_face (tree_of b) z f
+  e = (the_some (sym o)).0
+
+  pub face_inside : s < node_count b
+  face_inside = omega (arith, e, (the_some (sym o)).1)
+
   brings : ((section_of (tree_of b) z s && eqb (element_type_of (tree_of b) s) NGON) && in_range (tree_of b) s f) ≡ true
   unfolding section_with_face tree_of
-  brings = sym (has-face-is a z f s h) ∙ rw e (seek_holds (has_face (tree_of b) z f) (node_count b) 0 (omega (arith, e)))
+  brings = sym (has-face-is a z f s face_inside) ∙ rw e (seek_holds (has_face (tree_of b) z f) (node_count b) 0 (omega (arith, e, face_inside)))
 
   of_type_lem : (section_of (tree_of b) z s && eqb (element_type_of (tree_of b) s) NGON) ≡ true
   of_type_lem = and_first _ (in_range (tree_of b) s f) brings
 
   pub its_face : (Section b index s × (NGON ≡ element_type_of (tree_of b) s)) × (in_range (tree_of b) s f ≡ true)
   its_face =
-      let u = section_by a i z s h (and_first (section_of (tree_of b) z s) _ of_type_lem) in
+      let u = section_by a i z s face_inside (and_first (section_of (tree_of b) z s) _ of_type_lem) in
       let v = eqb-true (element_type_of (tree_of b) s) NGON (and_second (section_of (tree_of b) z s) _ of_type_lem) in
       ((u, sym v), and_second (section_of (tree_of b) z s && eqb (element_type_of (tree_of b) s) NGON) _ brings)
 
   pub its_columns : {j : ℕ} → j ≡ parents_of (tree_of b) s → j < node_count b → Columns b j (element_count (tree_of b) s)
   its_columns {j} q l =
-      rw q (columns a z s h (has_parents_is a z s h ∙ and_both _ _ of_type_lem (sym (found_by b q refl) ∙ lt-ltb j (node_count b) l)))
+      rw q (columns a z s face_inside (has_parents_is a z s face_inside ∙ and_both _ _ of_type_lem (sym (found_by b q refl) ∙ lt-ltb j (node_count b) l)))
 
 -- 41, 54, or the two numbers
-module _ (b : List ℕ) (z f : ℕ) {n s : ℕ} (m : n ≡ node_count b) (e : s ≡ section_with_face (tree_of b) z f) where
+module _ (b : List ℕ) (z f : ℕ) where
   abbrev told : Answer FaceParents
   told =
       check 0 (41 unless face_of (tree_of b) z f ∷ 54 unless found (tree_of b) (parents_of (tree_of b) (section_with_face (tree_of b) z f)) ∷ [])
       gives stored_parents (tree_of b) (section_with_face (tree_of b) z f) f
 
-  is-face : face_of (tree_of b) z f ≡ ltb s n
+  is-face : face_of (tree_of b) z f ≡ ltb (section_with_face (tree_of b) z f) (node_count b)
   unfolding face_of section_with_face tree_of
-  is-face = rw e (some_seek (has_face (tree_of b) z f) (node_count b) 0 n (omega (arith, m)))
+  is-face = some_seek (has_face (tree_of b) z f) (node_count b) 0 (node_count b) (omega arith)
 
-  pub no_face : n ≤ s → rejected (rejection 41 0) ≡ told
+  pub no_face : None ≡ if_below (node_count b) (section_with_face (tree_of b) z f) → rejected (rejection 41 0) ≡ told
   unfolding ◌gives◌
-  no_face h = sym (then-off _ (broken 0 41 _ (is-face ∙ le-ltb s n h)))
+  no_face h = sym (then-off _ (broken 0 41 _ (is-face ∙ le-ltb (section_with_face (tree_of b) z f) (node_count b) (the_none (sym h)))))
 
-  module _ (h : s < n) {j : ℕ} (q : j ≡ parents_of (tree_of b) s) where
+  module _ {s : ℕ} (h : Some s ≡ if_below (node_count b) (section_with_face (tree_of b) z f)) {j : ℕ} (q : j ≡ parents_of (tree_of b) s)
+      {n : ℕ} (m : n ≡ node_count b) where
+    section-is : s ≡ section_with_face (tree_of b) z f
+    section-is = (the_some (sym h)).0
+
+    face : face_of (tree_of b) z f ≡ true
+    face = is-face ∙ lt-ltb (section_with_face (tree_of b) z f) (node_count b) (the_some (sym h)).1
+
     has_array : found (tree_of b) (parents_of (tree_of b) (section_with_face (tree_of b) z f)) ≡ ltb j n
-    has_array = sym (found_by b (q ∙ ap (parents_of (tree_of b)) e) m)
+    has_array = sym (found_by b (q ∙ ap (parents_of (tree_of b)) section-is) m)
 
     pub no_array : n ≤ j → rejected (rejection 54 0) ≡ told
     unfolding ◌gives◌
-    no_array l = sym (then-off _ (kept 0 41 _ (is-face ∙ lt-ltb s n h) ∙ broken 0 54 _ (has_array ∙ le-ltb j n l)))
+    no_array l = sym (then-off _ (kept 0 41 _ face ∙ broken 0 54 _ (has_array ∙ le-ltb j n l)))
 
     pub both_told : j < n → answer (stored_parents (tree_of b) s f) ≡ told
     unfolding ◌gives◌
     both_told l =
-        ap (λ (s : ℕ). answer (stored_parents (tree_of b) s f)) e
-        ∙ sym (then-on _ (kept 0 41 _ (is-face ∙ lt-ltb s n h) ∙ kept 0 54 _ (has_array ∙ lt-ltb j n l) ∙ no_rule 0))
+        ap (λ (s : ℕ). answer (stored_parents (tree_of b) s f)) section-is
+        ∙ sym (then-on _ (kept 0 41 _ face ∙ kept 0 54 _ (has_array ∙ lt-ltb j n l) ∙ no_rule 0))

@@ -1,5 +1,6 @@
 // One face of a zone of an accepted image: the section that brings it, and the parents that it has there.
 ghost use Rattle.std.specs.Prelude.{◌≡◌, true, [], ◌∷◌, ◌≤◌, ◌<◌};
+ghost use Rattle.model.specs.Found.{if_below};
 ghost use Rattle.model.specs.Lists.{some_from};
 ghost use Rattle.model.specs.Rules.{◌unless◌, answer, check, ◌gives◌};
 ghost use Rattle.model.specs.Answers.{parents_tells};
@@ -33,15 +34,12 @@ fn has_face(image: &[u8], index: &[u16], z: usize, f: u64, s: usize) -> bool
     f <= span.last
 }
 
-// The section that brings face f to zone z; the node count where none does.
-pub fn section_with_face(image: &[u8], index: &[u16], z: usize, f: u64) -> usize
+// The section that brings face f to zone z.
+pub fn section_with_face(image: &[u8], index: &[u16], z: usize, f: u64) -> Option<usize>
     requires { Accepted image.now × Index image.now index.now }
-    ensures { (result ≡ section_with_face (tree_of image.now) z f) × (result ≤ node_count image.now) }
+    ensures { result ≡ if_below (node_count image.now) (section_with_face (tree_of image.now) z f) }
 {
-    let nodes = labels::node_count(image);
-    (0..nodes)
-        .find(|s| has_face(image, index, z, f, *s))
-        .unwrap_or(nodes)
+    (0..labels::node_count(image)).find(|s| has_face(image, index, z, f, *s))
 }
 
 // Does a face section of zone z have the parents of its faces?
@@ -81,13 +79,11 @@ pub fn parents_of_face(
         ∷ [])
         gives stored_parents (tree_of image.now) (section_with_face (tree_of image.now) z f) f) }
 {
-    let nodes = labels::node_count(image);
-    let s = section_with_face(image, index, z, f);
-    if nodes <= s {
+    let Some(s) = section_with_face(image, index, z, f) else {
         return Err(Rejection::at(41, 0));
-    }
+    };
     let a = sids::parents_of(image, index, s, NGON);
-    if nodes <= a {
+    if labels::node_count(image) <= a {
         return Err(Rejection::at(54, 0));
     }
     Ok(stored_parents(image, index, s, a, f))

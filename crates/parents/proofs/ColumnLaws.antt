@@ -6,8 +6,8 @@ use mathlib.Core.List.{List}
 use native.Mathlib.Omega.{arith}
 use native.Mathlib.Nat.{mul_assoc, mul-add, add_assoc}
 use native.Mathlib.Decide.{dec_lt}
-use lib.Dec.{eqb, leb, ltb}
-use borrow.Author.Tests.{lt-ltb, le-ltb, le-leb, lt-leb}
+use lib.Dec.{eqb, leb}
+use borrow.Author.Tests.{le-leb, lt-leb}
 use Rattle.model.specs.Lists.{every_from}
 use Rattle.model.specs.Image.{Tree, tree_of, width, number}
 use Rattle.model.specs.Given.{Sound}
@@ -61,15 +61,15 @@ module _ (t : Tree) {firsts reach : List ℕ} {n : ℕ} (g : Cells t firsts reac
             or_cases (none && eqb v 0) (is_within r v) (s.each i x y) (or_left _ _) (λ w. or_right (none && eqb v 0) _ (covered-is g z c v w));
       }
 
-  -- number k is x, which is looked up
-  module _ (k : ℕ) {x s : ℕ} (e : x ≡ number_at b row.at row.width k) (h : ltb 0 s ≡ (leb x max_number && in_ranges firsts reach n (key z x))) where
-    pub found-parent : (s ≡ 0 → ⊥) → parent_at t z none b row k ≡ true
+  -- number k is x, which is looked up: an interval holds it, or no range does
+  module _ (k : ℕ) {x : ℕ} (e : x ≡ number_at b row.at row.width k) where
+    pub found-parent : {r : Interval} → Covered firsts reach n z r → is_within r x ≡ true → parent_at t z none b row k ≡ true
     unfolding parent_at is_parent
-    found-parent u = rw (← e) (or_right (none && eqb x 0) _ (sym (h ∙ looked_up g z x) ∙ lt-ltb 0 s (omega (arith, u))))
+    found-parent c w = rw (← e) (or_right (none && eqb x 0) _ (covered-is g z c x w))
 
-    pub no_parent_lem : none_at none b row k ≡ false → s ≡ 0 → parent_at t z none b row k ≡ false
+    pub no_parent_lem : none_at none b row k ≡ false → (leb x max_number && in_ranges firsts reach n (key z x)) ≡ false → parent_at t z none b row k ≡ false
     unfolding parent_at is_parent
-    no_parent_lem v u = rw (v, ← e) (sym (h ∙ looked_up g z x) ∙ le-ltb 0 s (omega arith))
+    no_parent_lem v h = rw (v, ← e) (sym (looked_up g z x) ∙ h)
 
 -- node j stores two columns of n numbers, from `at` on
 module _ {b : List ℕ} (g : Sound b) {j : ℕ} (n : ℕ) (o : Stores b j (n * 2)) {at w : ℕ} (p : at ≡ data_from_lem b j) (q : w ≡ width (tree_of b) j) where

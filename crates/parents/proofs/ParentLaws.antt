@@ -1,11 +1,18 @@
 -- Rule 39 at a section: what its tests say, and which node is the first that breaks it.
 use Prim.Native.Nat.{ℕ, ◌+◌, ◌*◌, ◌≤◌, ◌<◌}
 use mathlib.Core.Path.{◌≡◌, refl, sym, ap, ◌∙◌}
-use mathlib.Core.Bool.{Bool, true, false, not, ◌&&◌}
+use mathlib.Core.Bool.{Bool, true, false, cond, not, ◌&&◌}
 use mathlib.Core.List.{List, [], ◌∷◌}
 use native.Mathlib.Omega.{arith}
-use lib.Dec.{eqb}
-use borrow.Author.Tests.{eqb-true, lt-ltb, le-ltb}
+use native.Mathlib.Decide.{dec_lt}
+use lib.Dec.{eqb, ltb}
+use Rattle.std.proofs.Common.{Option, None, Some, MatchOption, rules}
+use Rattle.std.proofs.lemmas.Option.{cond_some}
+use Rattle.std.specs.Bool.{then_some}
+use Rattle.std.specs.Option.{is_some, option_eq}
+use Rattle.model.specs.Found.{if_below}
+use Rattle.model.proofs.Found.{the_none, seek_found}
+use borrow.Author.Tests.{eqb-true, ltb-true}
 use Rattle.model.specs.Lists.{◌⊃◌, every_from, seek_from}
 use Rattle.model.specs.Rules.{check, passed}
 use Rattle.model.specs.Image.{Tree, tree_of, node_count, parent, I4, I8}
@@ -15,7 +22,6 @@ use Rattle.model.specs.Containment.{role, found, validated, validated_as, Elemen
 use Rattle.model.specs.Values.{typed, shaped, type_lawful, value_lawful, range_of, sids_rules}
 use Rattle.model.specs.Elements.{NGON, element_type_of, element_count, parents_of, first_parent, second_parent, are_parents, parents_lawful, parent_rules}
 use Rattle.model.proofs.Logic.{and_first, and_second, and-false, when}
-use Rattle.model.proofs.Loops.{SeekLeft, seek_start}
 use Rattle.model.proofs.Walks.{seek_before}
 use Rattle.model.proofs.LookedUp.{seek_within}
 use Rattle.model.proofs.Passed.{check_pass, claim, then-second}
@@ -26,8 +32,8 @@ use Rattle.types.proofs.StoredNumbers.{whole_wide, shaped-is}
 use Rattle.section_data.specs.Given.{Stores, SectionContext}
 use Rattle.section_data.specs.Ranges.{is_wanted, is_ranged}
 use Rattle.section_data.proofs.Stored.{stores_by}
-use Rattle.section_data.proofs.RangeLaws.{is-section, range-found, ready_ranged, section-passed, first-is}
-use Rattle.parents.specs.Parents.{is_parent, pair_at, stores_parents, parents_broken, ParentsOf}
+use Rattle.section_data.proofs.RangeLaws.{then_some-is, is-section, range-found, ready_ranged, section-passed, first-is}
+use Rattle.parents.specs.Parents.{is_parent, pair_at, stores_parents, parents_if, parents_broken}
 
 -- a section of faces whose own data and range count
 module _ {b : List ℕ} (g : Sound b) (s : ℕ) (e : is_ranged (tree_of b) NGON s ≡ true) where
@@ -66,21 +72,35 @@ unfolding product
 stores_columns {b} g j n h e f = stores_by g j h (whole_wide (tree_of b) j e) (n ∷ 2 ∷ []) (shaped-is (tree_of b) j (n ∷ 2 ∷ []) f)
 
 -- the node of a section's parents
-module _ (b : List ℕ) (s : ℕ) {r : ℕ} where
-  pub parents_none : is_ranged (tree_of b) NGON s ≡ false → r ≡ node_count b → ParentsOf b s r
-  unfolding stores_parents
-  parents_none e q = record { tells = rw e (le-ltb r (node_count b) (omega arith)); is = λ h. absurd (omega arith) }
+module _ (b : List ℕ) (s : ℕ) where
+  pub parents_none : is_ranged (tree_of b) NGON s ≡ false → None ≡ parents_if (tree_of b) s
+  unfolding parents_if stores_parents
+  parents_none e = rw e refl
 
-  pub parents_by : is_ranged (tree_of b) NGON s ≡ true → r ≡ parents_of (tree_of b) s → ParentsOf b s r
-  unfolding stores_parents found tree_of
-  parents_by e q = record { tells = rw (e, q); is = λ h. q }
+  pub parents_by : {r : ℕ} → is_ranged (tree_of b) NGON s ≡ true → r ≡ parents_of (tree_of b) s → then_some (ltb r (node_count b)) r ≡ parents_if (tree_of b) s
+  unfolding parents_if stores_parents found tree_of
+  parents_by {r} e q = rw (e, ← q) (then_some-is (ltb r (node_count b)) r)
 
-module _ {b : List ℕ} {s r : ℕ} (o : ParentsOf b s r) where
-  pub has_parents_lem : r < node_count b → stores_parents (tree_of b) s ≡ true
-  has_parents_lem h = sym o.tells ∙ lt-ltb r (node_count b) h
+module _ (t : Tree) (s : ℕ) where
+  pub has_parents_lem : {r : ℕ} → Some r ≡ parents_if t s → (stores_parents t s ≡ true) × (parents_of t s ≡ r)
+  unfolding parents_if
+  has_parents_lem {r} o = cond_some (stores_parents t s) (parents_of t s) r (sym o)
 
-  pub no_parents : node_count b ≤ r → stores_parents (tree_of b) s ≡ false
-  no_parents h = sym o.tells ∙ le-ltb r (node_count b) h
+  pub no_parents : None ≡ parents_if t s → stores_parents t s ≡ false
+  unfolding parents_if
+  no_parents o = by_test (stores_parents t s) o
+    where
+      by_test : (c : Bool) → None ≡ cond c (Some (parents_of t s)) None → c ≡ false
+      by_test true e = search rules
+      by_test false e = refl
+
+  pub some_stored : {r : Option ℕ} → r ≡ parents_if t s → is_some r ≡ stores_parents t s
+  unfolding parents_if
+  some_stored o = rw o (by_test (stores_parents t s))
+    where
+      by_test : (c : Bool) → is_some (cond c (Some (parents_of t s)) None) ≡ c
+      by_test true = refl
+      by_test false = refl
 
 module _ (t : Tree) (s : ℕ) where
   pub stores-ranged : stores_parents t s ≡ true → is_ranged t NGON s ≡ true
@@ -99,9 +119,14 @@ module _ (t : Tree) (s : ℕ) where
   unfolding parents_broken
   broken_by e = rw e
 
+-- it stores them in a node
+pub stored_inside : (b : List ℕ) (s : ℕ) → stores_parents (tree_of b) s ≡ true → parents_of (tree_of b) s < node_count b
+unfolding found tree_of
+stored_inside b s e = ltb-true (parents_of (tree_of b) s) (node_count b) (stores-found (tree_of b) s e)
+
 -- no node before the first that stores parents breaks the rule
-pub start_broken : (t : Tree) (n : ℕ) {start : ℕ} → start ≡ seek_from (stores_parents t) n 0 → SeekLeft (parents_broken t) n start (seek_from (parents_broken t) n 0)
-start_broken t n {start} e = seek_start (parents_broken t) n start (rw e (omega (arith, within))) (λ j h. none_broken t j (by_test j h (stores_parents t j) refl))
+pub start_broken : (t : Tree) (n : ℕ) {start : ℕ} → start ≡ seek_from (stores_parents t) n 0 → (start ≤ n) × ((j : ℕ) → j < start → parents_broken t j ≡ false)
+start_broken t n {start} e = (omega (arith, e, within), λ j h. none_broken t j (by_test j h (stores_parents t j) refl))
   where
     within : seek_from (stores_parents t) n 0 ≤ 0 + n
     within = seek_within (stores_parents t) n 0
@@ -109,6 +134,29 @@ start_broken t n {start} e = seek_start (parents_broken t) n start (rw e (omega 
     by_test : (j : ℕ) → j < start → (c : Bool) → stores_parents t j ≡ c → c ≡ false
     by_test j h true f = absurd (omega (arith, e, within, seek_before (stores_parents t) n 0 j f (omega arith) (omega (arith, e, within))))
     by_test j h false f = refl
+
+pub none_stored : (t : Tree) (n : ℕ) → None ≡ if_below n (seek_from (stores_parents t) n 0) → None ≡ if_below n (seek_from (parents_broken t) n 0)
+none_stored t n e = seek_found (parents_broken t) n None (λ k l h. (start_broken t n refl).1 k (omega (arith, the_none (sym e))))
+
+-- so it is looked for from there on
+pub found_broken : (t : Tree) (n : ℕ) {start : ℕ} → start ≡ seek_from (stores_parents t) n 0 → (r : Option ℕ)
+    → MatchOption r ((k : ℕ) → start ≤ k → k < n → parents_broken t k ≡ false)
+    (λ i. (start ≤ i) × (i < n) × (parents_broken t i ≡ true) × ((k : ℕ) → start ≤ k → k < i → parents_broken t k ≡ false))
+    → r ≡ if_below n (seek_from (parents_broken t) n 0)
+found_broken t n {start} e r = by_case r
+  where
+    below : (m : ℕ) → ((k : ℕ) → start ≤ k → k < m → parents_broken t k ≡ false) → (k : ℕ) → k < m → parents_broken t k ≡ false
+    below m f k h = elim (dec_lt k start) [
+      | yes l ↦ (start_broken t n e).1 k l
+      | no l ↦ f k (omega arith) h
+    ]
+
+    by_case : (o : Option ℕ)
+        → MatchOption o ((k : ℕ) → start ≤ k → k < n → parents_broken t k ≡ false)
+        (λ i. (start ≤ i) × (i < n) × (parents_broken t i ≡ true) × ((k : ℕ) → start ≤ k → k < i → parents_broken t k ≡ false))
+        → o ≡ if_below n (seek_from (parents_broken t) n 0)
+    by_case None f = seek_found (parents_broken t) n None (λ k l h. below n f k h)
+    by_case (Some i) (u, l, x, f) = seek_found (parents_broken t) n (Some i) (omega arith, l, x, λ k m h. below i f k h)
 
 -- validation has come to section s, and rules 20 to 26 hold there
 module _ {b : List ℕ} {s : ℕ} (g : NodesTo b s) (d : SectionContext b s) (v : validated (tree_of b) s ≡ true)
@@ -151,6 +199,6 @@ module _ {b : List ℕ} {s : ℕ} (g : NodesTo b s) (d : SectionContext b s) (v 
       by_test false f = rw (and-false (is_ranged (tree_of b) NGON s))
 
   -- s is the first node that breaks it, exactly where it does
-  pub parents_is : {o : ℕ} → o ≡ seek_from (parents_broken (tree_of b)) (node_count b) 0
-      → eqb s o ≡ not (found (tree_of b) (parents_of (tree_of b) s) ⊃ parents_lawful (tree_of b) s)
+  pub parents_is : {o : Option ℕ} → o ≡ if_below (node_count b) (seek_from (parents_broken (tree_of b)) (node_count b) 0)
+      → option_eq eqb o (Some s) ≡ not (found (tree_of b) (parents_of (tree_of b) s) ⊃ parents_lawful (tree_of b) s)
   parents_is h = first-is (parents_broken (tree_of b)) (node_count b) s g.inside none_before h ∙ broken_is

@@ -1,6 +1,6 @@
 -- Rule 39: the parents of faces, as numbers of a zone and as columns of the image's bytes.
-use Rattle.std.specs.Prelude.{ℕ, ◌+◌, ◌<◌, ◌≡◌, Bool, true, false, not, ◌&&◌, ◌||◌, List, eqb, ltb}
-use Rattle.model.specs.Image.{Tree, tree_of, node_count, number}
+use Rattle.std.specs.Prelude.{ℕ, ◌+◌, Option, Some, None, Bool, true, false, cond, not, ◌&&◌, ◌||◌, List, eqb}
+use Rattle.model.specs.Image.{Tree, number}
 use Rattle.model.specs.Containment.{found}
 use Rattle.model.specs.Elements.{NGON, cell_of, parents_of, parents_lawful}
 use Rattle.model.specs.Corner.{number_at}
@@ -36,7 +36,6 @@ stores_parents t s = is_ranged t NGON s && found t (parents_of t s)
 unfoldable pub parents_broken : Tree → ℕ → Bool
 parents_broken t s = stores_parents t s && not (parents_lawful t s)
 
--- r is the node of its parents; the node count where section s stores none
-pub record ParentsOf (b : List ℕ) (s r : ℕ) : Type 0 where
-  pub tells : ltb r (node_count b) ≡ stores_parents (tree_of b) s
-  pub is : r < node_count b → r ≡ parents_of (tree_of b) s
+-- the node of its parents; none where section s stores none
+unfoldable pub parents_if : Tree → ℕ → Option ℕ
+parents_if t s = cond (stores_parents t s) (Some (parents_of t s)) None

@@ -1,10 +1,10 @@
 // A column of parents: its numbers are cells of a zone, or 0 where that is allowed.
-ghost use Rattle.std.specs.Prelude.{◌≡◌, false, ◌&&◌, ◌+◌, ◌≤◌, ◌<◌, ltb, leb};
+ghost use Rattle.std.specs.Prelude.{◌≡◌, true, false, ◌&&◌, ◌+◌, ◌≤◌, ◌<◌, leb, MatchOption};
 ghost use Rattle.model.specs.Lists.{every_from};
 ghost use Rattle.model.specs.Image.{tree_of};
 ghost use Rattle.model.specs.Values.{max_number};
 ghost use Rattle.rows.specs.Rows.{Numbers};
-ghost use Rattle.ranges.specs.Tables.{key, in_ranges, Ordered, Covered};
+ghost use Rattle.ranges.specs.Tables.{key, in_ranges, is_within, Ordered, Covered};
 ghost use Rattle.section_data.specs.Passing.{Passed};
 ghost use Rattle.section_data.specs.Ranges.{Cells};
 ghost use Rattle.parents.specs.Parents.{is_known, known_at, parent_at};
@@ -20,7 +20,8 @@ fn is_known(interval: Interval, none: bool, x: u64) -> bool
     (none && x == 0) || ranges::within(interval, x)
 }
 
-// The first number of a row, from k on, that is no allowed 0 and in no interval; how many there are where each is one.
+// The first number of a row, from k on, that is no allowed 0 and in no interval; how many there are where each is one, since the scan goes on from the answer
+// to the row's end.
 fn first_unknown(image: &[u8], row: Row, k: usize, interval: Interval, none: bool) -> usize
     requires numbers { Numbers image.now row.at row.width row.n × (k ≤ row.n) }
     requires size_bound { interval.low + interval.size ≤ 4294967296 }
@@ -35,14 +36,14 @@ fn first_unknown(image: &[u8], row: Row, k: usize, interval: Interval, none: boo
     row.n
 }
 
-// The numbers of zone z around x that one of n entries holds; none where x is in no range or above 2,147,483,647.
-fn interval_of(firsts: &[u64], reach: &[u64], n: usize, z: usize, x: u64) -> Interval
+// The numbers of zone z around x that one of n entries holds, where x is in a range and no greater than 2,147,483,647.
+fn interval_of(firsts: &[u64], reach: &[u64], n: usize, z: usize, x: u64) -> Option<Interval>
     requires { Ordered firsts.now reach.now n × (z < 4096) }
-    ensures covered { Covered firsts.now reach.now n z result }
-    ensures size_value { ltb 0 result.size ≡ (leb x max_number && in_ranges firsts.now reach.now n (key z x)) }
+    ensures { MatchOption result ((leb x max_number && in_ranges firsts.now reach.now n (key z x)) ≡ false)
+        (λ i. Covered firsts.now reach.now n z i × (is_within i x ≡ true) × (x ≤ max_number)) }
 {
     if types::MAX_NUMBER < x {
-        return Interval { low: 0, size: 0 };
+        return None;
     }
     ranges::interval_around(firsts, reach, n, z, x)
 }
@@ -66,10 +67,9 @@ pub fn are_cells(
     // `while`: each round goes on behind the numbers that the last interval held
     while k < n {
         let x = rows::number_at(image, row, k);
-        let known = interval_of(firsts, reach, cells, z, x);
-        if known.size == 0 {
+        let Some(known) = interval_of(firsts, reach, cells, z, x) else {
             return false;
-        }
+        };
         k = first_unknown(image, row, k + 1, known, none);
     }
     true

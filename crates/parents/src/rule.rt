@@ -1,5 +1,6 @@
 // Rule 39 at a section, and the first node that breaks it.
 ghost use Rattle.std.specs.Prelude.{◌≡◌, true, ◌*◌, ◌≤◌, ◌<◌, length};
+ghost use Rattle.model.specs.Found.{if_below};
 ghost use Rattle.model.specs.Lists.{seek_from, every_from};
 ghost use Rattle.model.specs.Image.{tree_of, node_count};
 ghost use Rattle.model.specs.Given.{Sound};
@@ -7,7 +8,7 @@ ghost use Rattle.model.specs.Elements.{NGON, parents_of, parents_lawful};
 ghost use Rattle.index.specs.Index.{Index};
 ghost use Rattle.section_data.specs.Given.{Stores};
 ghost use Rattle.section_data.specs.Ranges.{is_ranged, Cells};
-ghost use Rattle.parents.specs.Parents.{pair_at, stores_parents, parents_broken, ParentsOf};
+ghost use Rattle.parents.specs.Parents.{pair_at, stores_parents, parents_broken, parents_if};
 
 use super::columns::are_cells;
 use element_types::NGON;
@@ -71,19 +72,17 @@ fn is_lawful(
     columns_lawful(image, z, j, n as usize, firsts, reach, cells)
 }
 
-// The ParentElements of node i where it is a section of faces whose own data and range count; else the node count.
-fn parents_if(image: &[u8], index: &[u16], i: usize) -> usize
+// The ParentElements of node i where it is a section of faces whose own data and range count.
+fn parents_if(image: &[u8], index: &[u16], i: usize) -> Option<usize>
     requires { Index image.now index.now × (i < node_count image.now) }
-    ensures { ParentsOf image.now i result }
+    ensures { result ≡ parents_if (tree_of image.now) i }
 {
-    let nodes = labels::node_count(image);
     if index::kind_of(image, index, i) != ELEMENTS {
-        return nodes;
+        return None;
     }
-    if nodes <= range_if(image, index, NGON, i) {
-        return nodes;
-    }
-    parents_of(image, index, i, NGON)
+    range_if(image, index, NGON, i)?;
+    let j = parents_of(image, index, i, NGON);
+    (j < labels::node_count(image)).then_some(j)
 }
 
 // Does node i break rule 39?
@@ -99,28 +98,21 @@ fn is_broken(
     requires cells { Cells (tree_of image.now) firsts.now reach.now cells }
     ensures { result ≡ parents_broken (tree_of image.now) i }
 {
-    let j = parents_if(image, index, i);
-    if labels::node_count(image) <= j {
+    let Some(j) = parents_if(image, index, i) else {
         return false;
-    }
+    };
     !is_lawful(image, index, i, j, firsts, reach, cells)
 }
 
-// The first section of faces that stores parents; the node count where none does.
-fn first_stored(image: &[u8], index: &[u16]) -> usize
+// The first section of faces that stores parents.
+fn first_stored(image: &[u8], index: &[u16]) -> Option<usize>
     requires { Index image.now index.now }
-    ensures { result ≡ seek_from (stores_parents (tree_of image.now)) (node_count image.now) 0 }
+    ensures { result ≡ if_below (node_count image.now) (seek_from (stores_parents (tree_of image.now)) (node_count image.now) 0) }
 {
-    let nodes = labels::node_count(image);
-    for i in 0..nodes {
-        if parents_if(image, index, i) < nodes {
-            return i;
-        }
-    }
-    nodes
+    (0..labels::node_count(image)).find(|i| parents_if(image, index, *i).is_some())
 }
 
-// The first node that breaks rule 39, where none before node `start` stores parents; the node count where there is none.
+// The first node that breaks rule 39, where none before node `start` stores parents.
 fn first_broken_from(
     image: &[u8],
     index: &[u16],
@@ -128,30 +120,26 @@ fn first_broken_from(
     firsts: &[u64],
     reach: &[u64],
     cells: usize,
-) -> usize
+) -> Option<usize>
     requires index { Index image.now index.now × Cells (tree_of image.now) firsts.now reach.now cells }
     requires start_value { start ≡ seek_from (stores_parents (tree_of image.now)) (node_count image.now) 0 }
-    ensures { result ≡ seek_from (parents_broken (tree_of image.now)) (node_count image.now) 0 }
+    ensures { result ≡ if_below (node_count image.now) (seek_from (parents_broken (tree_of image.now)) (node_count image.now) 0) }
 {
-    let nodes = labels::node_count(image);
-    for i in start..nodes {
-        if is_broken(image, index, i, firsts, reach, cells) {
-            return i;
-        }
-    }
-    nodes
+    (start..labels::node_count(image)).find(|i| is_broken(image, index, *i, firsts, reach, cells))
 }
 
-// The first node that breaks rule 39; the node count where there is none. Where no section stores parents the tables are left as they are.
-pub fn first_broken(image: &[u8], index: &[u16], firsts: &mut [u64], reach: &mut [u64]) -> usize
+// The first node that breaks rule 39. Where no section stores parents the tables are left as they are.
+pub fn first_broken(
+    image: &[u8],
+    index: &[u16],
+    firsts: &mut [u64],
+    reach: &mut [u64],
+) -> Option<usize>
     requires index { Index image.now index.now }
     requires in_bounds { (2048 ≤ length firsts.old) × (2048 ≤ length reach.old) }
-    ensures { result ≡ seek_from (parents_broken (tree_of image.now)) (node_count image.now) 0 }
+    ensures { result ≡ if_below (node_count image.now) (seek_from (parents_broken (tree_of image.now)) (node_count image.now) 0) }
 {
-    let start = first_stored(image, index);
-    if labels::node_count(image) <= start {
-        return start;
-    }
+    let start = first_stored(image, index)?;
     let cells = section_data::gather_cells(image, index, firsts, reach);
     first_broken_from(image, index, start, firsts, reach, cells)
 }

@@ -1,11 +1,12 @@
 -- The search by halving: the last entry that begins no later than a range ends decides whether one meets it.
-use Rattle.std.proofs.Common.{◌≡◌, ℕ, zero, suc, ◌+◌, ◌-◌, ◌*◌, ◌<◌, ◌≤◌, Bool, true, false, cond, ◌&&◌, ltb, leb, List, get_or, sym, refl, ◌∙◌, arith, ltb-true, lt-ltb, le-leb, leb-false, leb-true}
+use Rattle.std.proofs.Common.{◌≡◌, ℕ, zero, suc, ◌+◌, ◌-◌, ◌*◌, ◌<◌, ◌≤◌, Bool, true, false, cond, ◌&&◌, ltb, leb, List, get_or, sym, refl, arith, ltb-true, le-leb, leb-false, leb-true, Option, Some, None}
 use native.Mathlib.Decide.{ℕ_discrete, dec_lt}
 use Rattle.model.specs.Lists.{some_from}
 use Rattle.model.proofs.Logic.{and_first, and_second, and_both}
 use Rattle.model.proofs.Walks.{some_at, some_by}
 use Rattle.ranges.specs.Tables.{meets_at, Found, Rising, Ordered, Begun}
-use Rattle.ranges.proofs.Cases.{both}
+use Rattle.std.specs.Option.{is_some}
+use Rattle.std.proofs.lemmas.Bool.{false_from_ne_true}
 
 -- any two entries
 pub rising : {s : List ℕ} {n : ℕ} → Rising s n → (i j : ℕ) → i ≤ j → j < n → get_or s i 0 ≤ get_or s j 0
@@ -62,19 +63,14 @@ module _ (firsts reach : List ℕ) (a c : ℕ) where
     meet i h l u = some_by (meets_at firsts reach a c) n 0 i (meets_at_lem i l u) (omega arith) (omega arith)
 
     -- the entry r meets the numbers from a to c; none does
-    pub found : (r : ℕ) → r < n → meets_at firsts reach a c r ≡ true → Found firsts reach n a c r
-    found r h e = (lt-ltb r n h ∙ sym (some_by (meets_at firsts reach a c) n 0 r e (omega arith) (omega arith)), λ l. e)
-
-    pub entry_found : (r : ℕ) → (ltb r n && meets_at firsts reach a c r) ≡ true → Found firsts reach n a c r
-    entry_found r e = found r (ltb-true r n (and_first _ (meets_at firsts reach a c r) e)) (and_second (ltb r n) _ e)
+    pub entry_found : (r : ℕ) → (ltb r n && meets_at firsts reach a c r) ≡ true → Found firsts reach n a c (Some r)
+    entry_found r e = (ltb-true r n (and_first _ (meets_at firsts reach a c r) e), and_second (ltb r n) _ e)
 
     pub none_found : {r : ℕ} → Ordered firsts reach n → Begun firsts n c r 0 → (0 < r → get_or reach (r - 1) 0 < a)
-        → Found firsts reach n a c n
-    none_found {r} o b h = (
-      both _ _ (λ e. absurd (omega (arith, ltb-true n n e)))
-          (λ e. let s = some_at (meets_at firsts reach a c) n 0 e in absurd (none s.at (omega arith) (met s.at s.holds))),
-      λ l. absurd (omega arith),
-    )
+        → Found firsts reach n a c None
+    none_found {r} o b h =
+        false_from_ne_true (some_from (meets_at firsts reach a c) n 0)
+        (λ e. let s = some_at (meets_at firsts reach a c) n 0 e in none s.at (omega arith) (met s.at s.holds))
       where
         none : (i : ℕ) → i < n → (get_or firsts i 0 ≤ c) × (a ≤ get_or reach i 0) → ⊥
         none i l d =
@@ -82,3 +78,8 @@ module _ (firsts reach : List ℕ) (a c : ℕ) where
               | yes k ↦ omega (arith, h (omega arith), rising o.reach_rises i (r - 1) (omega arith) (omega arith))
               | no k ↦ omega (arith, b.later i (omega arith) l)
             ]
+
+    -- whether one does is whether one was found
+    pub found_any : (r : Option ℕ) → Found firsts reach n a c r → is_some r ≡ some_from (meets_at firsts reach a c) n 0
+    found_any None f = sym f
+    found_any (Some j) f = sym (some_by (meets_at firsts reach a c) n 0 j f.1 (omega arith) (omega (arith, f.0)))

@@ -1,8 +1,8 @@
 -- Intervals of a zone's numbers that ranges hold.
-use Rattle.std.proofs.Common.{◌≡◌, ℕ, ◌+◌, ◌-◌, ◌%◌, ◌<◌, ◌≤◌, min, Bool, true, ltb, leb, List, get_or, arith, ltb-true, lt-ltb, le-leb, leb-true}
+use Rattle.std.proofs.Common.{◌≡◌, ℕ, ◌+◌, ◌-◌, ◌%◌, ◌<◌, ◌≤◌, min, true, ltb, leb, List, get_or, arith, ltb-true, lt-ltb, le-leb, leb-true}
 use Rattle.model.proofs.Logic.{and_first, and_second, and_both}
 use Rattle.ranges.specs.declared.Interval.{Interval}
-use Rattle.ranges.specs.Tables.{key, holds, in_ranges, is_within, Covered}
+use Rattle.ranges.specs.Tables.{key, holds, is_within, Covered}
 use Rattle.ranges.proofs.Cases.{both}
 use Rattle.ranges.proofs.Halving.{met, meet}
 
@@ -24,10 +24,6 @@ unfolding is_within
 none-covered firsts reach n z =
     record { small = omega arith; covered = λ g e. absurd (omega (arith, ltb-true g 0 (and_second (leb 0 g) _ e))) }
 
--- what is found of a key
-pub tells : (firsts reach : List ℕ) (n z f : ℕ) {x : ℕ} {t : Bool} → x ≡ key z f → t ≡ in_ranges firsts reach n x → t ≡ in_ranges firsts reach n (key z f)
-tells firsts reach n z f e q = rw (← e) q
-
 -- entry j holds f of zone z: the interval of its numbers, cut to the zone's
 module _ (firsts reach : List ℕ) (z f j : ℕ) {x base low high : ℕ} (e : holds firsts reach x j ≡ true) (p : x ≡ key z f) (q : base
     ≡ key z 0) (h : f < 4294967296)
@@ -36,7 +32,7 @@ module _ (firsts reach : List ℕ) (z f j : ℕ) {x base low high : ℕ} (e : ho
   unfolding key
   low_high = let m = met firsts reach x x j e in (omega arith, omega arith)
 
-  pub all_covered : {n : ℕ} → j < n → Covered firsts reach n z (record { low = low; size = high + 1 - low })
+  all_covered : {n : ℕ} → j < n → Covered firsts reach n z (record { low = low; size = high + 1 - low })
   unfolding is_within key
   all_covered {n} l =
       let m = met firsts reach x x j e in
@@ -47,3 +43,8 @@ module _ (firsts reach : List ℕ) (z f j : ℕ) {x base low high : ℕ} (e : ho
             let y = ltb-true g (low + (high + 1 - low)) (and_second (leb low g) _ t) in
             meet firsts reach (key z g) (key z g) n j l (omega arith) (omega arith);
       }
+
+  pub around : {n : ℕ} → j < n → let i : Interval = record { low = low; size = high + 1 - low } in Covered firsts reach n z i × (is_within i f ≡ true)
+  unfolding is_within
+  around l =
+      let o = low_high in (all_covered l, and_both _ _ (le-leb low f (omega arith)) (lt-ltb f (low + (high + 1 - low)) (omega arith)))

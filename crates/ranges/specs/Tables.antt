@@ -1,5 +1,5 @@
 -- Ranges of numbers in two tables, in ascending order of their first numbers: firsts[j], and reach[j], the greatest last number of the ranges up to j.
-use Rattle.std.specs.Prelude.{◌≡◌, ℕ, suc, ◌+◌, ◌*◌, ◌<◌, ◌≤◌, max, Bool, true, ◌&&◌, ◌||◌, List, length, nat_le, nat_lt, slice_index, slice_index_or}
+use Rattle.std.specs.Prelude.{◌≡◌, ℕ, suc, ◌+◌, ◌*◌, ◌<◌, ◌≤◌, max, Bool, true, false, ◌&&◌, ◌||◌, List, length, nat_le, nat_lt, slice_index, slice_index_or, Option, MatchOption}
 use Rattle.model.specs.Lists.{some_from, count_from}
 use Rattle.ranges.specs.declared.Interval.{Interval}
 
@@ -19,9 +19,10 @@ holds firsts reach f = meets_at firsts reach f f
 abbrev pub in_ranges : List ℕ → List ℕ → ℕ → ℕ → Bool
 in_ranges firsts reach n f = some_from (holds firsts reach f) n 0
 
--- the answer of a search: an entry of n that meets the numbers from first to last, where there is one
-abbrev pub Found : List ℕ → List ℕ → ℕ → ℕ → ℕ → ℕ → Type 0
-Found firsts reach n first last r = (nat_lt r n ≡ some_from (meets_at firsts reach first last) n 0) × (r < n → meets_at firsts reach first last r ≡ true)
+-- the answer of a search: an entry of n that meets the numbers from first to last, none where no entry does
+abbrev pub Found : List ℕ → List ℕ → ℕ → ℕ → ℕ → Option ℕ → Type 0
+Found firsts reach n first last r =
+    MatchOption r (some_from (meets_at firsts reach first last) n 0 ≡ false) (λ j. (j < n) × (meets_at firsts reach first last j ≡ true))
 
 -- n entries of a table, none below the one before it
 pub record Rising (s : List ℕ) (n : ℕ) : Type 0 where
@@ -70,6 +71,10 @@ is_within r f = nat_le r.low f && nat_lt f (r.low + r.size)
 pub record Covered (firsts reach : List ℕ) (n zone : ℕ) (r : Interval) : Type 0 where
   pub small : r.low + r.size ≤ 4294967296
   pub covered : (g : ℕ) → is_within r g ≡ true → in_ranges firsts reach n (key zone g) ≡ true
+
+-- the answer of a search for f in a zone: an interval of numbers in ranges that holds f, none where f is in no range
+abbrev pub Around : List ℕ → List ℕ → ℕ → ℕ → ℕ → Option Interval → Type 0
+Around firsts reach n zone f r = MatchOption r (in_ranges firsts reach n (key zone f) ≡ false) (λ i. Covered firsts reach n zone i × (is_within i f ≡ true))
 
 -- section s meets the test, and its range the numbers from first to last
 unfoldable pub meets_section : (ℕ → Bool) → (ℕ → ℕ) → (ℕ → ℕ) → ℕ → ℕ → ℕ → Bool

@@ -4,7 +4,7 @@
 
 ghost use Rattle.std.specs.Prelude.{◌≡◌, ℕ, suc, ◌+◌, ◌-◌, ◌<◌, ◌≤◌, min, max, ◌&&◌, ◌∷◌, length, if◌then◌else◌, nat_le, nat_lt, slice_index};
 ghost use Rattle.model.specs.Lists.{some_from};
-ghost use Rattle.ranges.specs.Tables.{key, meets_at, holds, in_ranges, Found, Firsts, Ordered, Begun, Raised, Placed, Inserted, is_within, Covered};
+ghost use Rattle.ranges.specs.Tables.{key, meets_at, holds, Found, Firsts, Ordered, Begun, Raised, Placed, Inserted, is_within, Around};
 
 pub mod search_tree; // search_tree.rt: guesses of the entries that hold numbers
 
@@ -66,7 +66,7 @@ fn at_most(x: u64, y: u64) -> usize
     ((y + 9223372036854775808 - x) >> 63) as usize
 }
 
-// How many of n entries begin no later than f, by halving.
+// How many of n entries begin no later than f, by halving: not by `partition_point`, which branches on each number that it asks.
 fn begun(firsts: &[u64], n: usize, f: u64) -> usize
     requires { Firsts firsts.now n × (f < 9223372036854775808) }
     ensures { Begun firsts.now n f result 0 }
@@ -95,19 +95,19 @@ pub fn insert(firsts: &mut [u64], reach: &mut [u64], n: usize, first: u64, last:
     place
 }
 
-// An entry of n that meets the numbers from first to last; n where none does.
-fn meeting(firsts: &[u64], reach: &[u64], n: usize, first: u64, last: u64) -> usize
+// An entry of n that meets the numbers from first to last, where one does.
+fn meeting(firsts: &[u64], reach: &[u64], n: usize, first: u64, last: u64) -> Option<usize>
     requires { Ordered firsts.now reach.now n × (last < 9223372036854775808) }
     ensures { Found firsts.now reach.now n first last result }
 {
     let r = begun(firsts, n, last);
     if r == 0 {
-        return n;
+        return None;
     }
     if first <= reach[r - 1] {
-        return r - 1;
+        return Some(r - 1);
     }
-    n
+    None
 }
 
 // Does one of n ranges meet the numbers from first to last?
@@ -115,7 +115,7 @@ pub fn meets(firsts: &[u64], reach: &[u64], n: usize, first: u64, last: u64) -> 
     requires { Ordered firsts.now reach.now n × (last < 9223372036854775808) }
     ensures { result ≡ some_from (meets_at firsts.now reach.now first last) n 0 }
 {
-    meeting(firsts, reach, n, first, last) < n
+    meeting(firsts, reach, n, first, last).is_some()
 }
 
 // Does entry j hold f?
@@ -140,13 +140,13 @@ pub fn entry_holds(firsts: &[u64], reach: &[u64], n: usize, f: u64, j: usize) ->
     holds(firsts, reach, f, j)
 }
 
-// An entry of n that holds f, the entry `guess` asked first; n where none does.
-pub fn find(firsts: &[u64], reach: &[u64], n: usize, guess: usize, f: u64) -> usize
+// An entry of n that holds f, the entry `guess` asked first, where one does.
+pub fn find(firsts: &[u64], reach: &[u64], n: usize, guess: usize, f: u64) -> Option<usize>
     requires { Ordered firsts.now reach.now n × (f < 9223372036854775808) }
     ensures { Found firsts.now reach.now n f f result }
 {
     if entry_holds(firsts, reach, n, f, guess) {
-        return guess;
+        return Some(guess);
     }
     meeting(firsts, reach, n, f, f)
 }
@@ -179,21 +179,23 @@ fn cut(x: u64, base: u64) -> u64
     x - base
 }
 
-// The numbers of a zone around f that one entry holds; none where f is in no range.
-pub fn interval_around(firsts: &[u64], reach: &[u64], n: usize, zone: usize, f: u64) -> Interval
+// The numbers of a zone around f that one entry holds, where f is in a range.
+pub fn interval_around(
+    firsts: &[u64],
+    reach: &[u64],
+    n: usize,
+    zone: usize,
+    f: u64,
+) -> Option<Interval>
     requires { Ordered firsts.now reach.now n × ((zone < 4096) × (f < 4294967296)) }
-    ensures covered { Covered firsts.now reach.now n zone result }
-    ensures size_value { nat_lt 0 result.size ≡ in_ranges firsts.now reach.now n (key zone f) }
+    ensures { Around firsts.now reach.now n zone f result }
 {
-    let j = find(firsts, reach, n, n, key(zone, f));
-    if n <= j {
-        return Interval { low: 0, size: 0 };
-    }
+    let j = find(firsts, reach, n, n, key(zone, f))?;
     let base = key(zone, 0);
     let low = cut(firsts[j], base);
     let high = cut(reach[j], base);
-    Interval {
+    Some(Interval {
         low,
         size: high + 1 - low,
-    }
+    })
 }

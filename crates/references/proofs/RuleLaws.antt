@@ -1,11 +1,12 @@
 -- The rules of a section's entries against rows of the image's bytes: the first number of the row that fails is the first entry that does.
-use Prim.Native.Nat.{ℕ, suc, ◌+◌, ◌≤◌, ◌<◌}
+use Prim.Native.Nat.{ℕ, suc, ◌+◌, ◌<◌}
 use mathlib.Core.Path.{◌≡◌, refl, sym, ◌∙◌}
 use mathlib.Core.Bool.{Bool, true, false, cond}
 use mathlib.Core.List.{List}
 use native.Mathlib.Omega.{arith}
 use native.Mathlib.Numerals.{add-one}
 use lib.Dec.{eqb}
+use Rattle.std.proofs.Common.{Option, None, Some}
 use borrow.Author.Tests.{eqb-true, eqb-false, ne_eqb, lt-ltb}
 use Rattle.model.specs.declared.Rejection.{Rejection}
 use Rattle.model.specs.Lists.{◌⊃◌}
@@ -43,43 +44,43 @@ module _ {b : List ℕ} (g : Sound b) (s : ℕ) {r : Row} (o : RowOf b (connecti
   unfolding is_node is_within
   node-same limit m k h y = rw (y, reference-is k h, ← m)
 
-  pub first-node : (limit : ℕ) → limit ≡ vertex_size (tree_of b) (parent (tree_of b) s) 0 → (element_type_of (tree_of b) s ≡ MIXED → ⊥) → {j : ℕ}
+  pub first-node : (limit : ℕ) → limit ≡ vertex_size (tree_of b) (parent (tree_of b) s) 0 → (element_type_of (tree_of b) s ≡ MIXED → ⊥) → (j : Option ℕ)
       → FirstFailing (is_within b r.at r.width limit) r.n j → FirstFailing (is_node (tree_of b) s) r.n j
   unfolding is_type_number
-  first-node limit m y f = failing_same (λ k h. node-same limit m k h (rw (ne_eqb (element_type_of (tree_of b) s) MIXED y))) f
+  first-node limit m y j f = failing_same (λ k h. node-same limit m k h (rw (ne_eqb (element_type_of (tree_of b) s) MIXED y))) j f
 
   -- 35 to 37
   pub number_is : (k : ℕ) → k < r.n → face_number (tree_of b) s k ≡ magnitude r.width (number_at b r.at r.width k)
   unfolding face_number
   number_is k h = rw (reference-is k h, ← o.wide)
 
-  pub first-face : (z : ℕ) → z ≡ parent (tree_of b) s → {j : ℕ} → FirstFailing (refers_face (tree_of b) z b r.at r.width) r.n j
+  pub first-face : (z : ℕ) → z ≡ parent (tree_of b) s → (j : Option ℕ) → FirstFailing (refers_face (tree_of b) z b r.at r.width) r.n j
       → FirstFailing (is_face (tree_of b) s) r.n j
   unfolding is_face refers_face
-  first-face z m f = failing_same (λ k h. rw (number_is k h, ← m)) f
+  first-face z m j f = failing_same {p = refers_face (tree_of b) z b r.at r.width} {q = is_face (tree_of b) s} (λ k h. rw (number_is k h, ← m)) j f
 
 -- the first entry that breaks a rule decides
-module _ (t : Tree) (s : ℕ) {p : ℕ → Bool} {n j : ℕ} (long : connectivity_length t s ≡ n) (f : FirstFailing p n j)
+module _ (t : Tree) (s : ℕ) {p : ℕ → Bool} {n : ℕ} (long : connectivity_length t s ≡ n)
     (passes : (k : ℕ) → p k ≡ true → reference_check_at t s k ≡ passed) where
-  walk_kept : n ≤ j → passed ≡ reference_check t s
+  walk_kept : FirstFailing p n None → passed ≡ reference_check t s
   unfolding reference_check
-  walk_kept h = rw long (sym (check_from-none (reference_check_at t s) n 0 (λ k l u. passes k (f.before.each k (omega arith) (omega arith)))))
+  walk_kept f = rw long (sym (check_from-none (reference_check_at t s) n 0 (λ k l u. passes k (f.each k (omega arith) (omega arith)))))
 
-  walk_broken : {r : Rejection} → j < n → reference_check_at t s j ≡ rejected r → rejected r ≡ reference_check t s
+  walk_broken : {j : ℕ} {r : Rejection} → FirstFailing p n (Some j) → reference_check_at t s j ≡ rejected r → rejected r ≡ reference_check t s
   unfolding reference_check
-  walk_broken h e =
-      rw long (sym (check_from-first (reference_check_at t s) n 0 j (omega arith) (omega arith) (λ k l u. passes k (f.before.each k (omega arith) u)) e))
+  walk_broken {j} f e =
+      rw long (sym (check_from-first (reference_check_at t s) n 0 j (omega arith) (omega (arith, f.1)) (λ k l u. passes k (f.0.each k (omega arith) u)) e))
 
 -- 34 of a section whose references are nodes
-module _ (t : Tree) (s : ℕ) {n j : ℕ} (long : connectivity_length t s ≡ n) (e : element_type_of t s ≡ NFACE → ⊥) (f : FirstFailing (is_node t s) n j) where
+module _ (t : Tree) (s : ℕ) {n : ℕ} (long : connectivity_length t s ≡ n) (e : element_type_of t s ≡ NFACE → ⊥) where
   cell : eqb (element_type_of t s) NFACE ≡ false
   cell = ne_eqb (element_type_of t s) NFACE e
 
-  pub nodes-kept : n ≤ j → passed ≡ reference_check t s
-  nodes-kept h = walk_kept t s long f (λ k. node-passes t s k cell) h
+  pub nodes-kept : FirstFailing (is_node t s) n None → passed ≡ reference_check t s
+  nodes-kept f = walk_kept t s long (λ k. node-passes t s k cell) f
 
-  pub nodes_broken : j < n → rejected (rejection_at 34 s (j + 1)) ≡ reference_check t s
-  nodes_broken h = rw add-one (walk_broken t s long f (λ k. node-passes t s k cell) h (node-fails t s j cell (f.fails h)))
+  pub nodes_broken : {j : ℕ} → FirstFailing (is_node t s) n (Some j) → rejected (rejection_at 34 s (j + 1)) ≡ reference_check t s
+  nodes_broken {j} f = rw add-one (walk_broken t s long (λ k. node-passes t s k cell) f (node-fails t s j cell f.2))
 
 -- 35 to 37 of one whose references are faces
 module _ (t : Tree) (s : ℕ) (e : element_type_of t s ≡ NFACE) where
@@ -109,12 +110,12 @@ module _ (t : Tree) (s : ℕ) (e : element_type_of t s ≡ NFACE) where
       by_tests false q true o = face-fails t s k e (some k q) (known k o) h
       by_tests false q false o = element-fails t s k e (some k q) (known k o)
 
-  module _ {n j : ℕ} (long : connectivity_length t s ≡ n) (f : FirstFailing (is_face t s) n j) where
-    pub faces_kept : n ≤ j → passed ≡ reference_check t s
-    faces_kept h = walk_kept t s long f (λ k. face-passes t s k e) h
+  module _ {n : ℕ} (long : connectivity_length t s ≡ n) where
+    pub faces_kept : FirstFailing (is_face t s) n None → passed ≡ reference_check t s
+    faces_kept f = walk_kept t s long (λ k. face-passes t s k e) f
 
-    pub faces_broken : j < n → rejected (rejection_at (face_rule t (parent t s) (face_number t s j)) s (j + 1)) ≡ reference_check t s
-    faces_broken h = rw add-one (walk_broken t s long f (λ k. face-passes t s k e) h (which j (f.fails h)))
+    pub faces_broken : {j : ℕ} → FirstFailing (is_face t s) n (Some j) → rejected (rejection_at (face_rule t (parent t s) (face_number t s j)) s (j + 1)) ≡ reference_check t s
+    faces_broken {j} f = rw add-one (walk_broken t s long (λ k. face-passes t s k e) f (which j f.2))
 
 -- 38 is asked of MIXED sections alone
 pub types_fit : (t : Tree) (s : ℕ) {x : Check} → (element_type_of t s ≡ MIXED → ⊥) → x ≡ reference_check t s → x ≡ connectivity_check t s

@@ -1,5 +1,5 @@
 -- Rows of numbers in bytes, and what rules 34 to 37 ask of each number of a row.
-use Rattle.std.specs.Prelude.{ℕ, ◌-◌, ◌≤◌, ◌<◌, ◌≡◌, Bool, false, ◌&&◌, ◌||◌, List, leb}
+use Rattle.std.specs.Prelude.{ℕ, ◌<◌, ◌≡◌, Option, Some, None, Bool, false, ◌&&◌, ◌||◌, List, leb}
 use Rattle.model.specs.Bytes.{magnitude}
 use Rattle.model.specs.Image.{Tree}
 use Rattle.model.specs.Elements.{face_of}
@@ -25,13 +25,11 @@ is_known last before f = Tables.is_within last f || Tables.is_within before f
 abbrev pub known_at : List ℕ → Row → Interval → Interval → ℕ → Bool
 known_at b row last before i = is_known last before (magnitude row.width (number_at b row.at row.width i))
 
--- j is the first of n numbers that does not meet a test; n where each does
-pub record FirstFailing (p : ℕ → Bool) (n j : ℕ) : Type 0 where
-  pub before : Passed p n 0 j
-  pub fails : j < n → p j ≡ false
+-- of the numbers from k to m, of n: the first that does not meet a test; none where each does
+abbrev pub Failing : (ℕ → Bool) → ℕ → ℕ → ℕ → Option ℕ → Type 0
+Failing p n k m None = Passed p n k m
+Failing p n k m (Some j) = Passed p n k j × (j < m) × (p j ≡ false)
 
--- of the numbers from k to m, of n: `place` is 0 where each meets a test, else the place, counted from 1, of the first that does not
-pub record Failing (p : ℕ → Bool) (n k m place : ℕ) : Type 0 where
-  pub none : place ≡ 0 → Passed p n k m
-  pub before : 0 < place → Passed p n k (place - 1) × (place ≤ m)
-  pub fails : 0 < place → p (place - 1) ≡ false
+-- of all n
+abbrev pub FirstFailing : (ℕ → Bool) → ℕ → Option ℕ → Type 0
+FirstFailing p n = Failing p n 0 n

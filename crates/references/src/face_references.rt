@@ -29,7 +29,7 @@ fn is_known(last: Interval, before: Interval, f: u64) -> bool
     ranges::within(last, f) || ranges::within(before, f)
 }
 
-// The first number of a row, from k on, whose magnitude is in neither of two intervals; how many there are where each is.
+// The first number of a row, from k on, whose magnitude is in neither of two intervals; how many there are where each is, since the scan goes on from the answer.
 fn first_outside(image: &[u8], row: Row, k: usize, last: Interval, before: Interval) -> usize
     requires numbers { Numbers image.now row.at row.width row.n × (k ≤ row.n) }
     requires size_bound { (last.low + last.size ≤ 4294967296) × (before.low + before.size ≤ 4294967296) }
@@ -170,8 +170,8 @@ fn guessed_to(
     whole
 }
 
-// The first number of a row that refers to no face of zone z; how many there are where each does. The numbers around the last two that were looked up are
-// known; where numbers jump, their entries are guessed.
+// The first number of a row that refers to no face of zone z. The numbers around the last two that were looked up are known; where numbers jump, their
+// entries are guessed.
 fn first_no_face(
     image: &[u8],
     z: usize,
@@ -181,7 +181,7 @@ fn first_no_face(
     count: usize,
     levels: &[u32],
     tree: SearchTree,
-) -> usize
+) -> Option<usize>
     requires sound { Sound image.now × (z < node_count image.now) }
     requires numbers { Numbers image.now row.at row.width row.n × Faces (tree_of image.now) firsts.now reach.now count }
     requires built { Built tree × (2048 ≤ length levels.now) }
@@ -194,21 +194,20 @@ fn first_no_face(
     while k < n {
         let f = rows::magnitude_at(image, row, k);
         if types::MAX_NUMBER < f {
-            return k;
+            return Some(k);
         }
-        let next = ranges::interval_around(firsts, reach, count, z, f);
-        if next.size == 0 {
-            return k;
-        }
+        let Some(next) = ranges::interval_around(firsts, reach, count, z, f) else {
+            return Some(k);
+        };
         let j = first_outside(image, row, k + 1, next, last);
         let end = jumps_to(k, j, n);
         k = guessed_to(image, z, row, j, end, firsts, reach, count, levels, tree);
         last = next;
     }
-    k
+    None
 }
 
-// The first reference of section s, one of those of the row, that is no face of its zone; how many there are where each is. A tree is made where it is worth the work.
+// The first reference of section s, one of those of the row, that is no face of its zone. A tree is made where it is worth the work.
 fn first_broken(
     image: &[u8],
     s: usize,
@@ -217,7 +216,7 @@ fn first_broken(
     reach: &[u64],
     faces: usize,
     levels: &mut [u32],
-) -> usize
+) -> Option<usize>
     requires sound { Sound image.now × SectionContext image.now s }
     requires row_of { RowOf image.now (connectivity_of (tree_of image.now) s) row }
     requires faces { Faces (tree_of image.now) firsts.now reach.now faces × (2048 ≤ length levels.old) }
@@ -262,10 +261,9 @@ pub fn face_stage(
     requires faces { Faces (tree_of image.now) firsts.now reach.now faces × (2048 ≤ length levels.old) }
     ensures { stage_tells result ≡ reference_check (tree_of image.now) s }
 {
-    let k = first_broken(image, s, row, firsts, reach, faces, levels);
-    if row.n <= k {
+    let Some(k) = first_broken(image, s, row, firsts, reach, faces, levels) else {
         return Ok(());
-    }
+    };
     let f = rows::magnitude_at(image, row, k);
     let rule = face_rule(image, index, records::parent_of(image, s), f);
     Err(Rejection::at_entry(rule, s as u64, k as u64 + 1))

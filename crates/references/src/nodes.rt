@@ -36,7 +36,7 @@ fn two_within(image: &[u8], row: Row, limit: u64, k: usize) -> bool
     is_within(image, row, limit, k + 1)
 }
 
-// k, or k + 1 where number k of a row lies in 1 to limit.
+// Of numbers k and k + 1 of a row, of which one lies outside 1 to limit, the first that does.
 fn past_within(image: &[u8], row: Row, limit: u64, k: usize) -> usize
     requires { Numbers image.now row.at row.width row.n × (k < row.n) }
     ensures { result ≡ cond (is_within image.now row.at row.width limit k) (k + 1) k }
@@ -47,9 +47,8 @@ fn past_within(image: &[u8], row: Row, limit: u64, k: usize) -> usize
     k
 }
 
-// The first number of a row that lies outside 1 to limit; how many there are where none does. Two at a time: the loop takes as long wherever the linker
-// puts it.
-fn first_no_node(image: &[u8], row: Row, limit: u64) -> usize
+// The first number of a row that lies outside 1 to limit. Two at a time: the loop takes as long wherever the linker puts it.
+fn first_no_node(image: &[u8], row: Row, limit: u64) -> Option<usize>
     requires { Numbers image.now row.at row.width row.n }
     ensures { FirstFailing (is_within image.now row.at row.width limit) row.n result }
 {
@@ -57,13 +56,16 @@ fn first_no_node(image: &[u8], row: Row, limit: u64) -> usize
     for pair in 0..n / 2 {
         let k = 2 * pair;
         if !two_within(image, row, limit, k) {
-            return past_within(image, row, limit, k);
+            return Some(past_within(image, row, limit, k));
         }
     }
     if n % 2 == 0 {
-        return n;
+        return None;
     }
-    past_within(image, row, limit, n - 1)
+    if is_within(image, row, limit, n - 1) {
+        return None;
+    }
+    Some(n - 1)
 }
 
 // VertexSize of the zone of section s.
@@ -82,9 +84,8 @@ pub fn node_stage(image: &[u8], s: usize, row: Row) -> Result<(), Rejection>
     ensures { stage_tells result ≡ reference_check (tree_of image.now) s }
 {
     let vertices = vertex_size(image, s);
-    let k = first_no_node(image, row, vertices);
-    if row.n <= k {
+    let Some(k) = first_no_node(image, row, vertices) else {
         return Ok(());
-    }
+    };
     Err(Rejection::at_entry(34, s as u64, k as u64 + 1))
 }

@@ -1,10 +1,17 @@
 -- The element ranges of sections by their keys: what is gathered, and rule 28.
 use Prim.Native.Nat.{ℕ, ◌≤◌, ◌<◌}
 use mathlib.Core.Path.{◌≡◌, refl, sym, ◌∙◌}
-use mathlib.Core.Bool.{Bool, true, false, ◌&&◌}
+use mathlib.Core.Bool.{Bool, true, false, cond, ◌&&◌}
 use mathlib.Core.List.{List, [], ◌∷◌}
 use native.Mathlib.Omega.{arith}
-use lib.Dec.{eqb, leb}
+use native.Mathlib.Decide.{dec_lt}
+use lib.Dec.{eqb, leb, ltb}
+use Rattle.std.proofs.Common.{Option, None, Some, rules}
+use Rattle.std.proofs.lemmas.Option.{cond_some}
+use Rattle.std.specs.Bool.{then_some}
+use Rattle.std.specs.Option.{option_eq}
+use Rattle.model.specs.Found.{if_below}
+use Rattle.model.proofs.Found.{is_some, is_none}
 use borrow.Author.Tests.{eq-eqb, ne_eqb, eqb-true, lt-ltb, le-ltb, not-true}
 use Rattle.model.specs.Lists.{◌⊃◌, row, some_from, count_from, seek_from}
 use Rattle.model.specs.Image.{Tree, tree_of, node_count, parent, I4}
@@ -16,7 +23,7 @@ use Rattle.model.specs.Validation.{section_check, node_check_at}
 use Rattle.model.specs.Elements.{first_element, last_element, in_range, meets, overlap, overlaps, conforming_section, has_element, element_of}
 use Rattle.model.specs.Elements.{element_rules, reference_check, parent_rules}
 use Rattle.model.proofs.Logic.{untrue, and_first, and_second, and-false}
-use Rattle.model.proofs.Loops.{SeekLeft, seek_start, seek_stop}
+use Rattle.model.proofs.Loops.{seek_start, seek_stop}
 use Rattle.model.proofs.Walks.{some_same, seek_holds}
 use Rattle.model.proofs.Passed.{check_pass, then-first, then-second, claim}
 use Rattle.model.proofs.Conforming.{conforming-inside, conforming-parent, conforming-role}
@@ -29,7 +36,7 @@ use Rattle.ranges.proofs.Gathering.{gathered-room}
 use Rattle.ranges.proofs.Half.{half}
 use Rattle.ranges.proofs.Keys.{key_meets}
 use Rattle.section_data.specs.Given.{Ranged, SectionContext}
-use Rattle.section_data.specs.Ranges.{is_wanted, is_ranged, first_key, last_key, ranged_overlap, overlap_at, RangeOf}
+use Rattle.section_data.specs.Ranges.{is_wanted, is_ranged, first_key, last_key, range_if, ranged_overlap, overlap_at}
 use Rattle.section_data.proofs.Stored.{type-section, range_ready}
 use Rattle.section_data.proofs.SectionContext.{complete-is}
 
@@ -80,10 +87,16 @@ pub element_by : (b : List ℕ) (z e : ℕ) {n : ℕ} {v : Bool} → n ≡ node_
 unfolding element_of tree_of
 element_by b z e q h = rw q at h
 
+-- a number as an Option, by a test
+pub then_some-is : (c : Bool) (x : ℕ) → then_some c x ≡ cond c (Some x) None
+then_some-is true x = refl
+then_some-is false x = refl
+
 -- the node of a section's range
 module _ (b : List ℕ) (s : ℕ) where
-  pub range_none : (k : ℕ) {r : ℕ} → is_ranged (tree_of b) k s ≡ false → r ≡ node_count b → RangeOf b k s r
-  range_none k {r} e q = record { tells = le-ltb r (node_count b) (omega arith) ∙ sym e; is = λ h. absurd (omega arith) }
+  pub range_none : (k : ℕ) → is_ranged (tree_of b) k s ≡ false → None ≡ range_if (tree_of b) k s
+  unfolding range_if
+  range_none k e = rw e refl
 
   -- it is no section; it is not asked for
   pub not-section : (k : ℕ) → validated_as (tree_of b) Elements s ≡ false → is_ranged (tree_of b) k s ≡ false
@@ -94,16 +107,23 @@ module _ (b : List ℕ) (s : ℕ) where
   unfolding is_ranged
   not_wanted k e = rw (e, and-false (validated_as (tree_of b) Elements s))
 
-  pub range_by : (k : ℕ) {r : ℕ} → validated_as (tree_of b) Elements s ≡ true → is_wanted (tree_of b) k s ≡ true → r ≡ range_of (tree_of b) s → RangeOf b k s r
-  unfolding is_ranged found tree_of
-  range_by k e g q = record { tells = rw (e, g, q); is = λ h. q }
+  pub range_by : (k : ℕ) {r : ℕ} → validated_as (tree_of b) Elements s ≡ true → is_wanted (tree_of b) k s ≡ true → r ≡ range_of (tree_of b) s
+      → then_some (ltb r (node_count b)) r ≡ range_if (tree_of b) k s
+  unfolding range_if is_ranged found tree_of
+  range_by k {r} e g q = rw (e, g, ← q) (then_some-is (ltb r (node_count b)) r)
 
-module _ {b : List ℕ} {k s r : ℕ} (o : RangeOf b k s r) where
-  pub has-range : r < node_count b → is_ranged (tree_of b) k s ≡ true
-  has-range h = sym o.tells ∙ lt-ltb r (node_count b) h
+module _ (t : Tree) (k s : ℕ) where
+  pub has-range : {r : ℕ} → Some r ≡ range_if t k s → (is_ranged t k s ≡ true) × (range_of t s ≡ r)
+  unfolding range_if
+  has-range {r} o = cond_some (is_ranged t k s) (range_of t s) r (sym o)
 
-  pub no_range : node_count b ≤ r → is_ranged (tree_of b) k s ≡ false
-  no_range h = sym o.tells ∙ le-ltb r (node_count b) h
+  pub no_range : None ≡ range_if t k s → is_ranged t k s ≡ false
+  unfolding range_if
+  no_range o = by_test (is_ranged t k s) o
+    where
+      by_test : (c : Bool) → None ≡ cond c (Some (range_of t s)) None → c ≡ false
+      by_test true e = search rules
+      by_test false e = refl
 
 -- what a section that counts has
 module _ {b : List ℕ} (g : Sound b) (k s : ℕ) (e : is_ranged (tree_of b) k s ≡ true) where
@@ -214,15 +234,17 @@ section-passed {b} g r h v =
     rw x at (then-second (check r (sids_rules t r)) (section_check t r) (rw y at (g.before r h)))
 
 -- no number before s meets a test: s is the first of n that does, exactly where s does
-pub first-is : (p : ℕ → Bool) (n s : ℕ) {o : ℕ} → s < n → ((r : ℕ) → r < s → p r ≡ false) → o ≡ seek_from p n 0 → eqb s o ≡ p s
-first-is p n s {o} i before h = by_test (p s) refl
+pub first-is : (p : ℕ → Bool) (n s : ℕ) {o : Option ℕ} → s < n → ((r : ℕ) → r < s → p r ≡ false) → o ≡ if_below n (seek_from p n 0)
+    → option_eq eqb o (Some s) ≡ p s
+first-is p n s {o} i before h = rw h (by_test (p s) refl)
   where
-    left : SeekLeft p n s o
-    left = rw h (seek_start p n s (omega arith) before)
-
-    by_test : (c : Bool) → p s ≡ c → eqb s o ≡ c
-    by_test true f = eq-eqb s o (seek_stop left i f)
-    by_test false f = ne_eqb s o (λ q. untrue (sym f ∙ rw (← h, ← q) at (seek_holds p n 0 (rw (← h) (omega arith)))))
+    by_test : (c : Bool) → p s ≡ c → option_eq eqb (if_below n (seek_from p n 0)) (Some s) ≡ c
+    by_test true f = rw (← seek_stop (seek_start p n s (omega arith) before) i f, is_some i) (eq-eqb s s refl)
+    by_test false f =
+        elim (dec_lt (seek_from p n 0) n) [
+          | yes l ↦ rw (is_some l) (ne_eqb (seek_from p n 0) s (λ q. untrue (sym f ∙ rw q at (seek_holds p n 0 (omega arith)))))
+          | no l ↦ let m : n ≤ seek_from p n 0 = omega arith in rw (is_none m) refl
+        ]
 
 -- validation has come to section s: earlier sections have ranges, and none of them broke rule 28
 module _ {b : List ℕ} {s : ℕ} (g : NodesTo b s) (e : is_ranged (tree_of b) 0 s ≡ true) where
@@ -270,5 +292,5 @@ module _ {b : List ℕ} {s : ℕ} (g : NodesTo b s) (e : is_ranged (tree_of b) 0
           sym (overlaps-ranged r (omega arith) f) ∙ not-true (overlaps t r) (claim 28 (element_rules t r) held)
       by_test false f = sym (no_overlap b r f)
 
-  pub overlap-is : {o : ℕ} → o ≡ seek_from (overlap_at (tree_of b)) (node_count b) 0 → eqb s o ≡ overlaps (tree_of b) s
+  pub overlap-is : {o : Option ℕ} → o ≡ if_below (node_count b) (seek_from (overlap_at (tree_of b)) (node_count b) 0) → option_eq eqb o (Some s) ≡ overlaps (tree_of b) s
   overlap-is h = first-is (overlap_at (tree_of b)) (node_count b) s g.inside none_before h ∙ sym (overlaps-ranged s (omega arith) e)

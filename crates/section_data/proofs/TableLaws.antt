@@ -6,7 +6,7 @@ use mathlib.Core.List.{List}
 use native.Mathlib.Omega.{arith}
 use native.Mathlib.Decide.{dec_lt}
 use lib.Dec.{eqb, leb, ltb}
-use borrow.Author.Tests.{lt-ltb, le-ltb, ltb-true, leb-true}
+use borrow.Author.Tests.{lt-ltb, ltb-true, leb-true}
 use Rattle.model.specs.Lists.{◌⊃◌, some_from}
 use Rattle.model.specs.Image.{Tree, tree_of, node_count, parent}
 use Rattle.model.specs.Given.{Sound}
@@ -120,9 +120,6 @@ module _ {p : ℕ → ℕ → Bool} {firsts reach : List ℕ} {n : ℕ} (g : Tab
       let l = ltb-true j n (and_first _ (holds firsts reach x j) e) in
       sym (g.in_ranges_lem z f h) ∙ rw (← q) (some_by (holds firsts reach x) n 0 j (and_second (ltb j n) _ e) (omega arith) (omega arith))
 
-  module _ {f s : ℕ} (h : f < 4294967296) (e : ltb 0 s ≡ in_ranges firsts reach n (key z f)) where
-    pub found-is : (s ≡ 0 → ⊥) → p z f ≡ true
-    found-is u = sym (g.in_ranges_lem z f h) ∙ sym e ∙ lt-ltb 0 s (omega (arith, u))
-
-    pub missed_is : s ≡ 0 → p z f ≡ false
-    missed_is u = sym (g.in_ranges_lem z f h) ∙ sym e ∙ le-ltb 0 s (omega arith)
+  -- f is in no range
+  pub missed_is : {f : ℕ} → f < 4294967296 → in_ranges firsts reach n (key z f) ≡ false → p z f ≡ false
+  missed_is {f} h e = sym (g.in_ranges_lem z f h) ∙ e

@@ -1,7 +1,7 @@
 -- The element ranges of sections, in the order of their keys: a zone's number above the element's.
-use Rattle.std.specs.Prelude.{ℕ, ◌≤◌, ◌<◌, ◌≡◌, Bool, false, ◌&&◌, List, eqb, ltb}
+use Rattle.std.specs.Prelude.{ℕ, ◌≤◌, ◌<◌, ◌≡◌, Option, Some, None, Bool, false, cond, ◌&&◌, List, eqb, ltb}
 use Rattle.model.specs.Lists.{◌⊃◌, some_from}
-use Rattle.model.specs.Image.{Tree, tree_of, node_count, parent}
+use Rattle.model.specs.Image.{Tree, parent}
 use Rattle.model.specs.Containment.{validated_as, found, Elements}
 use Rattle.model.specs.Values.{max_number, type_lawful, value_lawful, range_of}
 use Rattle.model.specs.Elements.{element_type_of, first_element, last_element, in_range, overlap, conforming_section, face_of, cell_of}
@@ -22,10 +22,9 @@ first_key t s = key (parent t s) (first_element t s)
 unfoldable pub last_key : Tree → ℕ → ℕ
 last_key t s = key (parent t s) (last_element t s)
 
--- what the node of such a section's range is; the node count where the section is none
-pub record RangeOf (b : List ℕ) (e s r : ℕ) : Type 0 where
-  pub tells : ltb r (node_count b) ≡ is_ranged (tree_of b) e s
-  pub is : r < node_count b → r ≡ range_of (tree_of b) s
+-- the node of its range; none where section s is no such section
+unfoldable pub range_if : Tree → ℕ → ℕ → Option ℕ
+range_if t e s = cond (is_ranged t e s) (Some (range_of t s)) None
 
 -- 28: section s meets an earlier one, where both have ranges
 unfoldable pub ranged_overlap : Tree → ℕ → ℕ → Bool

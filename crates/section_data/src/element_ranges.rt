@@ -1,5 +1,6 @@
 // The element ranges of sections, of all zones in one pair of tables: rule 28, the faces of rules 35 to 37, the cells of rule 39; the elements of a zone.
 ghost use Rattle.std.specs.Prelude.{◌≡◌, ◌&&◌, ◌≤◌, ◌<◌, ◌+◌, length};
+ghost use Rattle.model.specs.Found.{if_below};
 ghost use Rattle.model.specs.Lists.{seek_from};
 ghost use Rattle.model.specs.Image.{tree_of, node_count, parent};
 ghost use Rattle.model.specs.Given.{Sound};
@@ -9,7 +10,7 @@ ghost use Rattle.model.specs.Elements.{element_count, in_range, has_element, ele
 ghost use Rattle.index.specs.Index.{Index, kind};
 ghost use Rattle.ranges.specs.Tables.{Gathered};
 ghost use Rattle.section_data.specs.Given.{Ranged};
-ghost use Rattle.section_data.specs.Ranges.{is_wanted, is_ranged, first_key, last_key, overlap_at, RangeOf, of_type, TableOf, Faces, Cells};
+ghost use Rattle.section_data.specs.Ranges.{is_wanted, is_ranged, first_key, last_key, range_if, overlap_at, of_type, TableOf, Faces, Cells};
 
 use element_types::{NFACE, NGON};
 use labels::roles::ELEMENTS;
@@ -44,18 +45,19 @@ fn is_wanted(image: &[u8], element_type: u64, i: usize) -> bool
     types::whole(image, i, 0) == element_type
 }
 
-// The ElementRange of node i where it is a section, of the type that is asked for; else the node count.
-pub fn range_if(image: &[u8], index: &[u16], element_type: u64, i: usize) -> usize
+// The ElementRange of node i where it is a section, of the type that is asked for.
+pub fn range_if(image: &[u8], index: &[u16], element_type: u64, i: usize) -> Option<usize>
     requires { Index image.now index.now × (i < node_count image.now) }
-    ensures { RangeOf image.now element_type i result }
+    ensures { result ≡ range_if (tree_of image.now) element_type i }
 {
     if index::kind_of(image, index, i) != ELEMENTS {
-        return labels::node_count(image);
+        return None;
     }
     if !is_wanted(image, element_type, i) {
-        return labels::node_count(image);
+        return None;
     }
-    range_of(image, index, i)
+    let range = range_of(image, index, i);
+    (range < labels::node_count(image)).then_some(range)
 }
 
 // The keys of a section's first and last element.
@@ -94,10 +96,9 @@ fn gather_node(
     ensures { Gathered (is_ranged (tree_of image.now) element_type) (first_key (tree_of image.now)) (last_key (tree_of image.now))
         firsts.new reach.new result (i + 1) }
 {
-    let range = range_if(image, index, element_type, i);
-    if labels::node_count(image) <= range {
+    let Some(range) = range_if(image, index, element_type, i) else {
         return n;
-    }
+    };
     let keys = keys_of(image, i, range);
     ranges::insert(firsts, reach, n, keys.first, keys.last);
     n + 1
@@ -116,29 +117,33 @@ fn meets_earlier(
     requires gathered { Gathered (is_ranged (tree_of image.now) 0) (first_key (tree_of image.now)) (last_key (tree_of image.now)) firsts.now reach.now n i }
     ensures { result ≡ overlap_at (tree_of image.now) i }
 {
-    let range = range_if(image, index, 0, i);
-    if labels::node_count(image) <= range {
+    let Some(range) = range_if(image, index, 0, i) else {
         return false;
-    }
+    };
     let keys = keys_of(image, i, range);
     ranges::meets(firsts, reach, n, keys.first, keys.last)
 }
 
-// The first node whose range meets that of an earlier section of its zone; the node count where there is none.
-pub fn first_overlap(image: &[u8], index: &[u16], firsts: &mut [u64], reach: &mut [u64]) -> usize
+// The first node whose range meets that of an earlier section of its zone.
+pub fn first_overlap(
+    image: &[u8],
+    index: &[u16],
+    firsts: &mut [u64],
+    reach: &mut [u64],
+) -> Option<usize>
     requires index { Index image.now index.now }
     requires in_bounds { (2048 ≤ length firsts.old) × (2048 ≤ length reach.old) }
-    ensures { result ≡ seek_from (overlap_at (tree_of image.now)) (node_count image.now) 0 }
+    ensures { result ≡ if_below (node_count image.now) (seek_from (overlap_at (tree_of image.now)) (node_count image.now) 0) }
 {
     let nodes = labels::node_count(image);
     let mut n = 0;
     for i in 0..nodes {
         if meets_earlier(image, index, i, firsts, reach, n) {
-            return i;
+            return Some(i);
         }
         n = gather_node(image, index, 0, i, firsts, reach, n);
     }
-    nodes
+    None
 }
 
 // The ranges of the sections of one type, of all zones. It answers how many there are.

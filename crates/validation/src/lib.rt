@@ -2,6 +2,7 @@
 #![tactic(auto)]
 
 ghost use Rattle.std.specs.Prelude.{◌≡◌, true, ◌≤◌, length, Ok};
+ghost use Rattle.model.specs.Found.{if_below};
 ghost use Rattle.model.specs.Lists.{seek_from};
 ghost use Rattle.model.specs.Rules.{answer, check, passed};
 ghost use Rattle.model.specs.Image.{tree_of, node_count};
@@ -25,8 +26,8 @@ fn section_stage(
     image: &[u8],
     index: &[u16],
     i: usize,
-    overlap: usize,
-    parents: usize,
+    overlap: Option<usize>,
+    parents: Option<usize>,
     firsts: &[u64],
     reach: &[u64],
     faces: usize,
@@ -35,8 +36,8 @@ fn section_stage(
     requires nodes_to { NodesTo image.now i × Index image.now index.now }
     requires i_value { validated (tree_of image.now) i ≡ true }
     requires i_value_2 { check i (sids_rules (tree_of image.now) i) ≡ passed }
-    requires overlap_value { (overlap ≡ seek_from (overlap_at (tree_of image.now)) (node_count image.now) 0)
-        × (parents ≡ seek_from (parents_broken (tree_of image.now)) (node_count image.now) 0) }
+    requires overlap_value { (overlap ≡ if_below (node_count image.now) (seek_from (overlap_at (tree_of image.now)) (node_count image.now) 0))
+        × (parents ≡ if_below (node_count image.now) (seek_from (parents_broken (tree_of image.now)) (node_count image.now) 0)) }
     requires faces { Faces (tree_of image.now) firsts.now reach.now faces × (2048 ≤ length levels.old) }
     ensures { stage_tells result ≡ section_check (tree_of image.now) i }
 {
@@ -53,16 +54,16 @@ fn node_stage(
     image: &[u8],
     index: &[u16],
     i: usize,
-    overlap: usize,
-    parents: usize,
+    overlap: Option<usize>,
+    parents: Option<usize>,
     firsts: &[u64],
     reach: &[u64],
     faces: usize,
     levels: &mut [u32],
 ) -> Result<(), Rejection>
     requires nodes_to { NodesTo image.now i × Index image.now index.now }
-    requires overlap_value { (overlap ≡ seek_from (overlap_at (tree_of image.now)) (node_count image.now) 0)
-        × (parents ≡ seek_from (parents_broken (tree_of image.now)) (node_count image.now) 0) }
+    requires overlap_value { (overlap ≡ if_below (node_count image.now) (seek_from (overlap_at (tree_of image.now)) (node_count image.now) 0))
+        × (parents ≡ if_below (node_count image.now) (seek_from (parents_broken (tree_of image.now)) (node_count image.now) 0)) }
     requires faces { Faces (tree_of image.now) firsts.now reach.now faces × (2048 ≤ length levels.old) }
     ensures { stage_tells result ≡ node_check_at (tree_of image.now) i }
 {
@@ -80,16 +81,16 @@ fn node_stage(
 fn every_node(
     image: &[u8],
     index: &[u16],
-    overlap: usize,
-    parents: usize,
+    overlap: Option<usize>,
+    parents: Option<usize>,
     firsts: &[u64],
     reach: &[u64],
     faces: usize,
     levels: &mut [u32],
 ) -> Result<(), Rejection>
     requires index { Index image.now index.now }
-    requires overlap_value { (overlap ≡ seek_from (overlap_at (tree_of image.now)) (node_count image.now) 0)
-        × (parents ≡ seek_from (parents_broken (tree_of image.now)) (node_count image.now) 0) }
+    requires overlap_value { (overlap ≡ if_below (node_count image.now) (seek_from (overlap_at (tree_of image.now)) (node_count image.now) 0))
+        × (parents ≡ if_below (node_count image.now) (seek_from (parents_broken (tree_of image.now)) (node_count image.now) 0)) }
     requires faces { Faces (tree_of image.now) firsts.now reach.now faces × (2048 ≤ length levels.old) }
     ensures { stage_tells result ≡ node_check (tree_of image.now) }
 {

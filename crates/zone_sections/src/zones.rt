@@ -1,5 +1,6 @@
 // The sections of a zone, one after the other in node order.
 ghost use Rattle.std.specs.Prelude.{◌≡◌, ◌+◌, ◌-◌, ◌≤◌, ◌<◌, length, get_or};
+ghost use Rattle.model.specs.Found.{if_below};
 ghost use Rattle.model.specs.Lists.{seek_from};
 ghost use Rattle.model.specs.Image.{tree_of, node_count};
 ghost use Rattle.model.specs.Containment.{section_of};
@@ -10,19 +11,12 @@ ghost use Rattle.zone_sections.specs.After.{sections_after, Onward};
 use super::entry::entry_of;
 use model::Section;
 
-// The first section of the zone after node i; the node count where there is none.
-fn section_after(image: &[u8], index: &[u16], zone: usize, i: usize) -> usize
+// The first section of the zone after node i.
+fn section_after(image: &[u8], index: &[u16], zone: usize, i: usize) -> Option<usize>
     requires { Index image.now index.now × (i < node_count image.now) }
-    ensures { (result ≡ seek_from (section_of (tree_of image.now) zone) (node_count image.now - (i + 1)) (i + 1))
-        × (result ≤ node_count image.now) }
+    ensures { result ≡ if_below (node_count image.now) (seek_from (section_of (tree_of image.now) zone) (node_count image.now - (i + 1)) (i + 1)) }
 {
-    let n = labels::node_count(image);
-    for j in i + 1..n {
-        if index::section_of(image, index, zone, j) {
-            return j;
-        }
-    }
-    n
+    (i + 1..labels::node_count(image)).find(|j| index::section_of(image, index, zone, *j))
 }
 
 // The entry of the zone's first section after node i, where there is one.
@@ -30,7 +24,7 @@ pub fn entry_after(image: &[u8], index: &[u16], zone: u64, i: u64) -> Section
     requires { Onward image.now index.now zone i }
     ensures { result ≡ entry (tree_of image.now) (get_or (sections_after (tree_of image.now) zone i) 0 0) }
 {
-    let s = section_after(image, index, zone as usize, i as usize);
+    let s = section_after(image, index, zone as usize, i as usize).unwrap();
     entry_of(image, index, s)
 }
 

@@ -4,7 +4,8 @@ use mathlib.Core.Path.{◌≡◌, ap, ◌∙◌}
 use mathlib.Core.Bool.{not}
 use lib.Dec.{eqb}
 use native.Mathlib.Omega.{arith}
-use borrow.Author.Tests.{eq-eqb, ne_eqb}
+use Rattle.std.proofs.Common.{Some}
+use Rattle.std.specs.Option.{option_eq}
 use Rattle.model.specs.Lists.{◌⊃◌}
 use Rattle.model.specs.Rules.{Check, check, rejected, ◌then◌}
 use Rattle.model.specs.Image.{Tree, tree_of}
@@ -26,7 +27,7 @@ module _ (c : Start) where
   ready : SectionContext c.args.image.now c.args.s
   ready = section_ready c.requires.nodes_to.0 c.requires.s_value.0 c.requires.s_value.1 c.requires.s_value_2
 
-  overlap : eqb c.args.s c.args.overlap ≡ overlaps (tree_of c.args.image.now) c.args.s
+  overlap : option_eq eqb c.args.overlap (Some c.args.s) ≡ overlaps (tree_of c.args.image.now) c.args.s
   overlap = overlap-is c.requires.nodes_to.0 (ready_ranged ready c.requires.s_value.0) c.requires.overlap_value.0
 
 pub whole-element_type-requires : goal.whole-element_type-requires
@@ -37,12 +38,11 @@ returns-then-not-is_supported c = ap rejected c.at.ensures
     ∙ type_broken _ _ (type_read _ _ c.whole-element_type.ensures) c.is_supported.ensures _
     (c.if-not-is_supported.true)
 
-pub returns-then-s-overlap : goal.returns-then-s-overlap
-returns-then-s-overlap c =
-    ap rejected c.at-then-s-overlap.ensures
+pub returns-then-eq : goal.returns-then-eq
+returns-then-eq c =
+    ap rejected c.at-then-eq.ensures
     ∙ overlap_broken _ _ (type_read _ _ c.whole-element_type.ensures) c.is_supported.ensures
-    (c.if-not-is_supported.false) (overlap (goal.at.returns-then-s-overlap c).Start) _
-    (eq-eqb _ _ c.if-s-overlap.true)
+    (c.if-not-is_supported.false) (c.eq.ensures ∙ overlap (goal.at.returns-then-eq c).Start) _ c.if-eq.true
 
 pub range_of-requires : goal.range_of-requires
 range_of-requires c =
@@ -73,23 +73,23 @@ module _ (c : After-array_stage) where
   left : {x : Check} (rest : Check) → x ≡ ((check s (shape_rules t s) then connectivity_check t s) then rest)
       → x ≡ (check s (element_rules t s) then reference_check t s then rest)
   left rest e =
-      arrays_left t s (type_read t s c.whole-element_type.ensures) c.is_supported.ensures (c.if-not-is_supported.false) (overlap-is c.requires.nodes_to.0 (ready_ranged prepared c.requires.s_value.0) c.requires.overlap_value.0) rest
-      (ne_eqb _ _ c.if-s-overlap.false) e
+      arrays_left t s (type_read t s c.whole-element_type.ensures) c.is_supported.ensures (c.if-not-is_supported.false)
+      (c.eq.ensures ∙ overlap-is c.requires.nodes_to.0 (ready_ranged prepared c.requires.s_value.0) c.requires.overlap_value.0) rest c.if-eq.false e
 
-  parents : eqb s c.args.parents ≡ not (found t (parents_of t s) ⊃ parents_lawful t s)
+  parents : option_eq eqb c.args.parents (Some s) ≡ not (found t (parents_of t s) ⊃ parents_lawful t s)
   parents = parents_is c.requires.nodes_to.0 prepared c.requires.s_value.0 c.requires.s_value_2 c.requires.overlap_value.1
 
 pub returns-in_err-array_stage : goal.returns-in_err-array_stage
 returns-in_err-array_stage c = let a = (goal.at.returns-in_err-array_stage c).After-array_stage in left a _ (stop a.array_stage.ensures _ _ _ c.in_err-array_stage.was c.from_residual.ensures.1)
 
-pub returns-then-s-parents : goal.returns-then-s-parents
-returns-then-s-parents c =
-    let a = (goal.at.returns-then-s-parents c).After-array_stage in
+pub returns-then-eq-2 : goal.returns-then-eq-2
+returns-then-eq-2 c =
+    let a = (goal.at.returns-then-eq-2 c).After-array_stage in
     left a _
     (go a.array_stage.ensures c.in_ok-array_stage.was
-    (ap rejected c.at-then-s-parents.ensures ∙ parents_broken_lem _ _ (parents a) (eq-eqb _ _ c.if-s-parents.true)))
+    (ap rejected c.at-then-eq-2.ensures ∙ parents_broken_lem _ _ (c.eq-2.ensures ∙ parents a) c.if-eq-2.true))
 
 pub returns : goal.returns
 returns c =
     let a = (goal.at.returns c).After-array_stage in
-    left a _ (go a.array_stage.ensures c.in_ok-array_stage.was (parents_kept _ _ (parents a) (ne_eqb _ _ c.if-s-parents.false)))
+    left a _ (go a.array_stage.ensures c.in_ok-array_stage.was (parents_kept _ _ (c.eq-2.ensures ∙ parents a) c.if-eq-2.false))

@@ -9,25 +9,23 @@ pub loop-k-init : goal.loop-k-init
 loop-k-init c =
     (known_parents _ c.requires.cells _ _ _ _ (none-covered _ _ _ _) c.first_unknown-k.ensures.passed, λ h. not_none _ _ _ _ _ (c.first_unknown-k.ensures.result_value h))
 
-pub interval_of-known-requires : goal.interval_of-known-requires
-interval_of-known-requires c = (c.requires.cells.ordered, c.requires.numbers.1)
+pub interval_of-requires : goal.interval_of-requires
+interval_of-requires c = (c.requires.cells.ordered, c.requires.numbers.1)
 
-pub returns-then-known-eq0 : goal.returns-then-known-eq0
-returns-then-known-eq0 c =
+pub returns-in_default : goal.returns-in_default
+returns-in_default c =
     let h = c.loop-k-test.true in
-    failed_every _ _ _ h
-    (no_parent_lem _ c.requires.cells _ _ _ _ _ c.number_at-x.ensures c.interval_of-known.ensures.size_value (c.loop-k.invariant.1 h)
-    c.if-known-eq0.true)
+    failed_every _ _ _ h (no_parent_lem _ c.requires.cells _ _ _ _ _ c.number_at-x.ensures (c.loop-k.invariant.1 h) c.in_default.ensures)
 
 pub first_unknown-k-requires-in-loop-k : goal.first_unknown-k-requires-in-loop-k
 first_unknown-k-requires-in-loop-k c =
-    record { numbers = (c.requires.numbers.0, omega (arith, c.loop-k-test.true)); size_bound = c.interval_of-known.ensures.covered.small }
+    record { numbers = (c.requires.numbers.0, omega (arith, c.loop-k-test.true)); size_bound = c.in-Some.ensures.0.small }
 
 pub loop-k-preserved : goal.loop-k-preserved
 loop-k-preserved c =
     let g = c.requires.cells in (
       passed_on (passed_more c.loop-k.invariant.0 c.loop-k-test.true
-          (found-parent _ g _ _ _ _ _ c.number_at-x.ensures c.interval_of-known.ensures.size_value c.if-known-eq0.false)) (known_parents _ g _ _ _ _ c.interval_of-known.ensures.covered c.first_unknown-k-in-loop-k.ensures.passed),
+          (found-parent _ g _ _ _ _ _ c.number_at-x.ensures c.in-Some.ensures.0 c.in-Some.ensures.1)) (known_parents _ g _ _ _ _ c.in-Some.ensures.0 c.first_unknown-k-in-loop-k.ensures.passed),
       λ h. not_none _ _ _ _ _ (c.first_unknown-k-in-loop-k.ensures.result_value h),
     )
 

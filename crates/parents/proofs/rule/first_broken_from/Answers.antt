@@ -1,21 +1,15 @@
--- No node before i breaks the rule.
-use mathlib.Core.Path.{◌≡◌, sym, ◌∙◌}
-use native.Mathlib.Omega.{arith}
-use Rattle.model.proofs.Loops.{seek_more, seek_stop, seek_done}
-use Rattle.parents.proofs.ParentLaws.{start_broken}
+-- The first node that breaks the rule, where the call found one.
+use Rattle.std.proofs.Common.{◌≡◌, true, false, rules}
+use Rattle.std.proofs.lemmas.Iterator.{first_from_Range}
+use borrow.Author.Tests.{tests}
+use Rattle.model.specs.Image.{tree_of}
+use Rattle.parents.specs.Parents.{parents_broken}
+use Rattle.parents.proofs.ParentLaws.{found_broken}
 use Rattle.parents.proofs.rule.first_broken_from.Goals as goal
-
-pub loop-i-init : goal.loop-i-init
-loop-i-init c = let n = c.node_count-nodes.ensures.0 in rw n (start_broken _ _ c.requires.start_value)
-
-pub returns-then-is_broken : goal.returns-then-is_broken
-returns-then-is_broken c =
-    rw (← c.node_count-nodes.ensures.0) (seek_stop c.loop-i.invariant (omega arith) (sym c.is_broken.ensures ∙ c.if-is_broken.true))
-
-pub loop-i-preserved : goal.loop-i-preserved
-loop-i-preserved c = seek_more c.loop-i.invariant (omega arith) (sym c.is_broken.ensures ∙ c.if-is_broken.false)
 
 pub returns : goal.returns
 returns c =
-    let e : c.node_count-nodes.result ≡ c.loop-i.i = omega (arith, c.loop-i.invariant.inside) in
-    e ∙ rw (← c.node_count-nodes.ensures.0) (seek_done c.loop-i.invariant (omega arith))
+    let t = tree_of c.args.image.now in
+    let p = parents_broken t in
+    found_broken t _ c.requires.start_value c.find.result
+    (rw c.node_count.ensures.0 at (first_from_Range _ _ _ c.find.result (λ i. p i ≡ true) (λ i. p i ≡ false) c.find.ensures.ran (λ i q k. search (rules, tests)) (λ i q k. search (rules, tests))))

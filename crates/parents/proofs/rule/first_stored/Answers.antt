@@ -1,20 +1,15 @@
--- No node before i stores parents.
-use mathlib.Core.Path.{◌≡◌, ◌∙◌}
-use native.Mathlib.Omega.{arith}
-use Rattle.model.proofs.Loops.{seek_more, seek_stop, seek_done}
-use Rattle.parents.proofs.ParentLaws.{has_parents_lem, no_parents}
+-- The first node that stores parents, where the call found one.
+use Rattle.std.proofs.Common.{◌≡◌, true, false, rules}
+use Rattle.std.proofs.lemmas.Iterator.{first_from_Range}
+use borrow.Author.Tests.{tests}
+use Rattle.model.specs.Image.{tree_of}
+use Rattle.model.proofs.Found.{seek_found}
+use Rattle.parents.specs.Parents.{stores_parents}
+use Rattle.parents.proofs.ParentLaws.{some_stored}
 use Rattle.parents.proofs.rule.first_stored.Goals as goal
-
-pub returns-then-parents_if-nodes : goal.returns-then-parents_if-nodes
-returns-then-parents_if-nodes c =
-    let n = c.node_count-nodes.ensures.0 in
-    rw (← n) (seek_stop c.loop-i.invariant (omega arith) (has_parents_lem c.parents_if.ensures (omega (arith, n, c.if-parents_if-nodes.true))))
-
-pub loop-i-preserved : goal.loop-i-preserved
-loop-i-preserved c =
-    seek_more c.loop-i.invariant (omega arith) (no_parents c.parents_if.ensures (omega (arith, c.node_count-nodes.ensures.0, c.if-parents_if-nodes.false)))
 
 pub returns : goal.returns
 returns c =
-    let e : c.node_count-nodes.result ≡ c.loop-i.i = omega (arith, c.loop-i.invariant.inside) in
-    e ∙ rw (← c.node_count-nodes.ensures.0) (seek_done c.loop-i.invariant (omega arith))
+    let p = stores_parents (tree_of c.args.image.now) in
+    rw c.node_count.ensures.0 at (seek_found p _ c.find.result
+    (first_from_Range _ _ _ c.find.result (λ i. p i ≡ true) (λ i. p i ≡ false) c.find.ensures.ran (λ i q k. search (rules, tests, some_stored)) (λ i q k. search (rules, tests, some_stored))))

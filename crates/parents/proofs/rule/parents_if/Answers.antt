@@ -9,22 +9,18 @@ use Rattle.parents.proofs.rule.parents_if.Goals as goal
 
 pub returns-then-kind_of-ne-ELEMENTS : goal.returns-then-kind_of-ne-ELEMENTS
 returns-then-kind_of-ne-ELEMENTS c =
-    let n = c.node_count-nodes.ensures.0 in
     let p = c.requires in
     let k = sym (kind_as _ p.0.sound _ 7 p.1 (omega arith)) ∙ ne_eqb _ 7 (λ e. c.if-kind_of-ne-ELEMENTS.true (c.kind_of.ensures.0 ∙ e)) in
-    parents_none _ _ (not-section _ _ _ k) n
+    parents_none _ _ (not-section _ _ _ k)
 
-pub returns-then-nodes-range_if : goal.returns-then-nodes-range_if
-returns-then-nodes-range_if c =
-    let n = c.node_count-nodes.ensures.0 in
-    parents_none _ _ (no_range c.range_if.ensures (omega (arith, n, c.if-nodes-range_if.true))) n
+pub returns-in_err-range_if : goal.returns-in_err-range_if
+returns-in_err-range_if c = c.from_residual.ensures ∙ parents_none _ _ (no_range _ _ _ (sym c.in_err-range_if.was ∙ c.range_if.ensures))
 
-pub parents_of-requires : goal.parents_of-requires
-parents_of-requires c =
+pub parents_of-j-requires : goal.parents_of-j-requires
+parents_of-j-requires c =
     let p = c.requires in
-    let e = has-range c.range_if.ensures (omega (arith, c.node_count-nodes.ensures.0, c.if-nodes-range_if.false)) in
+    let e = (has-range _ _ _ c.in_ok-range_if.ensures).0 in
     record { index = p; s_value = faces_kind p.0.sound _ e; element_type_value = faces_type p.0.sound _ e }
 
 pub returns : goal.returns
-returns c =
-    parents_by _ _ (has-range c.range_if.ensures (omega (arith, c.node_count-nodes.ensures.0, c.if-nodes-range_if.false))) c.parents_of.ensures.0
+returns c = c.then_some.ensures ∙ rw c.node_count.ensures.0 (parents_by _ _ (has-range _ _ _ c.in_ok-range_if.ensures).0 c.parents_of-j.ensures.0)

@@ -11,7 +11,7 @@ first_no_face-requires c =
 
 pub returns-then-row-faces : goal.returns-then-row-faces
 returns-then-row-faces c =
-    first-face c.requires.sound.0 _ c.requires.row_of _ c.parent_of-z.ensures.0 c.first_no_face.ensures
+    first-face c.requires.sound.0 _ c.requires.row_of _ c.parent_of-z.ensures.0 c.first_no_face.result c.first_no_face.ensures
 
 pub build-tree-requires : goal.build-tree-requires
 build-tree-requires c =
@@ -24,4 +24,4 @@ first_no_face-requires-2 c =
 
 pub returns : goal.returns
 returns c =
-    first-face c.requires.sound.0 _ c.requires.row_of _ c.parent_of-z.ensures.0 c.first_no_face-2.ensures
+    first-face c.requires.sound.0 _ c.requires.row_of _ c.parent_of-z.ensures.0 c.first_no_face-2.result c.first_no_face-2.ensures

@@ -1,6 +1,7 @@
 -- No node before i meets an earlier one, and their ranges are gathered.
-use mathlib.Core.Path.{◌≡◌, sym, ◌∙◌}
+use mathlib.Core.Path.{sym, ◌∙◌}
 use Rattle.model.proofs.Loops.{seek_start, seek_more, seek_stop, seek_done}
+use Rattle.model.proofs.Found.{is_some, is_none}
 use Rattle.ranges.proofs.Gathering.{gathered_start}
 use native.Mathlib.Omega.{arith}
 use Rattle.section_data.proofs.element_ranges.first_overlap.Goals as goal
@@ -10,7 +11,7 @@ loop-i-init c = record { left = seek_start _ _ 0 (omega arith) (λ j h. absurd (
 
 pub returns-then-meets_earlier : goal.returns-then-meets_earlier
 returns-then-meets_earlier c =
-    rw (← c.node_count-nodes.ensures.0) (seek_stop c.loop-i.invariant.left (omega arith) (sym c.meets_earlier.ensures ∙ c.if-meets_earlier.true))
+    rw (← c.node_count-nodes.ensures.0, ← seek_stop c.loop-i.invariant.left (omega arith) (sym c.meets_earlier.ensures ∙ c.if-meets_earlier.true)) (sym (is_some (omega arith)))
 
 pub loop-i-preserved : goal.loop-i-preserved
 loop-i-preserved c = record {
@@ -20,5 +21,4 @@ loop-i-preserved c = record {
 
 pub returns : goal.returns
 returns c =
-    let e : c.node_count-nodes.result ≡ c.loop-i.i = omega arith in
-    rw (← c.node_count-nodes.ensures.0) (e ∙ seek_done c.loop-i.invariant.left (omega arith))
+    rw (← c.node_count-nodes.ensures.0, ← seek_done c.loop-i.invariant.left (omega arith)) (sym (is_none (omega arith)))

@@ -1,20 +1,15 @@
--- The nodes after i, one after the other: the first that is a section of the zone is the one.
-use mathlib.Core.Path.{◌≡◌, refl, sym, ◌∙◌}
-use Rattle.model.proofs.Loops.{seek_more, seek_stop, seek_done}
-use native.Mathlib.Omega.{arith}
+-- The first node after i that is a section of the zone, where the call found one.
+use Rattle.std.proofs.Common.{◌≡◌, true, false, rules, arith}
+use Rattle.std.proofs.lemmas.Iterator.{first_from_Range}
+use borrow.Author.Tests.{tests}
+use Rattle.model.specs.Image.{tree_of}
+use Rattle.model.specs.Containment.{section_of}
+use Rattle.zone_sections.proofs.After.{found_after}
 use Rattle.zone_sections.proofs.zones.section_after.Goals as goal
-
-pub loop-j-init : goal.loop-j-init
-loop-j-init c = record { inside = omega arith; rest = refl }
-
-pub returns-then-section_of : goal.returns-then-section_of
-returns-then-section_of c = (seek_stop c.loop-j.invariant (omega arith) (sym c.section_of.ensures ∙ c.if-section_of.true), omega arith)
-
-pub loop-j-preserved : goal.loop-j-preserved
-loop-j-preserved c = seek_more c.loop-j.invariant (omega arith) (sym c.section_of.ensures ∙ c.if-section_of.false)
 
 pub returns : goal.returns
 returns c =
-    let l = c.loop-j in
-    let e : c.node_count-n.result ≡ l.j = omega (arith, l.invariant.inside) in
-    (e ∙ seek_done l.invariant (omega arith), omega arith)
+    let p = section_of (tree_of c.args.image.now) c.args.zone in
+    found_after p _ _ c.find.result (omega arith)
+    (rw c.node_count.ensures.0 at (first_from_Range _ _ _ c.find.result (λ j. p j ≡ true) (λ j. p j ≡ false) c.find.ensures.ran
+    (λ j q k. search (rules, tests)) (λ j q k. search (rules, tests))))
