@@ -17,6 +17,8 @@ ghost use Rattle.array_values.specs.Readable.{readable};
 use model::{ArrayValue, Rejection};
 use records::{Header, RecordNumbers, data_types};
 
+// Singles and doubles have functions of their own, here and below: a trait over both would be longer.
+
 // Whether the bits of a single are a NaN's.
 fn nan_single(bits: u32) -> bool
     ensures { result ≡ nan_bits binary32 bits }

@@ -4,6 +4,7 @@
 
 ghost use Rattle.std.specs.Prelude.{◌≡◌, ◌*◌, ◌≤◌, ◌<◌, length};
 ghost use Rattle.model.specs.Lists.{seek_from};
+ghost use Rattle.model.specs.Found.{if_below};
 ghost use Rattle.model.specs.Records.{name_taken};
 ghost use Rattle.records.specs.Table.{all_records, HasRecord};
 ghost use Rattle.name_order.specs.Order.{precedes, node_at, right_at, ordered, taken_beside, HasNodes};
@@ -113,22 +114,20 @@ fn is_taken(table: &[u8], count: usize, order: &[u16], holds: bool, i: usize) ->
     is_taken_before(table, i)
 }
 
-// The first node whose name is taken, by an order that is checked here; count where there is none.
-fn first_by(table: &[u8], count: usize, order: &[u16]) -> usize
+// The first node whose name is taken, by an order that is checked here.
+fn first_by(table: &[u8], count: usize, order: &[u16]) -> Option<usize>
     requires { HasNodes table.now count × (16384 ≤ length order.now) }
-    ensures { result ≡ seek_from (name_taken (all_records table.now)) count 0 }
+    ensures { result ≡ if_below count (seek_from (name_taken (all_records table.now)) count 0) }
 {
     let holds = is_ordered(table, count, order);
-    (0..count)
-        .find(|i| is_taken(table, count, order, holds, *i))
-        .unwrap_or(count)
+    (0..count).find(|i| is_taken(table, count, order, holds, *i))
 }
 
-// The first node with the name of an earlier sibling; count where there is none. The lent table is overwritten, whatever it holds.
-pub fn first_taken(table: &[u8], count: usize, order: &mut [u16]) -> usize
+// The first node with the name of an earlier sibling. The lent table is overwritten, whatever it holds.
+pub fn first_taken(table: &[u8], count: usize, order: &mut [u16]) -> Option<usize>
     requires count_bound { (count ≤ 4096) × (84 * count ≤ length table.now) }
     requires in_bounds { 16384 ≤ length order.old }
-    ensures { result ≡ seek_from (name_taken (all_records table.now)) count 0 }
+    ensures { result ≡ if_below count (seek_from (name_taken (all_records table.now)) count 0) }
 {
     sort::sort(table, count, order);
     put_places(count, order);

@@ -93,15 +93,13 @@ pub fn magnitude_at(image: &[u8], row: Row, k: usize) -> u64
 }
 
 // Of a row of start offsets, one more than there are elements: the first element that ends after entry k; how many there are where none does.
+// A number where none does too, since the model's `element_holding` adds it to the section's first element whatever k is.
 pub fn ends_after(image: &[u8], row: Row, k: u64) -> usize
     requires { Numbers image.now row.at row.width row.n × (0 < row.n) }
     ensures { (result ≡ seek_from (ends_after_at image.now row k) (row.n - 1) 0) × (result < row.n) }
 {
     let n = row.n - 1;
-    for j in 0..n {
-        if k < number_at(image, row, j + 1) {
-            return j;
-        }
-    }
-    n
+    (0..n)
+        .find(|j| k < number_at(image, row, *j + 1))
+        .unwrap_or(n)
 }

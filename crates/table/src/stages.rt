@@ -12,7 +12,7 @@ ghost use Rattle.table.specs.Groups.{place_rules, text_rules, type_rules, size_r
 ghost use Rattle.table.specs.Siblings.{Names, NamesAt};
 ghost use Rattle.table.specs.Sums.{Sums};
 
-use super::siblings::Walked;
+use super::siblings::Known;
 use super::{reject, siblings, sizes, tree};
 use model::Rejection;
 use records::{RecordNumbers, TableSize, nodes};
@@ -38,10 +38,10 @@ fn text_stage(
     i: usize,
     key: usize,
     seen: &[u16],
-    taken: usize,
+    known: Known,
 ) -> Result<(), Rejection>
     requires has_record { HasRecord table.now i }
-    requires key_value { (key ≡ key_at (all_records table.now) i) × NamesAt table.now i taken seen.now }
+    requires key_value { (key ≡ key_at (all_records table.now) i) × NamesAt table.now i known seen.now }
     ensures { stage_tells result ≡ check i (text_rules (all_records table.now) i) }
 {
     if !texts::name_lawful(table, i) {
@@ -50,7 +50,7 @@ fn text_stage(
     if !texts::label_lawful(table, i) {
         return reject(10, i);
     }
-    if siblings::is_taken(table, i, key, seen, taken) {
+    if siblings::is_taken(table, i, key, seen, known) {
         return reject(11, i);
     }
     Ok(())
@@ -109,14 +109,14 @@ fn record_stage(
     bytes: u64,
     key: usize,
     seen: &[u16],
-    taken: usize,
+    known: Known,
 ) -> Result<(), Rejection>
     requires table_to { (TableTo table.now size i × Sums table.now size i words bytes) × (r ≡ numbers_of (table_tree table.now size) i) }
-    requires key_value { (key ≡ key_at (all_records table.now) i) × Names table.now size.nodes i taken seen.now }
+    requires key_value { (key ≡ key_at (all_records table.now) i) × Names table.now size.nodes i known seen.now }
     ensures { stage_tells result ≡ record_check_at (table_tree table.now size) i }
 {
     place_stage(table, i)?;
-    text_stage(table, i, key, seen, taken)?;
+    text_stage(table, i, key, seen, known)?;
     type_stage(table, i, r.rank)?;
     size_stage(table, size, i, r, words, bytes)
 }
@@ -140,17 +140,14 @@ fn node_stages(table: &[u8], size: TableSize, seen: &mut [u16]) -> Result<(), Re
     let count = size.nodes;
     let mut words: u64 = 0;
     let mut bytes: u64 = 0;
-    let mut names = Walked {
-        taken: siblings::UNORDERED,
-        left: siblings::SEARCHES,
-    };
+    let mut known = Known::ByKeys(siblings::SEARCHES);
     for i in 0..count {
         let key = texts::name_key(table, i);
         let r = nodes::numbers(table, i);
-        record_stage(table, size, i, r, words, bytes, key, seen, names.taken)?;
+        record_stage(table, size, i, r, words, bytes, key, seen, known)?;
         words += r.rank;
         bytes += r.data_size;
-        names = siblings::next(names, table, count, i, key, seen);
+        known = siblings::next(known, table, count, i, key, seen);
     }
     if !sums_match(words, size.words, bytes, size.bytes) {
         return reject(18, count);

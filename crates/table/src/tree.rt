@@ -22,6 +22,7 @@ pub fn parent_lawful(table: &[u8], i: usize) -> bool
 }
 
 // Rule 8: whether node i is deeper than 32. It walks up at most so many parents.
+// `writer_rules::line` has one of its own, since the node that it asks about is in no table yet.
 pub fn is_too_deep(table: &[u8], i: usize) -> bool
     requires { HasRecord table.now i × (LawfulBefore table.now i × (parent_lawful (all_records table.now) i ≡ true)) }
     ensures { result ≡ deeper_than (all_records table.now) 32 i }

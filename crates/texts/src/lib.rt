@@ -20,7 +20,7 @@ const BLANK: u8 = 32;
 
 pub const SLASH: u8 = 47;
 
-// The place past the last byte of a name.
+// The place past the last byte of a name, which the model's `first_difference` answers where no byte differs.
 pub const NONE_DIFFERS: usize = 33;
 
 // Whether a byte may stand in a text that bars one byte.

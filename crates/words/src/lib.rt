@@ -60,6 +60,7 @@ fn same_bytes(x: u64, y: u64) -> usize
 
 // The place, from 1, of the first byte in which two fields of 32 bytes differ; 33 where none does. It leaves off at the word
 // that has it.
+// A number where none differs too: it is the model's `first_difference`, of which the name bytes are a sum.
 pub fn first_difference(a: &[u8], p: usize, b: &[u8], q: usize) -> usize
     requires { (p + 32 ≤ length a.now) × (q + 32 ≤ length b.now) }
     ensures { (result ≡ first_difference (take 32 (drop p a.now)) (take 32 (drop q b.now))) × ((1 ≤ result) × (result ≤ 33)) }

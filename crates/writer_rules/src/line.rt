@@ -57,6 +57,7 @@ fn line_lawful(state: Writer, parent: u64, room: &[u8]) -> bool
 }
 
 // Rule 8: whether the next node is deeper than 32. It walks up at most so many parents.
+// Apart from `table::tree::is_too_deep`, since this node is in no table yet: its parent is told.
 fn is_too_deep(state: Writer, parent: u64, room: &[u8]) -> bool
     requires node_in_bounds { record_at state.node ≤ length room.now }
     requires node_value { (a : Addition) → a.parent ≡ parent → line_lawful (tree_with state a room.now) state.node state.node ≡ true }

@@ -7,13 +7,13 @@ use Rattle.model.proofs.Passed.{check_from-off, then-off}
 use Rattle.model.proofs.Staging.{handed, passes, refuses}
 use Rattle.records.specs.Fields.{numbers_of}
 use Rattle.records.specs.Table.{table_tree, TableTo}
-use Rattle.table.proofs.Taken.{names_start}
+use Rattle.texts.proofs.Marks.{seen_start}
 use Rattle.table.proofs.Progress.{Progress, progress_start, progress_to, progress_on, numbers-here, trails_by, trails_on, trails_off}
 use Rattle.table.proofs.stages.node_stages.Goals as goal
 use Rattle.table.proofs.stages.node_stages.Goals.{After-numbers-r, After-sums_match, In_ok-record_stage}
 
 pub loop-i-init : goal.loop-i-init
-loop-i-init c = (progress_start _ _, names_start _ _ _ c.requires.1.0 c.requires.1.1, refl)
+loop-i-init c = (progress_start _ _, seen_start _ _ c.requires.1.0 c.requires.1.1, refl)
 
 -- what is known where node i was read
 reached : (k : After-numbers-r) → TableTo k.args.table.now k.args.size k.loop-i.i
@@ -51,14 +51,14 @@ overflow_add-words c = omega (arith, (further (goal.at.overflow_add-words c).In_
 pub overflow_add-bytes : goal.overflow_add-bytes
 overflow_add-bytes c = omega (arith, (further (goal.at.overflow_add-bytes c).In_ok-record_stage).sums.bytes_in)
 
-pub next-names-requires : goal.next-names-requires
-next-names-requires c =
+pub next-known-requires : goal.next-known-requires
+next-known-requires c =
     let p = c.requires in
-    record { count_bound = ((p.0.few, omega (arith, p.0.room)), omega (arith, p.1.0, c.loop-i.invariant.2)); i_lt_count = ((reached (goal.at.next-names-requires c).After-numbers-r).inside, (c.name_key-key.ensures, c.loop-i.invariant.1)) }
+    record { count_bound = ((p.0.few, omega (arith, p.0.room)), omega (arith, p.1.0, c.loop-i.invariant.2)); i_lt_count = ((reached (goal.at.next-known-requires c).After-numbers-r).inside, (c.name_key-key.ensures, c.loop-i.invariant.1)) }
 
 pub loop-i-preserved : goal.loop-i-preserved
 loop-i-preserved c =
-    (further (goal.at.loop-i-preserved c).In_ok-record_stage, c.next-names.ensures, c.next-names.auto.seen ∙ c.loop-i.invariant.2)
+    (further (goal.at.loop-i-preserved c).In_ok-record_stage, c.next-known.ensures, c.next-known.auto.seen ∙ c.loop-i.invariant.2)
 
 -- the sums are those of all nodes
 trails : (o : After-sums_match)

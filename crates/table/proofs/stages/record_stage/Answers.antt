@@ -14,7 +14,7 @@ returns-in_err-place_stage c =
 pub text_stage-requires : goal.text_stage-requires
 text_stage-requires c =
     let t = c.requires.table_to.0.0 in
-    record { has_record = (omega arith, omega arith); key_value = (c.requires.key_value.0, names_at c.requires.key_value.1 t.inside (free_before t)) }
+    record { has_record = (omega arith, omega arith); key_value = (c.requires.key_value.0, names_at _ t.inside (free_before t) _ _ c.requires.key_value.1) }
 
 pub returns-in_err-text_stage : goal.returns-in_err-text_stage
 returns-in_err-text_stage c =
