@@ -1,15 +1,15 @@
 -- Each row is what the placing table and the fixed names give, cell by cell.
-use mathlib.Core.Path.{◌≡◌, refl, ap}
-use borrow.Author.Rules.{rules}
+use mathlib.Core.Path.{refl, ap}
+use mathlib.Core.List.{[], ◌∷◌}
 use Rattle.model.specs.Lists.{every_from, among, row}
 use Rattle.model.specs.Bytes.{spells, blank, text, place_from}
 use Rattle.model.specs.Containment.{may_hold, containment, fixed_name, fixed_names}
 use Rattle.labels.specs.Padded.{known_names}
-use Rattle.labels.specs.Cells.{Digits, cell_of}
-use Rattle.labels.specs.declared.roles.Role.{Role}
-use Rattle.labels.proofs.Arms.{row_of}
+use Rattle.labels.specs.Cells.{cell_of}
+use Rattle.labels.proofs.Arms.{row_of, row-rest}
 use Rattle.labels.specs.Roles.{role_number}
 use Rattle.labels.specs.declared.roles.Role.TheVariants as v
+use Rattle.labels.proofs.Numbers.{role_few, not_role}
 use Rattle.labels.proofs.containment.row.Goals as goal
 
 pub returns-in-Base : goal.returns-in-Base
@@ -40,26 +40,18 @@ pub returns-in-Root : goal.returns-in-Root
 unfolding every_from cell_of may_hold among row containment place_from fixed_name fixed_names known_names spells blank text
 returns-in-Root c = row_of cell_of 16 15 _ refl (ap role_number c.in-Root.is)
 
--- another role
-none_held : (r : Role) → (r ≡ v.Base → ⊥) → (r ≡ v.Zone → ⊥) → (r ≡ v.GridCoordinates → ⊥) → (r ≡ v.FlowSolution → ⊥) → (r ≡ v.Elements → ⊥)
-    → (r ≡ v.DataArray → ⊥) → (r ≡ v.Root → ⊥) → Digits (cell_of (role_number r)) 16 0
-unfolding every_from cell_of may_hold among row containment place_from fixed_name fixed_names known_names spells blank text
-none_held v.LibraryVersion n0 n1 n2 n3 n4 n5 n6 = row_of cell_of 16 1 _ refl refl
-none_held v.Base n0 n1 n2 n3 n4 n5 n6 = absurd (n0 refl)
-none_held v.Zone n0 n1 n2 n3 n4 n5 n6 = absurd (n1 refl)
-none_held v.ZoneType n0 n1 n2 n3 n4 n5 n6 = row_of cell_of 16 4 _ refl refl
-none_held v.GridCoordinates n0 n1 n2 n3 n4 n5 n6 = absurd (n2 refl)
-none_held v.FlowSolution n0 n1 n2 n3 n4 n5 n6 = absurd (n3 refl)
-none_held v.Elements n0 n1 n2 n3 n4 n5 n6 = absurd (n4 refl)
-none_held v.IndexRange n0 n1 n2 n3 n4 n5 n6 = row_of cell_of 16 8 _ refl refl
-none_held v.Rind n0 n1 n2 n3 n4 n5 n6 = row_of cell_of 16 9 _ refl refl
-none_held v.GridLocation n0 n1 n2 n3 n4 n5 n6 = row_of cell_of 16 10 _ refl refl
-none_held v.DataArray n0 n1 n2 n3 n4 n5 n6 = absurd (n5 refl)
-none_held v.Descriptor n0 n1 n2 n3 n4 n5 n6 = row_of cell_of 16 12 _ refl refl
-none_held v.UserDefinedData n0 n1 n2 n3 n4 n5 n6 = row_of cell_of 16 13 _ refl refl
-none_held v.IndexArray n0 n1 n2 n3 n4 n5 n6 = row_of cell_of 16 14 _ refl refl
-none_held v.Root n0 n1 n2 n3 n4 n5 n6 = absurd (n6 refl)
-
 pub returns-in_default : goal.returns-in_default
+unfolding every_from cell_of may_hold among row containment place_from fixed_name fixed_names known_names spells blank text
 returns-in_default c =
-    none_held c.args.above (search rules) (search rules) (search rules) (search rules) (search rules) (search rules) (search rules)
+    let o = not_role c.args.above in
+    let d = c.in_default in
+    row-rest cell_of 16 _ (15 ∷ 11 ∷ 7 ∷ 6 ∷ 5 ∷ 3 ∷ 2 ∷ []) refl (role_few c.args.above).1 (
+      (
+        (
+          ((((tt, o v.Base d.not-Base), o v.Zone d.not-Zone), o v.GridCoordinates d.not-GridCoordinates), o v.FlowSolution d.not-FlowSolution),
+          o v.Elements d.not-Elements,
+        ),
+        o v.DataArray d.not-DataArray,
+      ),
+      o v.Root d.not-Root,
+    )
