@@ -11,7 +11,7 @@ ghost use Rattle.parents.specs.Parents.{pair_at, stores_parents, parents_broken,
 
 use super::columns::are_cells;
 use element_types::NGON;
-use labels::roles::ELEMENTS;
+use labels::Role;
 use records::data_types::{I4, I8};
 use rows::Row;
 use section_data::{element_count, range_if};
@@ -77,7 +77,7 @@ fn parents_if(image: &[u8], index: &[u16], i: usize) -> usize
     ensures { ParentsOf image.now i result }
 {
     let nodes = labels::node_count(image);
-    if index::kind_of(image, index, i) != ELEMENTS {
+    if !index::validated_as(image, index, Role::Elements, i) {
         return nodes;
     }
     if nodes <= range_if(image, index, NGON, i) {

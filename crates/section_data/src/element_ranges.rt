@@ -12,7 +12,7 @@ ghost use Rattle.section_data.specs.Given.{Ranged};
 ghost use Rattle.section_data.specs.Ranges.{is_wanted, is_ranged, first_key, last_key, overlap_at, RangeOf, of_type, TableOf, Faces, Cells};
 
 use element_types::{NFACE, NGON};
-use labels::roles::ELEMENTS;
+use labels::Role;
 use records::data_types::I4;
 use sids::range_of;
 
@@ -49,7 +49,7 @@ pub fn range_if(image: &[u8], index: &[u16], element_type: u64, i: usize) -> usi
     requires { Index image.now index.now × (i < node_count image.now) }
     ensures { RangeOf image.now element_type i result }
 {
-    if index::kind_of(image, index, i) != ELEMENTS {
+    if !index::validated_as(image, index, Role::Elements, i) {
         return labels::node_count(image);
     }
     if !is_wanted(image, element_type, i) {
@@ -223,7 +223,7 @@ fn has_element(image: &[u8], index: &[u16], z: usize, e: u64, i: usize) -> bool
     if records::parent_of(image, i) != z {
         return false;
     }
-    if index::kind_of(image, index, i) != ELEMENTS {
+    if !index::validated_as(image, index, Role::Elements, i) {
         return false;
     }
     section_has(image, index, i, e)

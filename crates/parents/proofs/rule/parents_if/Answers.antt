@@ -2,17 +2,13 @@
 use mathlib.Core.Path.{sym, ◌∙◌}
 use native.Mathlib.Omega.{arith}
 use borrow.Author.Tests.{ne_eqb}
-use Rattle.index.proofs.Marking.{kind_as}
 use Rattle.section_data.proofs.RangeLaws.{not-section, has-range, no_range}
 use Rattle.parents.proofs.ParentLaws.{faces_kind, faces_type, parents_none, parents_by}
 use Rattle.parents.proofs.rule.parents_if.Goals as goal
 
-pub returns-then-kind_of-ne-ELEMENTS : goal.returns-then-kind_of-ne-ELEMENTS
-returns-then-kind_of-ne-ELEMENTS c =
-    let n = c.node_count-nodes.ensures.0 in
-    let p = c.requires in
-    let k = sym (kind_as _ p.0.sound _ 7 p.1 (omega arith)) ∙ ne_eqb _ 7 (λ e. c.if-kind_of-ne-ELEMENTS.true (c.kind_of.ensures.0 ∙ e)) in
-    parents_none _ _ (not-section _ _ _ k) n
+pub returns-then-not-validated_as : goal.returns-then-not-validated_as
+returns-then-not-validated_as c =
+    parents_none _ _ (not-section _ _ _ (sym c.validated_as.ensures ∙ c.if-not-validated_as.true)) c.node_count-nodes.ensures.0
 
 pub returns-then-nodes-range_if : goal.returns-then-nodes-range_if
 returns-then-nodes-range_if c =
