@@ -12,7 +12,7 @@ ghost use Rattle.parents.specs.Parents.{pair_at, stores_parents, parents_broken,
 
 use super::columns::are_cells;
 use element_types::NGON;
-use labels::roles::ELEMENTS;
+use labels::Role;
 use records::data_types::{I4, I8};
 use rows::Row;
 use section_data::{element_count, range_if};
@@ -77,7 +77,7 @@ fn parents_if(image: &[u8], index: &[u16], i: usize) -> Option<usize>
     requires { Index image.now index.now × (i < node_count image.now) }
     ensures { result ≡ parents_if (tree_of image.now) i }
 {
-    if index::kind_of(image, index, i) != ELEMENTS {
+    if !index::validated_as(image, index, Role::Elements, i) {
         return None;
     }
     range_if(image, index, NGON, i)?;
