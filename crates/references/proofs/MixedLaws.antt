@@ -23,7 +23,6 @@ use Rattle.model.proofs.Layouts.{no_type_between}
 use Rattle.model.proofs.TwosComplement.{rise-last}
 use Rattle.rows.specs.declared.Row.{Row}
 use Rattle.rows.specs.Rows.{Numbers}
-use Rattle.std.proofs.Common.{Option, None, Some, MatchOption}
 use Rattle.references.specs.Arrays.{is_within, Failing}
 use Rattle.references.specs.Groups.{shape_rules, type_rules, connectivity_check}
 use Rattle.section_data.specs.Given.{RowOf}
@@ -113,14 +112,14 @@ module _ (b : List ℕ) (s : ℕ) (e : element_type_of (tree_of b) s ≡ MIXED) 
           (no_type_between (tree_of b) s start_rises k p h (rw (start_is k (omega arith)) from) (rw (start_is (suc k) h) to)))
 
       -- the nodes of element k
-      element-nodes : (k : ℕ) → k < element_count (tree_of b) s → (place : Option ℕ)
+      element-nodes : (k : ℕ) → k < element_count (tree_of b) s → {place : ℕ}
           → Failing (is_within b c.at c.width limit) c.n (start_at b o k + 1) (start_at b o (suc k)) place
           → Failing (is_node (tree_of b) s) c.n (start_at b o k) (start_at b o (suc k)) place
-      element-nodes k h place f =
-          failing_behind (filled.rise k h) (first-type k h) (λ p from to. sym (others-nodes k p h from to)) c.n place f
+      element-nodes k h f =
+          failing_behind (filled.rise k h) (start_inside filled k h) (first-type k h) (λ p from to. sym (others-nodes k p h from to)) f
 
 -- the pass over the elements: k of them have a type that fits, and `place` tells of their nodes
-pub record Walked (b : List ℕ) (s : ℕ) (o c : Row) (k start : ℕ) (place : Option ℕ) : Type 0 where
+pub record Walked (b : List ℕ) (s : ℕ) (o c : Row) (k start place : ℕ) : Type 0 where
   pub start_at_lem : start ≡ start_at b o k
   pub fits : EveryLeft (fits_at b o c) (o.n - 1) k (every_from (fits_at b o c) (o.n - 1) 0)
   pub nodes : Failing (is_node (tree_of b) s) c.n 0 start place
@@ -144,10 +143,10 @@ module _ {b : List ℕ} {s : ℕ} {o c : Row} {limit : ℕ} (m : MixedRows b s o
   pub reference-row : Numbers b c.at c.width c.n
   reference-row = row-numbers m.sound m.connectivity
 
-  pub walked_start : Walked b s o c 0 0 None
+  pub walked_start : Walked b s o c 0 0 0
   walked_start = record { start_at_lem = sym all_filled.first; fits = every_start (fits_at b o c) (o.n - 1); nodes = failing_start (is_node (tree_of b) s) c.n }
 
-  module _ {k start end : ℕ} {place : Option ℕ} (w : Walked b s o c k start place) (h : k < o.n - 1) (e : end ≡ start_at b o (k + 1)) where
+  module _ {k start end place : ℕ} (w : Walked b s o c k start place) (h : k < o.n - 1) (e : end ≡ start_at b o (k + 1)) where
     inside : k < element_count (tree_of b) s
     inside = omega (arith, count)
 
@@ -165,28 +164,24 @@ module _ {b : List ℕ} {s : ℕ} {o c : Row} {limit : ℕ} (m : MixedRows b s o
     unfolding fits_at
     fits_is = rw (w.start_at_lem, next)
 
-    pub walked_on : {later : Option ℕ} → fits_in b c start end ≡ true
-        → MatchOption place (Failing (is_within b c.at c.width limit) c.n (start + 1) end later) (λ i. later ≡ Some i)
+    pub walked_on : {later : ℕ} → fits_in b c start end ≡ true
+        → (0 < place → later ≡ place) × (place ≡ 0 → Failing (is_within b c.at c.width limit) c.n (start + 1) end later)
         → Walked b s o c (k + 1) end later
-    walked_on {later} f l =
+    walked_on f l =
         record {
           start_at_lem = e;
           fits = every_more w.fits h (fits_is ∙ f);
-          nodes = failing_on (is_node (tree_of b) s) c.n 0 (omega (arith, start_before)) place later w.nodes (nodes_on place l);
+          nodes = failing_on w.nodes (omega (arith, start_before)) l.0
+              (λ z. rw (w.start_at_lem, next)
+              (element-nodes b s m.mixed m.shaped m.sound m.offsets m.connectivity limit m.vertices k inside
+              (rw (w.start_at_lem, next) at (l.1 z))));
         }
-      where
-        nodes_on : (r : Option ℕ) → MatchOption r (Failing (is_within b c.at c.width limit) c.n (start + 1) end later) (λ i. later ≡ Some i)
-            → MatchOption r (Failing (is_node (tree_of b) s) c.n start end later) (λ i. later ≡ Some i)
-        nodes_on None u =
-            rw (w.start_at_lem, next)
-            (element-nodes b s m.mixed m.shaped m.sound m.offsets m.connectivity limit m.vertices k inside later (rw (w.start_at_lem, next) at u))
-        nodes_on (Some i) u = u
 
     pub walked_off : fits_in b c start end ≡ false → rejected (rejection 38 s) ≡ connectivity_check (tree_of b) s
     unfolding connectivity_check type_rules check ◌⊃◌
     walked_off f = sym (then-off (reference_check (tree_of b) s) (rw (m.mixed, ← types_are, ← every_stop w.fits h (fits_is ∙ f))))
 
-  module _ {k start : ℕ} {place : Option ℕ} (w : Walked b s o c k start place) (h : o.n - 1 ≤ k) where
+  module _ {k start place : ℕ} (w : Walked b s o c k start place) (h : o.n - 1 ≤ k) where
     all_walked : start ≡ c.n
     all_walked = let q : k ≡ element_count (tree_of b) s = omega (arith, w.fits.inside, count) in w.start_at_lem ∙ rw q all_filled.last
 
@@ -197,11 +192,15 @@ module _ {b : List ℕ} {s : ℕ} {o c : Row} {limit : ℕ} (m : MixedRows b s o
     no_cells : element_type_of (tree_of b) s ≡ NFACE → ⊥
     no_cells q = let z : MIXED ≡ NFACE = sym m.mixed ∙ q in absurd (omega arith)
 
-    pub walked_kept : place ≡ None → passed ≡ connectivity_check (tree_of b) s
-    walked_kept z = rw references_left (nodes-kept (tree_of b) s (long-is m.sound s m.connectivity) no_cells (rw (z, all_walked) at w.nodes))
+    pub walked_kept : place ≡ 0 → passed ≡ connectivity_check (tree_of b) s
+    walked_kept z =
+        rw references_left
+        (nodes-kept (tree_of b) s (long-is m.sound s m.connectivity) no_cells (rw all_walked at (w.nodes.none z)))
 
-    pub place_inside : {j : ℕ} → place ≡ Some j → j < c.n
-    place_inside z = let n = rw z at w.nodes in omega (arith, n.1, all_walked)
-
-    pub walked_broken : {j : ℕ} → place ≡ Some j → rejected (rejection_at 34 s (j + 1)) ≡ connectivity_check (tree_of b) s
-    walked_broken z = rw references_left (nodes_broken (tree_of b) s (long-is m.sound s m.connectivity) no_cells (rw (z, all_walked) at w.nodes))
+    pub walked_broken : (place ≡ 0 → ⊥) → rejected (rejection_at 34 s place) ≡ connectivity_check (tree_of b) s
+    walked_broken d =
+        let l : 0 < place = omega (arith, d) in
+        let f = w.nodes.before l in
+        let q : place ≡ place - 1 + 1 = omega arith in
+        rw (references_left, q)
+        (nodes_broken (tree_of b) s (long-is m.sound s m.connectivity) no_cells (f.0, omega (arith, f.1, all_walked), w.nodes.fails l))

@@ -1,5 +1,5 @@
 -- Rows of numbers in bytes, and what rules 34 to 37 ask of each number of a row.
-use Rattle.std.specs.Prelude.{ℕ, ◌<◌, ◌≡◌, Option, Some, None, Bool, false, ◌&&◌, ◌||◌, List, leb}
+use Rattle.std.specs.Prelude.{ℕ, ◌-◌, ◌≤◌, ◌<◌, ◌≡◌, Option, Some, None, Bool, false, ◌&&◌, ◌||◌, List, leb}
 use Rattle.model.specs.Bytes.{magnitude}
 use Rattle.model.specs.Image.{Tree}
 use Rattle.model.specs.Elements.{face_of}
@@ -25,11 +25,13 @@ is_known last before f = Tables.is_within last f || Tables.is_within before f
 abbrev pub known_at : List ℕ → Row → Interval → Interval → ℕ → Bool
 known_at b row last before i = is_known last before (magnitude row.width (number_at b row.at row.width i))
 
--- of the numbers from k to m, of n: the first that does not meet a test; none where each does
-abbrev pub Failing : (ℕ → Bool) → ℕ → ℕ → ℕ → Option ℕ → Type 0
-Failing p n k m None = Passed p n k m
-Failing p n k m (Some j) = Passed p n k j × (j < m) × (p j ≡ false)
-
--- of all n
+-- the first of n numbers that does not meet a test; none where each does
 abbrev pub FirstFailing : (ℕ → Bool) → ℕ → Option ℕ → Type 0
-FirstFailing p n = Failing p n 0 n
+FirstFailing p n None = Passed p n 0 n
+FirstFailing p n (Some j) = Passed p n 0 j × (j < n) × (p j ≡ false)
+
+-- of the numbers from k to m, of n: `place` is 0 where each meets a test, else the place, counted from 1, of the first that does not
+pub record Failing (p : ℕ → Bool) (n k m place : ℕ) : Type 0 where
+  pub none : place ≡ 0 → Passed p n k m
+  pub before : 0 < place → Passed p n k (place - 1) × (place ≤ m)
+  pub fails : 0 < place → p (place - 1) ≡ false

@@ -1,5 +1,5 @@
 // Rules 38 and 34 of a MIXED section: each element begins with its own type, and its nodes follow.
-ghost use Rattle.std.specs.Prelude.{◌≡◌, ◌+◌, ◌≤◌, ◌<◌, Some, MatchOption};
+ghost use Rattle.std.specs.Prelude.{◌≡◌, ◌+◌, ◌≤◌, ◌<◌};
 ghost use Rattle.model.specs.Image.{tree_of};
 ghost use Rattle.model.specs.Values.{connectivity_of};
 ghost use Rattle.model.specs.Elements.{MIXED, element_type_of};
@@ -29,30 +29,31 @@ fn type_fits(image: &[u8], connectivity: Row, start: usize, end: usize) -> bool
     fits_length(own_type, (end - start) as u64)
 }
 
-// The first node outside 1 to limit, to the end of the element from `start` on and before `end`. `place` tells it of the elements before; where there is one
-// nothing is read.
+// The place, counted from 1, of the first node outside 1 to limit, to the end of the element from `start` on and before `end`; 0 where there is none.
+// `place` tells it of the elements before; where there is one nothing is read. It is no Option: with one the loop over the nodes
+// takes 8 instructions in place of 7.
 fn place_outside(
     image: &[u8],
     connectivity: Row,
     limit: u64,
-    place: Option<usize>,
+    place: usize,
     start: usize,
     end: usize,
-) -> Option<usize>
+) -> usize
     requires numbers { Numbers image.now connectivity.at connectivity.width connectivity.n }
     requires start_lt_end { (start < end) × (end ≤ connectivity.n) }
-    ensures { MatchOption place (Failing (is_within image.now connectivity.at connectivity.width limit) connectivity.n (start + 1) end result)
-        (λ k. result ≡ Some k) }
+    ensures { (0 < place → result ≡ place)
+        × (place ≡ 0 → Failing (is_within image.now connectivity.at connectivity.width limit) connectivity.n (start + 1) end result) }
 {
-    if place.is_some() {
+    if 0 < place {
         return place;
     }
     for k in start + 1..end {
         if !is_within(image, connectivity, limit, k) {
-            return Some(k);
+            return k + 1;
         }
     }
-    None
+    0
 }
 
 // Rules 38 and 34 of section s by its two rows: one pass. A type that does not fit, anywhere, comes before a node outside 1 to limit.
@@ -67,7 +68,7 @@ fn rows_stage(
     ensures { stage_tells result ≡ connectivity_check (tree_of image.now) s }
 {
     let n = offsets.n - 1;
-    let mut place = None;
+    let mut place: usize = 0;
     let mut start: usize = 0;
     for k in 0..n {
         let end = rows::number_at(image, offsets, k + 1) as usize;
@@ -77,10 +78,10 @@ fn rows_stage(
         place = place_outside(image, connectivity, limit, place, start, end);
         start = end;
     }
-    match place {
-        None => Ok(()),
-        Some(k) => Err(Rejection::at_entry(34, s as u64, k as u64 + 1)),
+    if place == 0 {
+        return Ok(());
     }
+    Err(Rejection::at_entry(34, s as u64, place as u64))
 }
 
 // Rules 38 and 34 at the MIXED section s, where rules 29 to 33 hold; its connectivity is the row.

@@ -2,7 +2,7 @@
 use mathlib.Core.Path.{sym, ap, ◌∙◌}
 use native.Mathlib.Omega.{arith}
 use Rattle.model.specs.Rules.{rejected}
-use Rattle.references.proofs.MixedLaws.{some-offset, offset-row, reference-row, walked_start, walked_on, walked_off, walked_kept, place_inside, walked_broken}
+use Rattle.references.proofs.MixedLaws.{some-offset, offset-row, reference-row, walked_start, walked_on, walked_off, walked_kept, walked_broken}
 use Rattle.references.proofs.MixedLaws.{start_before, end-inside}
 use Rattle.references.proofs.mixed.rows_stage.Goals as goal
 
@@ -35,11 +35,9 @@ loop-k-preserved c =
     walked_on c.requires c.loop-k.invariant (omega arith) c.number_at-end.ensures (sym c.type_fits.ensures ∙ c.if-not-type_fits.false)
     c.place_outside-place.ensures
 
-pub returns-in-None : goal.returns-in-None
-returns-in-None c = walked_kept c.requires c.loop-k.invariant (omega arith) c.in-None.is
+pub returns-then-place-eq0 : goal.returns-then-place-eq0
+returns-then-place-eq0 c = walked_kept c.requires c.loop-k.invariant (omega arith) c.if-place-eq0.true
 
-pub returns-in-Some : goal.returns-in-Some
-returns-in-Some c = ap rejected c.at_entry.ensures ∙ walked_broken c.requires c.loop-k.invariant (omega arith) c.in-Some.is
-
-pub overflow_add-k-in-Some : goal.overflow_add-k-in-Some
-overflow_add-k-in-Some c = omega (arith, place_inside c.requires c.loop-k.invariant (omega arith) c.in-Some.is, c.well_formed.1.1.1.0)
+pub returns : goal.returns
+returns c =
+    ap rejected c.at_entry.ensures ∙ walked_broken c.requires c.loop-k.invariant (omega arith) c.if-place-eq0.false

@@ -11,7 +11,7 @@ loop-pair-init c = passed_none _ _ _ (omega arith)
 
 pub returns-then-not-two_within : goal.returns-then-not-two_within
 returns-then-not-two_within c =
-    failing_two c.loop-pair.invariant (omega arith) (omega arith) (sym c.two_within.ensures ∙ c.if-not-two_within.true) c.past_within.ensures
+    failing_two c.loop-pair.invariant (omega arith) (sym c.two_within.ensures ∙ c.if-not-two_within.true) c.past_within.ensures
 
 pub loop-pair-preserved : goal.loop-pair-preserved
 loop-pair-preserved c =
