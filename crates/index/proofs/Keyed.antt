@@ -8,7 +8,7 @@ use native.Mathlib.Decide.{ℕ_discrete}
 use lib.Dec.{eqb, leb}
 use lib.ListN.{get_or}
 use borrow.Author.Tests.{eq-eqb, ne_eqb, eqb-true, leb-true}
-use Rattle.model.specs.Lists.{row, every_from}
+use Rattle.model.specs.Lists.{row, among, seek_from, every_from}
 use Rattle.model.specs.Bytes.{text, spells}
 use Rattle.model.specs.Image.{Tree, name}
 use Rattle.model.specs.Containment.{role}
@@ -25,15 +25,6 @@ every_slot p e above k h l = each (p above) 4 (each (λ (a : ℕ). every_from (p
 pub key-few : (above k : ℕ) → above < 16 → k < 4 → key_at above k ≤ 10
 unfolding every_from key_at row slot_keys
 key-few above k h l = leb-true (key_at above k) 10 (every_slot (λ a i. leb (key_at a i) 10) refl above k h l)
-
--- a role that a node can have is that of a key
-pub some_key : (key : ℕ) {r : ℕ} → key ≤ 10 → get_or key_roles key 16 ≡ r → r < 16 → key < 10
-unfolding key_roles
-some_key key h e l =
-    elim (ℕ_discrete key 10) [
-      | yes q ↦ absurd (let f : ◌≡◌ {A = ℕ} 16 _ = rw q at e in omega arith)
-      | no z ↦ omega (arith, z)
-    ]
 
 -- two texts that differ in a byte that both have: no field holds both
 abbrev clash : List ℕ → List ℕ → Bool
@@ -77,11 +68,14 @@ module _ (t : Tree) (above j : ℕ) {below : ℕ} (h : above < 16) (b : below �
       ]
 
   -- the search for the slot has come to slot k
-  pub not-before : {k : ℕ} → k ≡ first_slot above below → (i : ℕ) → i < 4 → i < k → is_key t above i j ≡ false
+  pub not-before : {k : ℕ} → k ≤ first_slot above below → (i : ℕ) → i < 4 → i < k → is_key t above i j ≡ false
   unfolding is_key first_slot has_role
   not-before {k} e i l m =
       rw (ne_eqb (role t j) (key_role above i) (λ q. let f = seek_before (has_role above below) 4 0 i (eq-eqb _ _ (sym q ∙ sym b)) (omega arith)
       (omega arith) in absurd (omega arith)))
+
+  pub no_slot : 4 ≤ first_slot above below → SlotOf t above j 4
+  no_slot e = record { is = λ k l. not-before e k l l ∙ sym (ne_eqb k 4 (λ q. absurd (omega arith))) }
 
   pub slot_found : (k : ℕ) → k < 4 → is_key t above k j ≡ true → SlotOf t above j k
   slot_found k l e =
@@ -91,6 +85,15 @@ module _ (t : Tree) (above j : ℕ) {below : ℕ} (h : above < 16) (b : below �
           | no z ↦ other_slot k i l m (λ y. z (sym y)) e ∙ sym (ne_eqb i k z)
         ];
       }
+
+-- no slot below a node that is not validated, and none for a node with another label
+pub none_above : (below : ℕ) → below < 16 → 4 ≤ first_slot 0 below
+unfolding every_from among row slot_keys key_at key_roles key_role has_role seek_from first_slot
+none_above below h = leb-true 4 (first_slot 0 below) (each (λ (k : ℕ). leb 4 (first_slot 0 k)) 16 refl below h)
+
+pub none_below : (above : ℕ) → above < 16 → 4 ≤ first_slot above 0
+unfolding every_from among row slot_keys key_at key_roles key_role has_role seek_from first_slot
+none_below above h = leb-true 4 (first_slot above 0) (each (λ (k : ℕ). leb 4 (first_slot k 0)) 16 refl above h)
 
 -- node j has the role `below`, and slot k a key of the role r
 module _ (t : Tree) (above k j : ℕ) {key r below : ℕ} (e : key ≡ key_at above k) (f : r ≡ get_or key_roles key 16) (g : below ≡ role t j) where

@@ -1,14 +1,15 @@
 // The table of the index, filled by one pass over the nodes, and asked: four numbers a node, its looked_up children, with its kind above the first.
-ghost use Rattle.std.specs.Prelude.{◌≡◌, true, ◌⊎◌, ◌+◌, ◌*◌, ◌≤◌, ◌<◌, length};
+ghost use Rattle.std.specs.Prelude.{◌≡◌, true, ◌⊎◌, ◌+◌, ◌*◌, ◌≤◌, ◌<◌, length, Option};
 ghost use Rattle.model.specs.Image.{tree_of, node_count};
 ghost use Rattle.model.specs.Given.{Sound};
 ghost use Rattle.model.specs.Bytes.{text};
 ghost use Rattle.model.specs.Containment.{role, validated, validated_as, is_zone, section_of, child};
 ghost use Rattle.model.specs.Containment.{Zone, ZoneType, GridCoordinates, FlowSolution, Elements, IndexRange, Rind, GridLocation, DataArray, IndexArray};
+ghost use Rattle.labels.specs.Roles.{role_number, kind_number};
 ghost use Rattle.index.specs.Index.{kind, kind_below, kind_at, put_at, slot_child, Rows, RowBegun, Index};
 
 use super::keys::{WIDTH, slot_of};
-use labels::roles;
+use labels::{Role, kind_number, numbered_role};
 
 // How many numbers the index of an image has at most.
 pub const SIZE: usize = 16384;
@@ -38,33 +39,29 @@ const OFFSETS: usize = 2;
 const PARENTS: usize = 3;
 
 // What a node is validated as, by its parent's kind and its own role.
-fn kind_below(above: u64, role: u64) -> u64
-    requires { role < 16 }
-    ensures { (result ≡ kind_below above role) × (result < 16) }
+fn kind_below(above: Option<Role>, role: Option<Role>) -> Option<Role>
+    ensures { kind_number result ≡ kind_below (kind_number above) (kind_number role) }
 {
-    if above == 0 {
-        return 0;
+    match above? {
+        Role::UserDefinedData => None,
+        _ => role,
     }
-    if above == roles::USER_DEFINED_DATA {
-        return 0;
-    }
-    role
 }
 
 // The kind in row j.
-fn row_kind(index: &[u16], j: usize) -> u64
-    requires { (j < 4096) × (4 * j + 4 ≤ length index.now) }
-    ensures { result ≡ kind_at index.now j }
+fn row_kind(index: &[u16], j: usize) -> Option<Role>
+    requires { ((j < 4096) × (4 * j + 4 ≤ length index.now)) × (kind_at index.now j < 16) }
+    ensures { kind_number result ≡ kind_at index.now j }
 {
-    (index[WIDTH * j] / KIND) as u64
+    numbered_role((index[WIDTH * j] / KIND) as u64)
 }
 
 // Begins row j: the kind, and no child.
-fn begin_row(index: &mut [u16], j: usize, kind: u64)
-    requires { ((j < 4096) × (4 * j + 4 ≤ length index.old)) × (kind < 16) }
-    ensures { RowBegun index.old j kind index.new }
+fn begin_row(index: &mut [u16], j: usize, kind: Option<Role>)
+    requires { (j < 4096) × (4 * j + 4 ≤ length index.old) }
+    ensures { RowBegun index.old j (kind_number kind) index.new }
 {
-    index[WIDTH * j] = KIND * kind as u16;
+    index[WIDTH * j] = KIND * kind_number(kind) as u16;
     index[WIDTH * j + 1] = 0;
     index[WIDTH * j + 2] = 0;
     index[WIDTH * j + 3] = 0;
@@ -91,8 +88,7 @@ fn mark_node(image: &[u8], index: &mut [u16], j: usize)
     let above = row_kind(index, up);
     let role = labels::role_of(image, j);
     begin_row(index, j, kind_below(above, role));
-    let k = slot_of(image, above, role, j);
-    if k < WIDTH {
+    if let Some(k) = slot_of(image, above, role, j) {
         put(index, WIDTH * up + k, j);
     }
 }
@@ -103,27 +99,27 @@ pub fn build(image: &[u8], index: &mut [u16])
     ensures { Index image.now index.new }
 {
     let n = labels::node_count(image);
-    begin_row(index, 0, roles::ROOT);
+    begin_row(index, 0, Some(Role::Root));
     for j in 1..n {
         mark_node(image, index, j);
     }
 }
 
-// The kind of node i: its role where it is validated, else 0.
-pub fn kind_of(image: &[u8], index: &[u16], i: usize) -> u64
+// The kind of node i: its role where it is validated.
+pub fn kind_of(image: &[u8], index: &[u16], i: usize) -> Option<Role>
     requires { Index image.now index.now × (i < node_count image.now) }
-    ensures { (result ≡ kind (tree_of image.now) i) × (result < 16) }
+    ensures { kind_number result ≡ kind (tree_of image.now) i }
 {
     row_kind(index, i)
 }
 
 // The role of a validated node.
-pub fn role_of(image: &[u8], index: &[u16], i: usize) -> u64
+pub fn role_of(image: &[u8], index: &[u16], i: usize) -> Role
     requires index { Index image.now index.now × (i < node_count image.now) }
     requires i_value { validated (tree_of image.now) i ≡ true }
-    ensures { (result ≡ role (tree_of image.now) i) × (result < 16) }
+    ensures { role_number result ≡ role (tree_of image.now) i }
 {
-    kind_of(image, index, i)
+    kind_of(image, index, i).unwrap()
 }
 
 // Is node i validated?
@@ -131,15 +127,15 @@ pub fn is_validated(image: &[u8], index: &[u16], i: usize) -> bool
     requires { Index image.now index.now × (i < node_count image.now) }
     ensures { result ≡ validated (tree_of image.now) i }
 {
-    0 < kind_of(image, index, i)
+    kind_of(image, index, i).is_some()
 }
 
 // Is node i validated as a node of this role?
-pub fn validated_as(image: &[u8], index: &[u16], role: u64, i: usize) -> bool
-    requires { (Index image.now index.now × (i < node_count image.now)) × (0 < role) }
-    ensures { result ≡ validated_as (tree_of image.now) role i }
+pub fn validated_as(image: &[u8], index: &[u16], role: Role, i: usize) -> bool
+    requires { Index image.now index.now × (i < node_count image.now) }
+    ensures { result ≡ validated_as (tree_of image.now) (role_number role) i }
 {
-    kind_of(image, index, i) == role
+    kind_of(image, index, i) == Some(role)
 }
 
 // Is there a validated zone of this number?
@@ -148,7 +144,7 @@ pub fn is_zone(image: &[u8], index: &[u16], z: u64) -> bool
     ensures { result ≡ is_zone (tree_of image.now) z }
 {
     if z < labels::node_count(image) as u64 {
-        validated_as(image, index, roles::ZONE, z as usize)
+        validated_as(image, index, Role::Zone, z as usize)
     } else {
         false
     }
@@ -162,7 +158,7 @@ pub fn section_of(image: &[u8], index: &[u16], z: usize, s: usize) -> bool
     if records::parent_of(image, s) != z {
         return false;
     }
-    validated_as(image, index, roles::ELEMENTS, s)
+    validated_as(image, index, Role::Elements, s)
 }
 
 // The child of node p that its slot k is for; the node count where there is none.

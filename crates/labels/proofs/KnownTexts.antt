@@ -1,5 +1,5 @@
 -- The known texts word by word, and the role that a label's words tell.
-use Prim.Native.Nat.{ℕ, zero, suc, ◌+◌, ◌*◌, ◌≤◌, ◌<◌}
+use Prim.Native.Nat.{ℕ, zero, suc, ◌+◌, ◌-◌, ◌*◌, ◌≤◌, ◌<◌}
 use mathlib.Core.Path.{◌≡◌, refl, ap, sym, ◌∙◌}
 use mathlib.Core.Bool.{Bool, true, false, not, ◌&&◌, ◌||◌}
 use mathlib.Core.List.{List, []}
@@ -71,9 +71,10 @@ first_apart j k h l e =
     eqb-true j k (rw (eq-eqb (text_word 0 j) (text_word 0 k) e) at g)
 
 -- an arm of the match on first words
-pub begins_with : (n : ℕ) {word : ℕ} → n < 14 → word ≡ text_word 0 n → Begins word n
+pub begins_with : (n : ℕ) {word : ℕ} → n < 14 → word ≡ text_word 0 n → Begins word (suc n)
 begins_with n h e =
-    record { inside = omega arith; is = λ l. e; only = λ k l f. first_apart k n l h (sym f ∙ e) }
+    let z : suc n - 1 ≡ n = omega arith in
+    record { inside = omega arith; is = λ l. rw z e; only = λ k l f. ap suc (first_apart k n l h (sym f ∙ e)) }
 
 -- its last one: none of the first n labels begins with this word
 abbrev pub Others : ℕ → ℕ → Type 0
@@ -88,7 +89,7 @@ other (suc n) k a h e =
       | no z ↦ other n k a.0 (omega (arith, z)) e
     ]
 
-pub begins-none : {word : ℕ} → Others 14 word → Begins word 14
+pub begins-none : {word : ℕ} → Others 14 word → Begins word 0
 begins-none a =
     record { inside = omega arith; is = λ h. absurd (omega arith); only = λ k h e. absurd (other 14 k a h e) }
 
@@ -122,21 +123,25 @@ first_off b p k h f l z =
     spelling_stop (get_or known_texts k []) 0 (same_start _ _ _ _ _) h f (known_bytes k l) (omega arith) (known_short k l)
     (λ e. z (ap (λ (n : ℕ). le 8 (drop n b)) (sym (add-zero p)) ∙ e))
 
--- the field at p, whose first word only label r may begin with
-module _ (b : List ℕ) (p r : ℕ) (h : p + 32 ≤ length b) (f : Bytes b) (o : Begins (le 8 (drop p b)) r) where
-  not_begun : (k : ℕ) → k < 14 → (k ≡ r → ⊥) → spells (take 32 (drop p b)) (get_or known_texts k []) ≡ false
+-- the field at p, whose first word only the label of number n may begin with
+module _ (b : List ℕ) (p n : ℕ) (h : p + 32 ≤ length b) (f : Bytes b) (o : Begins (le 8 (drop p b)) n) where
+  not_begun : (k : ℕ) → k < 14 → (suc k ≡ n → ⊥) → spells (take 32 (drop p b)) (get_or known_texts k []) ≡ false
   not_begun k l z = sym (first_off b p k h f (omega arith) (λ e. z (o.only k l e)))
 
-  pub is_candidate : r < 14 → spells (take 32 (drop p b)) (get_or known_texts r []) ≡ true → r + 1 ≡ place_from 1 (take 32 (drop p b)) known_labels
+  pub is_candidate : 0 < n → spells (take 32 (drop p b)) (get_or known_texts (n - 1) []) ≡ true → n ≡ place_from 1 (take 32 (drop p b)) known_labels
   is_candidate l e =
-      let n = known_length in
-      placing_stop (placing_past r (omega arith) (λ j k. rw (← label-text j (omega arith)) (not_begun j (omega arith) (λ z. absurd (omega arith)))))
-      (omega arith) (rw (← label-text r l) e)
+      let m = known_length in
+      let u = o.inside in
+      let q : n - 1 + 1 ≡ n = omega arith in
+      let place : n - 1 + 1 ≡ place_from 1 (take 32 (drop p b)) known_labels =
+      placing_stop (placing_past (n - 1) (omega arith) (λ j k. rw (← label-text j (omega arith)) (not_begun j (omega arith) (λ z. absurd (omega arith)))))
+      (omega arith) (rw (← label-text (n - 1) (omega arith)) e) in
+      sym q ∙ place
 
-  pub no_candidate : (r < 14 → spells (take 32 (drop p b)) (get_or known_texts r []) ≡ false) → 0 ≡ place_from 1 (take 32 (drop p b)) known_labels
+  pub no_candidate : (0 < n → spells (take 32 (drop p b)) (get_or known_texts (n - 1) []) ≡ false) → 0 ≡ place_from 1 (take 32 (drop p b)) known_labels
   no_candidate e =
-      let n = known_length in
-      placing_done (placing_past 14 (omega arith) (λ j k. rw (← label-text j k) (elim (ℕ_discrete j r) [
-        | yes q ↦ rw (sym q) at (e (omega arith))
+      let m = known_length in
+      placing_done (placing_past 14 (omega arith) (λ j k. rw (← label-text j k) (elim (ℕ_discrete (suc j) n) [
+        | yes q ↦ let w : n - 1 ≡ j = omega arith in rw w at (e (omega arith))
         | no z ↦ not_begun j k z
       ]))) (omega arith)

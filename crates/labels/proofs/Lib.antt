@@ -1,4 +1,5 @@
 pub mod Arms
+pub mod Numbers
 pub mod Fields
 pub mod Tables
 pub mod KnownTexts

@@ -1,2 +1,4 @@
 pub mod Padded
+pub mod Roles
+pub mod Names
 pub mod Cells

@@ -1,5 +1,5 @@
 -- Texts as fields of 32 bytes: the known ones.
-use Rattle.std.specs.Prelude.{ℕ, zero, suc, ◌*◌, ◌≤◌, ◌<◌, ◌≡◌, Bool, ◌&&◌, List, [], ◌∷◌, ◌++◌, eqb, drop, get_or}
+use Rattle.std.specs.Prelude.{ℕ, zero, suc, ◌*◌, ◌-◌, ◌≤◌, ◌<◌, ◌≡◌, Bool, ◌&&◌, List, [], ◌∷◌, ◌++◌, eqb, drop, get_or}
 use Rattle.model.specs.Bytes.{le, text}
 use Rattle.model.specs.Containment.{known_labels}
 
@@ -37,8 +37,8 @@ abbrev pub rest_is : ℕ → ℕ → ℕ → ℕ → Bool
 rest_is k second third fourth =
     eqb second (field_word (get_or known_texts k []) 1) && (eqb third (field_word (get_or known_texts k []) 2) && eqb fourth (field_word (get_or known_texts k []) 3))
 
--- known label r, counted from 0, begins with this word, and no other does; 14 where none does
-pub record Begins (word r : ℕ) : Type 0 where
-  pub inside : r ≤ 14
-  pub is : r < 14 → word ≡ field_word (get_or known_texts r []) 0
-  pub only : (k : ℕ) → k < 14 → word ≡ field_word (get_or known_texts k []) 0 → k ≡ r
+-- the known label of this number, from 1, begins with this word, and no other does; 0 where none does
+pub record Begins (word n : ℕ) : Type 0 where
+  pub inside : n ≤ 14
+  pub is : 0 < n → word ≡ field_word (get_or known_texts (n - 1) []) 0
+  pub only : (k : ℕ) → k < 14 → word ≡ field_word (get_or known_texts k []) 0 → suc k ≡ n

@@ -8,15 +8,15 @@ ghost use Rattle.model.specs.Bounds.{Laid};
 mod containment; // containment.rt: the placing table, the fixed names
 mod digits; // digits.rt: small numbers as digits of one number
 mod known; // known.rt: the known labels and names as words
-pub mod names; // names.rt: the known names
-pub mod roles; // roles.rt: the label's place among the known ones
+mod names; // names.rt: the known names
+mod roles; // roles.rt: the roles, that of a label
 mod texts; // texts.rt: texts compared in place
 
 pub use containment::{may_hold, named};
 pub use digits::digit;
-pub use names::name_is;
+pub use names::{Name, name_is, numbered_name};
 use records::Header;
-pub use roles::role_of;
+pub use roles::{Role, kind_number, numbered_role, role_of};
 pub use texts::same_at;
 
 // The node count.

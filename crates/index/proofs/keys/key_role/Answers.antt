@@ -1,55 +1,44 @@
 -- Each arm has its key's role.
-use Prim.Native.Nat.{ℕ}
-use mathlib.Core.Path.{◌≡◌, refl, ap, sym}
-use mathlib.Core.List.{[], ◌∷◌}
-use native.Mathlib.Omega.{arith}
-use lib.Dec.{eqb}
-use lib.ListN.{get_or}
-use borrow.Author.Tests.{eqb-true}
-use Rattle.model.specs.Lists.{every_from, among}
-use Rattle.labels.proofs.Arms.{last_of}
+use mathlib.Core.Path.{refl}
 use Rattle.index.specs.Keys.{key_roles}
 use Rattle.index.proofs.keys.key_role.Goals as goal
 
-arm : {k n : ℕ} → k ≡ n → get_or key_roles n 16 ≡ get_or key_roles k 16
-arm e = ap (λ (j : ℕ). get_or key_roles j 16) (sym e)
+pub returns-in-LibraryVersion : goal.returns-in-LibraryVersion
+unfolding key_roles
+returns-in-LibraryVersion c = rw c.in-LibraryVersion.is refl
 
-pub returns-in-1 : goal.returns-in-1
-unfolding every_from among key_roles
-returns-in-1 c = arm c.in-1.is
+pub returns-in-ZoneType : goal.returns-in-ZoneType
+unfolding key_roles
+returns-in-ZoneType c = rw c.in-ZoneType.is refl
 
-pub returns-in-2 : goal.returns-in-2
-unfolding every_from among key_roles
-returns-in-2 c = arm c.in-2.is
+pub returns-in-Rind : goal.returns-in-Rind
+unfolding key_roles
+returns-in-Rind c = rw c.in-Rind.is refl
 
-pub returns-in-3 : goal.returns-in-3
-unfolding every_from among key_roles
-returns-in-3 c = arm c.in-3.is
+pub returns-in-GridLocation : goal.returns-in-GridLocation
+unfolding key_roles
+returns-in-GridLocation c = rw c.in-GridLocation.is refl
 
-pub returns-in-4 : goal.returns-in-4
-unfolding every_from among key_roles
-returns-in-4 c = arm c.in-4.is
+pub returns-in-ElementRange : goal.returns-in-ElementRange
+unfolding key_roles
+returns-in-ElementRange c = rw c.in-ElementRange.is refl
 
-pub returns-in-5 : goal.returns-in-5
-unfolding every_from among key_roles
-returns-in-5 c = arm c.in-5.is
+pub returns-in-ElementConnectivity : goal.returns-in-ElementConnectivity
+unfolding key_roles
+returns-in-ElementConnectivity c = rw c.in-ElementConnectivity.is refl
 
-pub returns-in-6 : goal.returns-in-6
-unfolding every_from among key_roles
-returns-in-6 c = arm c.in-6.is
+pub returns-in-ElementStartOffset : goal.returns-in-ElementStartOffset
+unfolding key_roles
+returns-in-ElementStartOffset c = rw c.in-ElementStartOffset.is refl
 
-pub returns-in-7 : goal.returns-in-7
-unfolding every_from among key_roles
-returns-in-7 c = arm c.in-7.is
+pub returns-in-PointRange : goal.returns-in-PointRange
+unfolding key_roles
+returns-in-PointRange c = rw c.in-PointRange.is refl
 
-pub returns-in-8 : goal.returns-in-8
-unfolding every_from among key_roles
-returns-in-8 c = arm c.in-8.is
+pub returns-in-PointList : goal.returns-in-PointList
+unfolding key_roles
+returns-in-PointList c = rw c.in-PointList.is refl
 
-pub returns-in-9 : goal.returns-in-9
-unfolding every_from among key_roles
-returns-in-9 c = arm c.in-9.is
-
-pub returns-in_default : goal.returns-in_default
-unfolding every_from among key_roles
-returns-in_default c = eqb-true _ _ (last_of (9 ∷ 8 ∷ 7 ∷ 6 ∷ 5 ∷ 4 ∷ 3 ∷ 2 ∷ 1 ∷ []) (λ (k : ℕ). eqb 16 (get_or key_roles k 16)) 11 refl (omega arith) c.in_default.in_default-own.rest)
+pub returns-in-ParentElements : goal.returns-in-ParentElements
+unfolding key_roles
+returns-in-ParentElements c = rw c.in-ParentElements.is refl

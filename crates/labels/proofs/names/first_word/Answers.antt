@@ -1,53 +1,45 @@
 -- Each arm has its name's word.
-use Prim.Native.Nat.{ℕ}
-use mathlib.Core.Path.{◌≡◌, ap, sym}
-use mathlib.Core.List.{[]}
-use lib.ListN.{get_or}
-use native.Mathlib.Omega.{arith}
+use mathlib.Core.Path.{refl}
 use Rattle.model.specs.Bytes.{le, text}
 use Rattle.labels.specs.Padded.{field_word, known_names}
-use Rattle.model.proofs.Logic.{last_arm}
 use Rattle.labels.proofs.names.first_word.Goals as goal
 
-arm : {k n : ℕ} → k ≡ n → field_word (get_or known_names n []) 0 ≡ field_word (get_or known_names k []) 0
-arm e = ap (λ (j : ℕ). field_word (get_or known_names j []) 0) (sym e)
-
-pub returns-in-0 : goal.returns-in-0
+pub returns-in-LibraryVersion : goal.returns-in-LibraryVersion
 unfolding field_word le known_names text
-returns-in-0 c = arm c.in-0.is
+returns-in-LibraryVersion c = rw c.in-LibraryVersion.is refl
 
-pub returns-in-1 : goal.returns-in-1
+pub returns-in-ZoneType : goal.returns-in-ZoneType
 unfolding field_word le known_names text
-returns-in-1 c = arm c.in-1.is
+returns-in-ZoneType c = rw c.in-ZoneType.is refl
 
-pub returns-in-2 : goal.returns-in-2
+pub returns-in-Rind : goal.returns-in-Rind
 unfolding field_word le known_names text
-returns-in-2 c = arm c.in-2.is
+returns-in-Rind c = rw c.in-Rind.is refl
 
-pub returns-in-3 : goal.returns-in-3
+pub returns-in-GridLocation : goal.returns-in-GridLocation
 unfolding field_word le known_names text
-returns-in-3 c = arm c.in-3.is
+returns-in-GridLocation c = rw c.in-GridLocation.is refl
 
-pub returns-in-4 : goal.returns-in-4
+pub returns-in-ElementRange : goal.returns-in-ElementRange
 unfolding field_word le known_names text
-returns-in-4 c = arm c.in-4.is
+returns-in-ElementRange c = rw c.in-ElementRange.is refl
 
-pub returns-in-5 : goal.returns-in-5
+pub returns-in-ElementConnectivity : goal.returns-in-ElementConnectivity
 unfolding field_word le known_names text
-returns-in-5 c = arm c.in-5.is
+returns-in-ElementConnectivity c = rw c.in-ElementConnectivity.is refl
 
-pub returns-in-6 : goal.returns-in-6
+pub returns-in-ElementStartOffset : goal.returns-in-ElementStartOffset
 unfolding field_word le known_names text
-returns-in-6 c = arm c.in-6.is
+returns-in-ElementStartOffset c = rw c.in-ElementStartOffset.is refl
 
-pub returns-in-7 : goal.returns-in-7
+pub returns-in-PointRange : goal.returns-in-PointRange
 unfolding field_word le known_names text
-returns-in-7 c = arm c.in-7.is
+returns-in-PointRange c = rw c.in-PointRange.is refl
 
-pub returns-in-8 : goal.returns-in-8
+pub returns-in-PointList : goal.returns-in-PointList
 unfolding field_word le known_names text
-returns-in-8 c = arm c.in-8.is
+returns-in-PointList c = rw c.in-PointList.is refl
 
-pub returns-in_default : goal.returns-in_default
+pub returns-in-ParentElements : goal.returns-in-ParentElements
 unfolding field_word le known_names text
-returns-in_default c = arm (last_arm 9 _ c.in_default.in_default-own.rest (omega arith))
+returns-in-ParentElements c = rw c.in-ParentElements.is refl
