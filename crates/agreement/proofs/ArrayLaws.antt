@@ -1,6 +1,6 @@
 -- The arrays beside the entries: one section more; and what stands beside the entry of a face.
 use Prim.Native.Nat.{ℕ, ◌+◌, ◌*◌, ◌≤◌, ◌<◌}
-use mathlib.Core.Path.{◌≡◌, refl, sym, ap, ◌∙◌}
+use mathlib.Core.Path.{◌≡◌, sym, ap, ◌∙◌}
 use mathlib.Core.Bool.{Bool, true, false, ◌&&◌}
 use mathlib.Core.List.{List}
 use native.Mathlib.Omega.{arith}
@@ -8,6 +8,8 @@ use native.Mathlib.Decide.{ℕ_discrete}
 use lib.ListN.{length, get_or, set, length-set}
 use lib.Seq.{get_or-set_same, get_or-set_other}
 use borrow.Author.Tests.{lt-ltb, le-ltb}
+use Rattle.std.proofs.Common.{Option}
+use Rattle.std.specs.Option.{is_some}
 use Rattle.model.specs.Image.{Tree, tree_of, node_count, dimensions, number}
 use Rattle.model.specs.Given.{Accepted}
 use Rattle.model.specs.Containment.{found}
@@ -15,9 +17,9 @@ use Rattle.model.specs.Elements.{first_element, last_element, element_count, in_
 use Rattle.model.specs.ParentElements.{has_parents}
 use Rattle.model.proofs.Logic.{untrue, and_first, and_both, and-false, between}
 use Rattle.model.proofs.Walks.{some_by}
-use Rattle.ranges.specs.Tables.{Found}
+use Rattle.ranges.specs.Tables.{holds, Found}
 use Rattle.face_places.proofs.Accepted.{face-ranged, apart, found-is}
-use Rattle.face_places.proofs.Gathering.{At, face-found}
+use Rattle.face_places.proofs.Gathering.{At, face-there, face-found}
 use Rattle.rows.specs.declared.Row.{Row}
 use Rattle.face_parents.specs.Parents.{ParentRow}
 use Rattle.face_parents.proofs.Columns.{columns}
@@ -37,7 +39,7 @@ module _ {b : List ℕ} (a : Accepted b) {z s n : ℕ} {firsts reach arrays : Li
       }
 
   -- a face section, whose first face was looked up
-  module _ (e : face_section (tree_of b) z s ≡ true) {first j : ℕ} (q : first ≡ first_element (tree_of b) s) (o : Found firsts reach n first first j) where
+  module _ (e : face_section (tree_of b) z s ≡ true) {first : ℕ} (q : first ≡ first_element (tree_of b) s) where
     has_first : has_face (tree_of b) z first s ≡ true
     unfolding has_face in_range
     has_first = and_both _ _ e (between (first_element (tree_of b) s) first (last_element (tree_of b) s) (omega arith) (omega (arith, (face-ranged a z s h e).up)))
@@ -46,35 +48,37 @@ module _ {b : List ℕ} (a : Accepted b) {z s n : ℕ} {firsts reach arrays : Li
     unfolding face_of tree_of
     is-face = some_by (has_face (tree_of b) z first) (node_count b) 0 s has_first (omega arith) (omega arith)
 
-    at : At b z firsts g.0 n first j
-    at = face-found a g.1 refl is-face o
+    -- an entry was found
+    pub entry-there : (r : Option ℕ) → Found firsts reach n first first r → is_some r ≡ true
+    entry-there r = face-there a g.1 _ r is-face
 
-    pub entry-inside : j < n
-    entry-inside = at.inside
+    module _ {j : ℕ} (o : (j < n) × (holds firsts reach first j ≡ true)) where
+      at : At b z firsts g.0 n first j
+      at = face-found a g.1 o
 
-    own : get_or firsts j 0 ≡ first_element (tree_of b) s
-    own = at.first-is ∙ ap (first_element (tree_of b)) (found-is a z s first h has_first)
+      own : get_or firsts j 0 ≡ first_element (tree_of b) s
+      own = at.first-is ∙ ap (first_element (tree_of b)) (found-is a z s first h has_first)
 
-    pub arrays_more : {x : ℕ} → x ≡ parents_of (tree_of b) s → Arrays (tree_of b) z (s + 1) n firsts (set arrays j x)
-    arrays_more {x} p =
-        record {
-          room = rw (length-set arrays j x) r.room;
-          each =
-              λ i k l f m w.
-              elim (ℕ_discrete i s) [
-                | yes y ↦
-                    let u = g.1.distinct k j m entry-inside (w ∙ ap (first_element (tree_of b)) y ∙ sym own) in
-                    rw (u, get_or-set_same arrays j x 0 (omega (arith, entry-inside, r.room))) (p ∙ ap (parents_of (tree_of b)) (sym y))
-                | no d ↦ get_or-set_other arrays j k x 0 (λ u. d (other i k l f w u)) ∙ r.each i k (omega arith) f m w
-              ];
-        }
-      where
-        other : (i k : ℕ) → i < s + 1 → face_section (tree_of b) z i ≡ true → get_or firsts k 0 ≡ first_element (tree_of b) i → k ≡ j → i ≡ s
-        other i k l f w u =
-            let v : first_element (tree_of b) i ≡ first_element (tree_of b) s = sym w ∙ ap (λ (y : ℕ). get_or firsts y 0) u ∙ own in
-            let c = (face-ranged a z i (omega arith) f).up in
-            let d = (face-ranged a z s h e).up in
-            apart a z i s (omega arith) h f e (omega arith) (omega arith)
+      pub arrays_more : {x : ℕ} → x ≡ parents_of (tree_of b) s → Arrays (tree_of b) z (s + 1) n firsts (set arrays j x)
+      arrays_more {x} p =
+          record {
+            room = rw (length-set arrays j x) r.room;
+            each =
+                λ i k l f m w.
+                elim (ℕ_discrete i s) [
+                  | yes y ↦
+                      let u = g.1.distinct k j m o.0 (w ∙ ap (first_element (tree_of b)) y ∙ sym own) in
+                      rw (u, get_or-set_same arrays j x 0 (omega (arith, o.0, r.room))) (p ∙ ap (parents_of (tree_of b)) (sym y))
+                  | no d ↦ get_or-set_other arrays j k x 0 (λ u. d (other i k l f w u)) ∙ r.each i k (omega arith) f m w
+                ];
+          }
+        where
+          other : (i k : ℕ) → i < s + 1 → face_section (tree_of b) z i ≡ true → get_or firsts k 0 ≡ first_element (tree_of b) i → k ≡ j → i ≡ s
+          other i k l f w u =
+              let v : first_element (tree_of b) i ≡ first_element (tree_of b) s = sym w ∙ ap (λ (y : ℕ). get_or firsts y 0) u ∙ own in
+              let c = (face-ranged a z i (omega arith) f).up in
+              let d = (face-ranged a z s h e).up in
+              apart a z i s (omega arith) h f e (omega arith) (omega arith)
 
 -- the section of a face that an entry holds
 pub face-section : {b : List ℕ} {z n f j : ℕ} {firsts places : List ℕ} → At b z firsts places n f j → face_section (tree_of b) z (section_with_face (tree_of b) z f) ≡ true

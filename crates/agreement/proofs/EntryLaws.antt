@@ -1,6 +1,6 @@
 -- The use that an entry makes: the parents of its face, as they were read, and the byte that tells which of them are matched.
 use Prim.Native.Nat.{ℕ, ◌+◌, ◌*◌, ◌-◌, ◌/◌, ◌≤◌, ◌<◌}
-use mathlib.Core.Path.{◌≡◌, refl, sym, ◌∙◌}
+use mathlib.Core.Path.{◌≡◌, sym, ◌∙◌}
 use mathlib.Core.Bool.{Bool, true, false}
 use mathlib.Core.List.{List}
 use native.Mathlib.Omega.{arith}
@@ -11,14 +11,14 @@ use borrow.Author.Tests.{ltb-true, lt-ltb}
 use Rattle.model.specs.Image.{tree_of, node_count}
 use Rattle.model.specs.Given.{Accepted}
 use Rattle.model.specs.Containment.{found}
-use Rattle.model.specs.Elements.{first_element, element_count, face_section, face_of, section_with_face, parents_of, first_parent, second_parent}
+use Rattle.model.specs.Elements.{first_element, element_count, face_section, section_with_face, parents_of, first_parent, second_parent}
 use Rattle.model.specs.FaceUsage.{face_count, face_place}
 use Rattle.model.specs.Corner.{number_at}
 use Rattle.model.specs.ParentElements.{stored_parents, has_parents}
 use Rattle.model.proofs.Logic.{untrue, and_second, and_both}
 use Rattle.ranges.proofs.Cases.{both}
 use Rattle.rows.specs.declared.Row.{Row}
-use Rattle.ranges.specs.Tables.{Found}
+use Rattle.ranges.specs.Tables.{holds}
 use Rattle.usage_bytes.specs.Marks.{after_use}
 use Rattle.usage_bytes.specs.ParentMarks.{matched}
 use Rattle.face_places.proofs.Accepted.{faces_are}
@@ -31,9 +31,9 @@ use Rattle.agreement.proofs.ArrayLaws.{face-section}
 use Rattle.agreement.proofs.Steps.{inside, use_unasked, use_asked}
 
 -- the entry that holds a face
-pub found_at : {b firsts reach places : List ℕ} {faces : Faces} {o f j : ℕ} → Tables b faces firsts reach places o → face_of (tree_of b) faces.zone f ≡ true
-    → Found firsts reach faces.count f f j → At b faces.zone firsts places faces.count f j
-found_at t e w = face-found t.accepted t.ranges refl e w
+pub found_at : {b firsts reach places : List ℕ} {faces : Faces} {o f j : ℕ} → Tables b faces firsts reach places o
+    → (j < faces.count) × (holds firsts reach f j ≡ true) → At b faces.zone firsts places faces.count f j
+found_at t w = face-found t.accepted t.ranges w
 
 module _ {b : List ℕ} (a : Accepted b) {z n f j : ℕ} {firsts places : List ℕ} (at : At b z firsts places n f j) where
   abbrev s : ℕ

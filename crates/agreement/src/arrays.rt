@@ -30,7 +30,7 @@ fn put_array(
         return;
     }
     let span = span_of(image, index, s);
-    let j = ranges::find(firsts, reach, n, n, span.first);
+    let j = ranges::find(firsts, reach, n, n, span.first).unwrap();
     arrays[j] = sids::parents_of(image, index, s, NGON) as u16;
 }
 

@@ -35,9 +35,8 @@ fn match_entry(
     out: &mut [u8],
 ) -> bool
     requires numbers { Numbers image.now row.at row.width row.n × (k < row.n) }
-    requires k_value { face_of (tree_of image.now) faces.zone (magnitude row.width (number_at image.now row.at row.width k)) ≡ true }
     requires tables { Tables image.now faces firsts.now reach.now places.now (length out.old) }
-    requires found_for { FoundFor image.now row k firsts.now reach.now faces.count j }
+    requires found_for { FoundFor image.now row k firsts.now reach.now faces.count (Some j) }
     requires parent_row { ParentRow image.now
         (parents_of (tree_of image.now) (section_with_face (tree_of image.now) faces.zone (magnitude row.width (number_at image.now row.at row.width k))))
         (element_count (tree_of image.now) (section_with_face (tree_of image.now) faces.zone (magnitude row.width (number_at image.now row.at row.width k))))
@@ -101,7 +100,8 @@ fn match_entries(
             levels,
             &mut guesses,
             last,
-        );
+        )
+        .unwrap();
         array = array_at(image, arrays, j, last, array);
         let element = span.first + cell.place as u64;
         if !match_entry(

@@ -4,10 +4,11 @@ use mathlib.Core.Path.{◌≡◌, sym, ◌∙◌}
 use mathlib.Core.Bool.{true, false, ◌&&◌}
 use mathlib.Core.List.{List}
 use native.Mathlib.Omega.{arith}
-use lib.Dec.{eqb, ltb}
+use lib.Dec.{eqb}
 use lib.ListN.{length, get_or, set}
 use lib.Seq.{get_or-set_other}
-use borrow.Author.Tests.{ltb-true}
+use Rattle.std.proofs.Common.{Option}
+use Rattle.std.specs.Option.{is_some}
 use Rattle.model.specs.Lists.{sum_before}
 use Rattle.model.specs.Image.{Tree, tree_of, node_count}
 use Rattle.model.specs.Given.{Accepted}
@@ -15,8 +16,8 @@ use Rattle.model.specs.Containment.{section_of}
 use Rattle.model.specs.Elements.{NGON, element_type_of, first_element, in_range, face_section, has_face, face_of, section_with_face}
 use Rattle.model.specs.FaceUsage.{faces_in, face_count, face_place}
 use Rattle.model.proofs.Walks.{sum_before_step}
-use Rattle.ranges.specs.Tables.{holds, in_ranges, meets_section, Inserted, Placed}
-use Rattle.ranges.proofs.Halving.{met}
+use Rattle.ranges.specs.Tables.{holds, in_ranges, meets_section, Found, Inserted, Placed}
+use Rattle.ranges.proofs.Halving.{met, found_any}
 use Rattle.ranges.proofs.Moving.{placed_every}
 use Rattle.ranges.proofs.Gathering.{gathered_start, gathered_skip, gathered_more, gathered-room, gathered-has}
 use Rattle.face_places.specs.declared.zone_sections.Span.{Span}
@@ -117,24 +118,26 @@ module _ {b : List ℕ} (a : Accepted b) {z n : ℕ} {firsts reach places : List
   unfolding face_of has_face in_range meets_section tree_of
   in_ranges_lem f = g.gathered.meets f f
 
-  -- what a look-up of a face finds
-  pub face-found : {f m j : ℕ} → f ≡ m → face_of (tree_of b) z m ≡ true → (ltb j n ≡ in_ranges firsts reach n f) × (j < n → holds firsts reach f j ≡ true)
-      → At b z firsts places n f j
+  -- a look-up of a face finds an entry
+  pub face-there : (f : ℕ) (r : Option ℕ) → face_of (tree_of b) z f ≡ true → Found firsts reach n f f r → is_some r ≡ true
+  face-there f r w o = found_any firsts reach f f n r o ∙ in_ranges_lem f ∙ w
+
+  -- what the entry tells
+  pub face-found : {f j : ℕ} → (j < n) × (holds firsts reach f j ≡ true) → At b z firsts places n f j
   unfolding has_face in_range meets_section
-  face-found {f} {m} {j} p e o =
-      let l : j < n = ltb-true j n (o.0 ∙ in_ranges_lem f ∙ rw p e) in
-      let q = g.begins j l in
+  face-found {f} {j} o =
+      let q = g.begins j o.0 in
       let r = (face-ranged a z q.section q.earlier q.brings).up in
-      let k = gathered-has g.gathered (apart a z) f j q.section l (o.1 l) q.earlier q.brings r q.first-is in
+      let k = gathered-has g.gathered (apart a z) f j q.section o.0 o.1 q.earlier q.brings r q.first-is in
       let w = place_is a z q.section f q.earlier k in
       let s = found-is a z q.section f q.earlier k in
       let r : face_place (tree_of b) z f ≡ get_or places j 0 + (f - get_or firsts j 0) = w.0 ∙ rw (q.place_is, q.first-is) in
       record {
-        inside = l;
+        inside = o.0;
         known = rw s q.earlier;
         has = rw s k;
         first-is = rw s q.first-is;
-        from = (met firsts reach f f j (o.1 l)).0;
+        from = (met firsts reach f f j o.1).0;
         place = r;
         below = w.1;
         small = omega (arith, w.1, r, all_faces, total-few a g (omega arith));

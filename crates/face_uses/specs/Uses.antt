@@ -1,5 +1,5 @@
 -- Uses of a zone's faces, as the functions here tell them: bytes that are lent, each with a bit for each sign.
-use Rattle.std.specs.Prelude.{ℕ, ◌≤◌, ◌<◌, ◌≡◌, Bool, true, List, get_or, drop, Result, Ok, Err}
+use Rattle.std.specs.Prelude.{ℕ, ◌≤◌, ◌<◌, ◌≡◌, Bool, true, List, get_or, drop, Option, Result, Ok, Err}
 use Rattle.model.specs.declared.Rejection.{Rejection}
 use Rattle.model.specs.Bytes.{negative, magnitude}
 use Rattle.model.specs.Rules.{Answer, rejected, answer}
@@ -25,10 +25,10 @@ pub record Tables (b : List ℕ) (f : Faces) (firsts reach places : List ℕ) (o
   pub tree : Built f.tree
   pub room : face_count (tree_of b) f.zone ≤ out
 
--- entry j of n is what a search for the magnitude of number k of a row finds
-abbrev pub FoundFor : List ℕ → Row → ℕ → List ℕ → List ℕ → ℕ → ℕ → Type 0
-FoundFor b row k firsts reach n j =
-    let f = magnitude row.width (number_at b row.at row.width k) in Found firsts reach n f f j
+-- what a search among n entries for the magnitude of number k of a row finds
+abbrev pub FoundFor : List ℕ → Row → ℕ → List ℕ → List ℕ → ℕ → Option ℕ → Type 0
+FoundFor b row k firsts reach n r =
+    let f = magnitude row.width (number_at b row.at row.width k) in Found firsts reach n f f r
 
 -- what the reference x of w bytes does to the bytes
 pub record UsedAt (t : Tree) (z w x : ℕ) (bytes : List ℕ) (free : Bool) (after : List ℕ) : Type 0 where

@@ -55,7 +55,7 @@ fn guess_block(
     guesses[8] = start + 1;
 }
 
-// The entry that holds the face of reference k of a row: `last`, that of the reference before, is asked first, then the one guessed.
+// The entry that holds the face of reference k of a row, where one does: `last`, that of the reference before, is asked first, then the one guessed.
 pub fn entry_of(
     image: &[u8],
     faces: Faces,
@@ -66,7 +66,7 @@ pub fn entry_of(
     levels: &[u32],
     guesses: &mut [usize],
     last: usize,
-) -> usize
+) -> Option<usize>
     requires numbers { Numbers image.now row.at row.width row.n × (k < row.n) }
     requires k_bound { magnitude row.width (number_at image.now row.at row.width k) < 9223372036854775808 }
     requires ordered { Ordered firsts.now reach.now faces.count }
@@ -76,7 +76,7 @@ pub fn entry_of(
     let count = faces.count;
     let f = magnitude_at(image, row, k);
     if entry_holds(firsts, reach, count, f, last) {
-        return last;
+        return Some(last);
     }
     let start = k - k % 8;
     if guesses[8] != start + 1 {
@@ -98,9 +98,8 @@ fn use_entry(
     out: &mut [u8],
 ) -> bool
     requires numbers { Numbers image.now row.at row.width row.n × (k < row.n) }
-    requires k_value { face_of (tree_of image.now) faces.zone (magnitude row.width (number_at image.now row.at row.width k)) ≡ true }
     requires tables { Tables image.now faces firsts.now reach.now places.now (length out.old) }
-    requires found_for { FoundFor image.now row k firsts.now reach.now faces.count j }
+    requires found_for { FoundFor image.now row k firsts.now reach.now faces.count (Some j) }
     ensures { UsedAt (tree_of image.now) faces.zone row.width (number_at image.now row.at row.width k)
         out.old result out.new }
 {
@@ -141,7 +140,8 @@ fn use_entries(
             levels,
             &mut guesses,
             last,
-        );
+        )
+        .unwrap();
         if !use_entry(image, faces, row, k, firsts, reach, places, j, out) {
             let e = element_holding(image, index, s, k);
             return Err(Rejection::repeated(s as u64, e));

@@ -2,7 +2,7 @@
 use mathlib.Core.Path.{refl, sym, ◌∙◌}
 use native.Mathlib.Omega.{arith}
 use Rattle.section_data.proofs.TableLaws.{face-small}
-use Rattle.face_places.proofs.Gathering.{few-ranges}
+use Rattle.face_places.proofs.Gathering.{few-ranges, face-there}
 use Rattle.face_uses.proofs.Runs.{tables_kept, entry-face}
 use Rattle.agreement.proofs.ArrayLaws.{array_is, array_stores, face-row}
 use Rattle.agreement.proofs.CellLaws.{at_next}
@@ -39,29 +39,32 @@ cell_at-cell-requires c =
     let f = cells_filled c.references_of-row.ensures c.if-row-eq0.false c.span_of-span.ensures w in
     record { numbers = (w.numbers, (f, c.loop-k-test.true)); at_most = c.loop-k.invariant.at }
 
-pub entry_of-j-requires : goal.entry_of-j-requires
-entry_of-j-requires c =
+pub entry_of-requires : goal.entry_of-requires
+entry_of-requires c =
     let l = c.loop-k in
     let r = c.references_of-row.ensures in
     let h = c.loop-k-test.true in
     let m = face-small c.requires.tables.accepted.sound _ _ (entry-face (r.each l.k h)) in
     record { numbers = (r.numbers, h); k_bound = omega arith; ordered = c.requires.tables.ranges.gathered.ordered; built = ((c.requires.tables.tree, c.requires.index.1), omega arith) }
 
+pub unwrap-j-requires : goal.unwrap-j-requires
+unwrap-j-requires c =
+    face-there c.requires.tables.accepted c.requires.tables.ranges _ _ (entry-face (c.references_of-row.ensures.each c.loop-k.k c.loop-k-test.true)) c.entry_of.ensures
+
 pub array_at-array-requires : goal.array_at-array-requires
 array_at-array-requires c =
     let l = c.loop-k in
     let a = c.requires.tables.accepted in
     let h = c.loop-k-test.true in
-    let at = found_at c.requires.tables (entry-face (c.references_of-row.ensures.each l.k h)) c.entry_of-j.ensures in record { sound = ((a.sound, omega (arith, at.inside, c.requires.arrays.room)), rw (array_is a c.requires.arrays at) (parents_most _ _)); stores_columns = (array_stores a c.requires.arrays at, λ e. rw e (l.invariant.known (omega (arith, at.inside, few-ranges a c.requires.tables.ranges)))) }
+    let at = found_at c.requires.tables (rw c.unwrap-j.ensures at c.entry_of.ensures) in record { sound = ((a.sound, omega (arith, at.inside, c.requires.arrays.room)), rw (array_is a c.requires.arrays at) (parents_most _ _)); stores_columns = (array_stores a c.requires.arrays at, λ e. rw e (l.invariant.known (omega (arith, at.inside, few-ranges a c.requires.tables.ranges)))) }
 
 pub match_entry-requires : goal.match_entry-requires
 match_entry-requires c =
     let l = c.loop-k in
     let r = c.references_of-row.ensures in
     let h = c.loop-k-test.true in
-    let f = entry-face (r.each l.k h) in
-    let e = c.entry_of-j.ensures in
-    record { numbers = (r.numbers, h); k_value = f; tables = tables_kept c.requires.tables l.invariant.done.kept.long; found_for = e; parent_row = face-row c.requires.tables.accepted c.requires.arrays (found_at c.requires.tables f e) c.array_at-array.ensures }
+    let e = rw c.unwrap-j.ensures at c.entry_of.ensures in
+    record { numbers = (r.numbers, h); tables = tables_kept c.requires.tables l.invariant.done.kept.long; found_for = e; parent_row = face-row c.requires.tables.accepted c.requires.arrays (found_at c.requires.tables e) c.array_at-array.ensures }
 
 pub returns-then-not-match_entry : goal.returns-then-not-match_entry
 returns-then-not-match_entry c =

@@ -10,7 +10,7 @@ use Rattle.face_uses.proofs.uses.use_entry.Goals.{After-magnitude_at-f, After-pl
 found : (m : After-magnitude_at-f) → let a = m.args in
     At a.image.now a.faces.zone a.firsts.now a.places.now a.faces.count m.magnitude_at-f.result a.j
 found m =
-    face-found m.requires.tables.accepted m.requires.tables.ranges m.magnitude_at-f.ensures m.requires.k_value (rw m.magnitude_at-f.ensures m.requires.found_for)
+    face-found m.requires.tables.accepted m.requires.tables.ranges (rw m.magnitude_at-f.ensures m.requires.found_for)
 
 pub place_of-p-requires : goal.place_of-p-requires
 place_of-p-requires c =

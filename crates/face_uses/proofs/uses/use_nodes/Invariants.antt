@@ -1,5 +1,5 @@
 -- The whole run is the rest from node i on, over the bytes that the nodes before it left.
-use Prim.Native.Nat.{◌-◌, ◌≤◌}
+use Prim.Native.Nat.{◌-◌}
 use mathlib.Core.Path.{◌≡◌}
 use Rattle.model.specs.Image.{tree_of, node_count}
 use Rattle.model.specs.FaceUsage.{face_count, use_nodes}
