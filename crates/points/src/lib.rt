@@ -14,7 +14,7 @@ ghost use Rattle.types.specs.Given.{NodeContext};
 ghost use Rattle.points.specs.Given.{TypedRange};
 ghost use Rattle.points.specs.Between.{lawful_between};
 
-use labels::roles;
+use labels::Role;
 
 // The distance of a signed number from the smallest one of its width.
 fn distance(x: u64, width: usize) -> u64
@@ -82,8 +82,8 @@ pub fn index_range_value(image: &[u8], index: &[u16], i: usize) -> bool
 {
     let above = index::role_of(image, index, records::parent_of(image, i));
     match above {
-        roles::ELEMENTS => types::pair_within(image, i, types::MAX_NUMBER),
-        roles::FLOW_SOLUTION => point_range_value(image, index, i),
+        Role::Elements => types::pair_within(image, i, types::MAX_NUMBER),
+        Role::FlowSolution => point_range_value(image, index, i),
         _ => true,
     }
 }

@@ -6,7 +6,7 @@ ghost use Rattle.index.specs.Index.{Index};
 ghost use Rattle.types.specs.Given.{NodeContext};
 
 use super::zone::zone_value;
-use labels::roles;
+use labels::Role;
 
 // Rule 25 at a node that meets 24.
 pub fn value_lawful(image: &[u8], index: &[u16], i: usize) -> bool
@@ -15,14 +15,14 @@ pub fn value_lawful(image: &[u8], index: &[u16], i: usize) -> bool
 {
     let role = index::role_of(image, index, i);
     match role {
-        roles::BASE => types::pair_within(image, i, 3),
-        roles::ZONE => zone_value(image, index, i),
-        roles::ZONE_TYPE => types::zone_type_value(image, i),
-        roles::FLOW_SOLUTION => points::not_both(image, index, i),
-        roles::ELEMENTS => types::not_negative(image, i, 1),
-        roles::INDEX_RANGE => points::index_range_value(image, index, i),
-        roles::RIND => types::rind_value(image, i),
-        roles::GRID_LOCATION => types::location_value(image, i),
+        Role::Base => types::pair_within(image, i, 3),
+        Role::Zone => zone_value(image, index, i),
+        Role::ZoneType => types::zone_type_value(image, i),
+        Role::FlowSolution => points::not_both(image, index, i),
+        Role::Elements => types::not_negative(image, i, 1),
+        Role::IndexRange => points::index_range_value(image, index, i),
+        Role::Rind => types::rind_value(image, i),
+        Role::GridLocation => types::location_value(image, i),
         _ => true,
     }
 }

@@ -9,7 +9,7 @@ ghost use Rattle.index.specs.Index.{kind, Index};
 ghost use Rattle.sids.specs.Groups.{is_required};
 
 use super::children::{connectivity_of, range_of};
-use labels::roles;
+use labels::Role;
 
 // Rule 20 below node up: the placing table has the label under this parent; Elements_t in an unstructured zone only. Both are roles.
 pub fn placed(image: &[u8], index: &[u16], up: usize, above: u64, below: u64) -> bool
@@ -21,7 +21,7 @@ pub fn placed(image: &[u8], index: &[u16], up: usize, above: u64, below: u64) ->
     if !labels::may_hold(above, below) {
         return false;
     }
-    if below != roles::ELEMENTS {
+    if below != Role::Elements {
         return true;
     }
     types::unstructured(image, index, up)
@@ -32,7 +32,7 @@ fn base_child(image: &[u8], j: usize) -> bool
     requires { Sound image.now × (j < node_count image.now) }
     ensures { result ≡ base_child (tree_of image.now) j }
 {
-    records::parent_of(image, j) == 0 && labels::role_of(image, j) == roles::BASE
+    records::parent_of(image, j) == 0 && labels::role_of(image, j) == Role::Base
 }
 
 // The root has one.
@@ -68,9 +68,9 @@ pub fn complete(image: &[u8], index: &[u16], i: usize) -> bool
 {
     let role = index::role_of(image, index, i);
     match role {
-        roles::ROOT => has_base(image),
-        roles::ZONE => types::zone_type_of(image, index, i) < labels::node_count(image),
-        roles::ELEMENTS => section_complete(image, index, i),
+        Role::Root => has_base(image),
+        Role::Zone => types::zone_type_of(image, index, i) < labels::node_count(image),
+        Role::Elements => section_complete(image, index, i),
         _ => true,
     }
 }
@@ -86,8 +86,8 @@ pub fn is_required(image: &[u8], index: &[u16], i: usize) -> bool
     let up = records::parent_of(image, i);
     let kind = index::kind_of(image, index, up);
     match kind {
-        roles::ZONE => index::zone_type(image, index, up) == i,
-        roles::ELEMENTS => index::range(image, index, up) == i
+        Role::Zone => index::zone_type(image, index, up) == i,
+        Role::Elements => index::range(image, index, up) == i
             || index::connectivity(image, index, up) == i,
         _ => false,
     }

@@ -14,7 +14,7 @@ ghost use Rattle.sids.specs.Groups.{place_rules, content_rules};
 use super::data_size::has_data_size;
 use super::permitted::value_lawful;
 use super::required::{complete, is_required, placed};
-use labels::roles;
+use labels::Role;
 use model::{Rejection, reject};
 
 // Rules 20 and 21.
@@ -65,11 +65,11 @@ pub fn sized_array(image: &[u8], index: &[u16], i: usize) -> bool
     requires i_value { validated (tree_of image.now) i ≡ true }
     ensures { result ≡ sized_array (tree_of image.now) i }
 {
-    if index::role_of(image, index, i) != roles::DATA_ARRAY {
+    if index::role_of(image, index, i) != Role::DataArray {
         return false;
     }
     let above = index::role_of(image, index, records::parent_of(image, i));
-    above == roles::GRID_COORDINATES || above == roles::FLOW_SOLUTION
+    above == Role::GridCoordinates || above == Role::FlowSolution
 }
 
 // The node before node i, whose parent is `up`, is an array with the same parent.
@@ -78,7 +78,7 @@ fn follows_array(image: &[u8], index: &[u16], i: usize, up: usize) -> bool
     ensures { result ≡ (eqb (parent (tree_of image.now) (i - 1)) up && validated_as (tree_of image.now) DataArray (i - 1)) }
 {
     records::parent_of(image, i - 1) == up
-        && index::validated_as(image, index, roles::DATA_ARRAY, i - 1)
+        && index::validated_as(image, index, Role::DataArray, i - 1)
 }
 
 // Rule 26: a coordinate or flow array has exactly the dimensions of DataSize. An array before it under the same node has them.

@@ -1,5 +1,5 @@
--- Two lists of bytes, or of numbers, as a loop compares them.
-use Prim.Native.Nat.{ℕ, ◌+◌, ◌≤◌, ◌<◌}
+-- Two lists of bytes, or of numbers, as a walk compares them.
+use Prim.Native.Nat.{ℕ, zero, suc, ◌+◌, ◌≤◌, ◌<◌}
 use mathlib.Core.Path.{◌≡◌, sym, ◌∙◌}
 use mathlib.Core.Bool.{true, false, ◌&&◌}
 use mathlib.Core.List.{List}
@@ -8,6 +8,8 @@ use lib.ListN.{length, get_or, take, drop, drop_of_length-le}
 use lib.Seq.{drop-cons, length-take-le, get_or-take}
 use lib.Dec.{eqb}
 use borrow.Author.Tests.{eq-eqb, ne_eqb}
+use native.Mathlib.Omega.{arith}
+use Rattle.model.specs.Lists.{every_from}
 use Rattle.model.specs.Bytes.{same}
 
 -- the first k are the same: the next one, and the end
@@ -25,6 +27,17 @@ module _ (s u : List ℕ) (k : ℕ) where
   pub same_end : length s ≤ k → length u ≤ k → true ≡ same (drop k s) (drop k u)
   unfolding same
   same_end h l = rw (drop_of_length-le s h, drop_of_length-le u l)
+
+-- as many, one by one
+module _ (s u : List ℕ) where
+  each_from : (m i : ℕ) → length s ≡ i + m → length u ≡ i + m → every_from (λ (k : ℕ). eqb (get_or s k 0) (get_or u k 0)) m i ≡ same (drop i s) (drop i u)
+  unfolding every_from
+  each_from zero i h l = same_end s u i (omega arith) (omega arith)
+  each_from (suc m) i h l =
+      rw (each_from m (suc i) (omega arith) (omega arith)) (rw add-one at (sym (same_step s u i (omega arith) (omega arith))))
+
+  pub same-each : (n : ℕ) → length s ≡ n → length u ≡ n → every_from (λ (k : ℕ). eqb (get_or s k 0) (get_or u k 0)) n 0 ≡ same s u
+  same-each n h l = each_from n 0 (omega arith) (omega arith)
 
 -- the first n of some numbers
 module _ (s u : List ℕ) (n k : ℕ) (e : length s ≡ n) (l : n ≤ length u) where

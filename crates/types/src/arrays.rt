@@ -7,7 +7,7 @@ ghost use Rattle.model.specs.Values.{typed, element_array, section_array_type, a
 ghost use Rattle.index.specs.Index.{Index};
 
 use super::shapes::{flat, typed, typed_either};
-use labels::{names, roles};
+use labels::{Name, Role};
 use records::data_types;
 
 // The name is ElementConnectivity or ElementStartOffset.
@@ -15,8 +15,8 @@ fn element_array(image: &[u8], i: usize) -> bool
     requires { Sound image.now × (i < node_count image.now) }
     ensures { result ≡ element_array (tree_of image.now) i }
 {
-    labels::name_is(image, i, names::ELEMENT_CONNECTIVITY)
-        || labels::name_is(image, i, names::ELEMENT_START_OFFSET)
+    labels::name_is(image, i, Name::ElementConnectivity)
+        || labels::name_is(image, i, Name::ElementStartOffset)
 }
 
 // Under a section: those two I4 or I8 with one dimension, others anything but MT.
@@ -47,9 +47,9 @@ pub fn array_type(image: &[u8], index: &[u16], i: usize) -> bool
 {
     let role = index::role_of(image, index, records::parent_of(image, i));
     match role {
-        roles::GRID_COORDINATES => typed_either(image, i, data_types::R4, data_types::R8),
-        roles::FLOW_SOLUTION => number_type(image, i),
-        roles::ELEMENTS => section_array_type(image, i),
+        Role::GridCoordinates => typed_either(image, i, data_types::R4, data_types::R8),
+        Role::FlowSolution => number_type(image, i),
+        Role::Elements => section_array_type(image, i),
         _ => false,
     }
 }

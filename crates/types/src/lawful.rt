@@ -9,7 +9,7 @@ ghost use Rattle.types.specs.Given.{ZoneInBase, HeldContext, NodeContext};
 use super::arrays::array_type;
 use super::shapes::{shaped, text_shape, typed, typed_either};
 use super::zones::{dimension_above, index_dimension};
-use labels::roles;
+use labels::Role;
 use records::{RecordNumbers, data_types};
 
 // The data type is a, and the dimensions are the first n of these sizes.
@@ -60,8 +60,8 @@ fn range_shape(image: &[u8], index: &[u16], i: usize) -> bool
 {
     let above = index::role_of(image, index, records::parent_of(image, i));
     match above {
-        roles::ELEMENTS => whole_shaped(image, i, 1, [2, 0, 0]),
-        roles::FLOW_SOLUTION => {
+        Role::Elements => whole_shaped(image, i, 1, [2, 0, 0]),
+        Role::FlowSolution => {
             whole_shaped(image, i, 2, [dimension_above(image, index, i), 2, 0])
         }
         _ => false,
@@ -74,7 +74,7 @@ fn list_shape(image: &[u8], index: &[u16], i: usize) -> bool
     ensures { result ≡ (typed (tree_of image.now) i (I4 ∷ I8 ∷ []) && list_shape (tree_of image.now) i) }
 {
     let above = index::role_of(image, index, records::parent_of(image, i));
-    if above != roles::FLOW_SOLUTION {
+    if above != Role::FlowSolution {
         return false;
     }
     if RecordNumbers::read(image, i).rank != 2 {
@@ -91,16 +91,15 @@ pub fn type_lawful(image: &[u8], index: &[u16], i: usize) -> bool
 {
     let role = index::role_of(image, index, i);
     match role {
-        roles::LIBRARY_VERSION => typed_shaped(image, i, data_types::R4, 1, [1, 0, 0]),
-        roles::BASE | roles::ELEMENTS => typed_shaped(image, i, data_types::I4, 1, [2, 0, 0]),
-        roles::ZONE => zone_shape(image, index, i),
-        roles::ZONE_TYPE | roles::GRID_LOCATION | roles::DESCRIPTOR => text_shape(image, i),
-        roles::GRID_COORDINATES | roles::USER_DEFINED_DATA => typed(image, i, data_types::MT),
-        roles::FLOW_SOLUTION | roles::ROOT => typed(image, i, data_types::MT),
-        roles::INDEX_RANGE => range_shape(image, index, i),
-        roles::RIND => rind_shape(image, index, i),
-        roles::DATA_ARRAY => array_type(image, index, i),
-        roles::INDEX_ARRAY => list_shape(image, index, i),
-        _ => false,
+        Role::LibraryVersion => typed_shaped(image, i, data_types::R4, 1, [1, 0, 0]),
+        Role::Base | Role::Elements => typed_shaped(image, i, data_types::I4, 1, [2, 0, 0]),
+        Role::Zone => zone_shape(image, index, i),
+        Role::ZoneType | Role::GridLocation | Role::Descriptor => text_shape(image, i),
+        Role::GridCoordinates | Role::UserDefinedData => typed(image, i, data_types::MT),
+        Role::FlowSolution | Role::Root => typed(image, i, data_types::MT),
+        Role::IndexRange => range_shape(image, index, i),
+        Role::Rind => rind_shape(image, index, i),
+        Role::DataArray => array_type(image, index, i),
+        Role::IndexArray => list_shape(image, index, i),
     }
 }

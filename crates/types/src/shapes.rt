@@ -58,12 +58,7 @@ pub fn same_shape(image: &[u8], i: usize, j: usize) -> bool
     if RecordNumbers::read(image, j).rank as usize != n {
         return false;
     }
-    for k in 0..n {
-        if records::dimension(image, i, k) != records::dimension(image, j, k) {
-            return false;
-        }
-    }
-    true
+    (0..n).all(|k| records::dimension(image, i, k) == records::dimension(image, j, k))
 }
 
 // A text: C1 with one dimension.

@@ -11,24 +11,30 @@ use Rattle.model.specs.Values.{typed, shaped, index_dimension, zone_above, list_
 use Rattle.model.proofs.Bounds.{node-placed}
 use Rattle.model.proofs.Reading.{rank_is}
 use Rattle.labels.proofs.Fields.{same_not}
+use Rattle.labels.specs.Roles.{role_number}
+use Rattle.labels.specs.contracts.roles.Role.{the_type}
+use denote.Enum.Bare.{differs_true, differs_false}
+use borrow.Author.Rules.{rules}
+use Rattle.labels.specs.declared.roles.Role.TheVariants as v
+use Rattle.labels.proofs.Numbers.{not_role}
 use Rattle.types.proofs.lawful.list_shape.Goals as goal
 use Rattle.types.proofs.lawful.list_shape.Goals.{After-dimension-count, After-role_of-above, Else-read-ne2}
 
 -- the role of the node above
 module _ (c : After-role_of-above) where
-  above-is : c.role_of-above.result ≡ role (tree_of c.args.image.now) (parent (tree_of c.args.image.now) c.args.i)
-  above-is = rw c.parent_of.ensures.0 at c.role_of-above.ensures.0
+  above-is : role_number c.role_of-above.result ≡ role (tree_of c.args.image.now) (parent (tree_of c.args.image.now) c.args.i)
+  above-is = rw c.parent_of.ensures.0 at c.role_of-above.ensures
 
 pub role_of-above-requires : goal.role_of-above-requires
 role_of-above-requires c =
     let p = c.requires in
     rw c.parent_of.ensures.0 (record { index = (p.0.0, p.1.above); i_value = p.1.above-validated })
 
-pub returns-then-above-ne-FLOW_SOLUTION : goal.returns-then-above-ne-FLOW_SOLUTION
+pub returns-then-ne : goal.returns-then-ne
 unfolding list_shape
-returns-then-above-ne-FLOW_SOLUTION c =
+returns-then-ne c =
     let a = c.args in
-    rw (← above-is (goal.at.returns-then-above-ne-FLOW_SOLUTION c).After-role_of-above, ne_eqb c.role_of-above.result 6 c.if-above-ne-FLOW_SOLUTION.true) (sym (and-false (typed (tree_of a.image.now) a.i (I4 ∷ I8 ∷ []))))
+    rw (← above-is (goal.at.returns-then-ne c).After-role_of-above, ne_eqb (role_number c.role_of-above.result) 6 (not_role _ v.FlowSolution (differs_true the_type _ _ (sym c.if-ne.ensures)))) (sym (and-false (typed (tree_of a.image.now) a.i (I4 ∷ I8 ∷ []))))
 
 pub returns-then-read-ne2 : goal.returns-then-read-ne2
 unfolding list_shape shaped
@@ -54,12 +60,12 @@ pub dimension_above-requires : goal.dimension_above-requires
 dimension_above-requires c =
     let k = (goal.at.dimension_above-requires c).After-role_of-above in
     let p = k.requires in
-    ((p.0.0, p.1.above), (p.0.1, p.1.flow (sym (above-is k) ∙ c.if-above-ne-FLOW_SOLUTION.false)))
+    ((p.0.0, p.1.above), (p.0.1, p.1.flow (sym (above-is k) ∙ ap role_number (differs_false the_type (search rules) _ v.FlowSolution (sym c.if-ne.ensures)))))
 
 pub returns : goal.returns
 unfolding list_shape list_count
 returns c =
     let d = (goal.at.returns c).After-dimension-count in
     let k = (goal.at.returns c).After-role_of-above in
-    rw (sym (above-is k) ∙ d.if-above-ne-FLOW_SOLUTION.false)
+    rw (sym (above-is k) ∙ ap role_number (differs_false the_type (search rules) _ v.FlowSolution (sym d.if-ne.ensures)))
     (rw (c.dimension_above.ensures.0, d.dimension-count.ensures) at c.whole_shaped.ensures)

@@ -1,14 +1,21 @@
--- What is left of the dimensions decides.
-use native.Mathlib.Omega.{arith}
+-- Both have n dimensions, and each is the same.
+use Prim.Native.Nat.{ℕ}
 use mathlib.Core.Path.{◌≡◌, refl, sym, ap, ◌∙◌}
-use lib.ListN.{length}
+use lib.Dec.{eqb}
+use lib.ListN.{length, get_or}
+use native.Mathlib.Omega.{arith}
 use borrow.Author.Rules.{rules}
+use borrow.Author.Tests.{tests}
+use Rattle.std.proofs.iter.Serving.{serving}
+use Rattle.std.proofs.lemmas.Iterator.{YieldsList-from_range}
+use Rattle.std.proofs.lemmas.Iterator.Search.{all_from_yields_List}
 use Rattle.model.specs.Image.{tree_of, dimensions}
 use Rattle.model.specs.Values.{shaped}
 use Rattle.model.proofs.Bounds.{node-placed}
-use Rattle.labels.proofs.Fields.{same_not}
-use Rattle.types.proofs.Same.{same-on, same-off, same_end}
+use Rattle.model.proofs.Chains.{every_in_range}
 use Rattle.model.proofs.Reading.{rank_is}
+use Rattle.labels.proofs.Fields.{same_not}
+use Rattle.types.proofs.Same.{same-each}
 use Rattle.types.proofs.shapes.same_shape.Goals as goal
 use Rattle.types.proofs.shapes.same_shape.Goals.{Else-read-n}
 
@@ -27,40 +34,22 @@ returns-then-read-n c =
     let y = ap (λ r. r.rank) c.read.ensures in
     sym (same_not _ _ (λ e. c.if-read-n.true (y ∙ sym (rank_is _ _) ∙ sym e ∙ rank_is _ _ ∙ sym x)))
 
-pub loop-k-init : goal.loop-k-init
-unfolding shaped
-loop-k-init c = refl
-
-pub dimension-requires-clause-k_bound : goal.dimension-requires-clause-k_bound
-dimension-requires-clause-k_bound c =
+pub all-requires-clause-callable : goal.all-requires-clause-callable
+all-requires-clause-callable c =
+    let d = (goal.at.all-requires-clause-callable c).Else-read-n in
     let p = node-placed c.args.image.now c.requires.0.table c.args.i (search rules) in
-    let e = sym (rank_is _ _) ∙ rank-i (goal.at.dimension-requires-clause-k_bound c).Else-read-n in
-    search rules
-
-pub dimension-requires-in-loop-k-clause-k_bound : goal.dimension-requires-in-loop-k-clause-k_bound
-dimension-requires-in-loop-k-clause-k_bound c =
-    let p = node-placed c.args.image.now c.requires.0.table c.args.j (search rules) in
-    let e = sym (rank_is _ _) ∙ rank-j (goal.at.dimension-requires-in-loop-k-clause-k_bound c).Else-read-n in
-    search rules
-
-pub returns-then-dimension : goal.returns-then-dimension
-returns-then-dimension c =
-    let p = (goal.at.returns-then-dimension c).Else-read-n in
-    let i = rank-i p in
-    let j = rank-j p in
-    same-off _ _ c.loop-k.k (omega arith) (omega arith) (λ e. c.if-dimension.true (c.dimension.ensures ∙ e ∙ sym c.dimension-in-loop-k.ensures))
-    ∙ c.loop-k.invariant
-
-pub loop-k-preserved : goal.loop-k-preserved
-loop-k-preserved c =
-    let p = (goal.at.loop-k-preserved c).Else-read-n in
-    let i = rank-i p in
-    let j = rank-j p in
-    same-on _ _ c.loop-k.k (omega arith) (omega arith) (sym c.dimension.ensures ∙ c.if-dimension.false ∙ c.dimension-in-loop-k.ensures) ∙ c.loop-k.invariant
+    let q = node-placed c.args.image.now c.requires.0.table c.args.j (search rules) in
+    let e = sym (rank_is _ _) ∙ rank-i d in
+    let f = sym (rank_is _ _) ∙ rank-j d in
+    grind serving
 
 pub returns : goal.returns
+unfolding shaped
 returns c =
-    let p = (goal.at.returns c).Else-read-n in
-    let i = rank-i p in
-    let j = rank-j p in
-    same_end _ _ c.loop-k.k (omega arith) (omega arith) ∙ c.loop-k.invariant
+    let a = c.args in
+    let d = (goal.at.returns c).Else-read-n in
+    let t = tree_of a.image.now in
+    let p = λ (k : ℕ). eqb (get_or (dimensions t a.i) k 0) (get_or (dimensions t a.j) k 0) in
+    all_from_yields_List p _ _ _ c.all.ensures.ran (YieldsList-from_range 0 c.read-n.result.rank c.read-n.result.rank refl (omega arith)) (λ f b q k. search (rules, tests))
+    ∙ every_in_range p c.read-n.result.rank 0
+    ∙ same-each (dimensions t a.i) (dimensions t a.j) c.read-n.result.rank (rank-i d) (rank-j d)
