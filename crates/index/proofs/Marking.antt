@@ -17,7 +17,7 @@ use Rattle.model.specs.Containment.{role, validated, validated_as, is_child, chi
 use Rattle.model.specs.Given.{Sound}
 use Rattle.model.specs.Found.{if_below}
 use Rattle.model.proofs.Found.{is_some, is_none}
-use Rattle.model.proofs.Logic.{and_first}
+use Rattle.model.proofs.Logic.{untrue, and_first}
 use Rattle.model.proofs.Loops.{seek_start, seek_stop, seek_done}
 use Rattle.model.proofs.Children.{no_child}
 use Rattle.model.proofs.Parents.{parent-lower, lawful_at}
@@ -68,6 +68,12 @@ module _ (b : List ℕ) (s : Sound b) where
       by_test : (c : Bool) → eqb (cond c (role (tree_of b) j) 0) r ≡ (eqb (role (tree_of b) j) r && c)
       by_test true = sym (and-true (eqb (role (tree_of b) j) r))
       by_test false = ne_eqb 0 r (λ z. absurd (omega arith)) ∙ sym (and-false (eqb (role (tree_of b) j) r))
+
+  pub the_kind : {j r : ℕ} → j < node_count b → 0 < r → validated_as (tree_of b) r j ≡ true → kind (tree_of b) j ≡ r
+  the_kind {j} {r} h k e = eqb-true _ r (kind_as j r h k ∙ e)
+
+  pub not_kind : {j r : ℕ} → j < node_count b → 0 < r → validated_as (tree_of b) r j ≡ false → kind (tree_of b) j ≡ r → ⊥
+  not_kind {j} {r} h k e q = untrue (sym e ∙ sym (kind_as j r h k) ∙ eq-eqb _ r q)
 
   pub lower : (j : ℕ) → j < node_count b → 0 < j → parent (tree_of b) j < j
   lower j h z = parent-lower (tree_of b) j (lawful_at b s j h) (λ q. absurd (omega arith))

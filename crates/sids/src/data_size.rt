@@ -22,7 +22,7 @@ fn cell_centred(image: &[u8], index: &[u16], p: usize) -> bool
     requires { Index image.now index.now × Sized image.now p }
     ensures { result ≡ cell_centred (tree_of image.now) p }
 {
-    if index::kind_of(image, index, p) != Role::FlowSolution {
+    if !index::validated_as(image, index, Role::FlowSolution, p) {
         return false;
     }
     types::reads_if_found(
@@ -133,7 +133,7 @@ pub fn has_data_size(image: &[u8], index: &[u16], p: usize, i: usize) -> bool
     requires i_bound { i < node_count image.now }
     ensures { result ≡ shaped (tree_of image.now) i (data_sizes (tree_of image.now) p) }
 {
-    if index::kind_of(image, index, p) == Role::FlowSolution {
+    if index::validated_as(image, index, Role::FlowSolution, p) {
         return flow_sized(image, index, p, i);
     }
     zone_sized(image, index, p, i)

@@ -5,20 +5,20 @@ ghost use Rattle.model.specs.Image.{tree_of, node_count};
 ghost use Rattle.model.specs.Given.{Sound};
 ghost use Rattle.model.specs.Containment.{role, may_hold, found, validated, Elements};
 ghost use Rattle.model.specs.Values.{unstructured, base_child, complete, range_of, connectivity_of};
+ghost use Rattle.labels.specs.Roles.{role_number};
 ghost use Rattle.index.specs.Index.{kind, Index};
 ghost use Rattle.sids.specs.Groups.{is_required};
 
 use super::children::{connectivity_of, range_of};
 use labels::Role;
 
-// Rule 20 below node up: the placing table has the label under this parent; Elements_t in an unstructured zone only. Both are roles.
-pub fn placed(image: &[u8], index: &[u16], up: usize, above: u64, below: u64) -> bool
+// Rule 20 below node up: the placing table has the label under this parent; Elements_t in an unstructured zone only.
+pub fn placed(image: &[u8], index: &[u16], up: usize, above: Role, below: Role) -> bool
     requires index { Index image.now index.now × (up < node_count image.now) }
-    requires up_value { (validated (tree_of image.now) up ≡ true) × (above ≡ role (tree_of image.now) up) }
-    requires above_bound { (above < 16) × (below < 16) }
-    ensures { result ≡ (may_hold above below && (eqb below Elements ⊃ unstructured (tree_of image.now) up)) }
+    requires up_value { (validated (tree_of image.now) up ≡ true) × (role_number above ≡ role (tree_of image.now) up) }
+    ensures { result ≡ (may_hold (role_number above) (role_number below) && (eqb (role_number below) Elements ⊃ unstructured (tree_of image.now) up)) }
 {
-    if !labels::may_hold(above, below) {
+    if !labels::may_hold(Some(above), Some(below)) {
         return false;
     }
     if below != Role::Elements {
@@ -32,7 +32,7 @@ fn base_child(image: &[u8], j: usize) -> bool
     requires { Sound image.now × (j < node_count image.now) }
     ensures { result ≡ base_child (tree_of image.now) j }
 {
-    records::parent_of(image, j) == 0 && labels::role_of(image, j) == Role::Base
+    records::parent_of(image, j) == 0 && labels::role_of(image, j) == Some(Role::Base)
 }
 
 // The root has one.
@@ -84,7 +84,9 @@ pub fn is_required(image: &[u8], index: &[u16], i: usize) -> bool
         return false;
     }
     let up = records::parent_of(image, i);
-    let kind = index::kind_of(image, index, up);
+    let Some(kind) = index::kind_of(image, index, up) else {
+        return false;
+    };
     match kind {
         Role::Zone => index::zone_type(image, index, up) == i,
         Role::Elements => index::range(image, index, up) == i

@@ -32,7 +32,7 @@ fn place_stage(image: &[u8], index: &[u16], i: usize) -> Result<(), Rejection>
     if !placed(image, index, up, above, below) {
         return reject(20, i);
     }
-    if !labels::named(image, above, below, i) {
+    if !labels::named(image, Some(above), Some(below), i) {
         return reject(21, i);
     }
     Ok(())

@@ -1,7 +1,5 @@
 -- What is left of the nodes decides.
-use native.Mathlib.Omega.{arith}
 use mathlib.Core.Path.{sym, ◌∙◌}
-use borrow.Author.Rules.{rules}
 use Rattle.model.proofs.Loops.{some_more, some_stop, some-done}
 use Rattle.sids.proofs.required.has_base.Goals as goal
 

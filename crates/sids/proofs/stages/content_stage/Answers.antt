@@ -1,7 +1,5 @@
 -- A required child meets them; else one rule after the other.
 use mathlib.Core.Path.{sym, ◌∙◌}
-use mathlib.Core.Bool.{true}
-use Rattle.model.specs.Values.{complete, type_lawful}
 use Rattle.model.proofs.Staging.{broken, kept, no_rule}
 use Rattle.sids.proofs.RequiredChild.{required_kept}
 use Rattle.sids.proofs.stages.content_stage.Goals as goal

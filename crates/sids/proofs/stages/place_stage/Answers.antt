@@ -32,7 +32,7 @@ placed-is t i z e f g h = rw (ne_eqb i 0 z, ← e, ← f, ← g) (sym h)
 module _ (c : After-placed) where
   place_is : placed (tree_of c.args.image.now) c.args.i ≡ c.placed.result
   place_is =
-      placed-is _ _ c.if-i-eq0.false c.parent_of-up.ensures.0 c.role_of-above.ensures.0 c.role_of-below.ensures.0
+      placed-is _ _ c.if-i-eq0.false c.parent_of-up.ensures.0 c.role_of-above.ensures c.role_of-below.ensures
       c.placed.ensures
 
 pub returns-then-i-eq0 : goal.returns-then-i-eq0
@@ -52,7 +52,7 @@ pub placed-requires : goal.placed-requires
 placed-requires c =
     let u = role_of-above-requires (goal.at.placed-requires c).After-parent_of-up in
     let r = c.role_of-above.ensures in
-    record { index = u.index; up_value = (u.i_value, r.0); above_bound = (r.1, c.role_of-below.ensures.1) }
+    record { index = u.index; up_value = (u.i_value, r) }
 
 pub returns-then-not-placed : goal.returns-then-not-placed
 returns-then-not-placed c = c.reject.ensures ∙ sym (broken _ 20 _ (place_is (goal.at.returns-then-not-placed c).After-placed ∙ c.if-not-placed.true))
@@ -61,7 +61,7 @@ pub named-requires : goal.named-requires
 named-requires c =
     let r = c.role_of-above.ensures in
     let q = c.role_of-below.ensures in
-    record { laid = (c.requires.index.0.sound.laid, c.requires.index.1); above_value = (rw (← c.parent_of-up.ensures.0) r.0, q.0); above_bound = (r.1, q.1) }
+    record { laid = (c.requires.index.0.sound.laid, c.requires.index.1); above_value = (rw (← c.parent_of-up.ensures.0) r, q) }
 
 pub returns-then-not-named : goal.returns-then-not-named
 returns-then-not-named c =
