@@ -10,7 +10,7 @@ use borrow.Author.Tests.{ne_eqb, ltb-false}
 use Rattle.std.proofs.Common.{Option, Some, None}
 use Rattle.std.specs.Bool.{then_some}
 use Rattle.model.specs.Found.{if_below}
-use Rattle.std.specs.Option.{is_some, option_eq}
+use Rattle.std.specs.Option.{is_some, option_eq, unwrap_or}
 use Rattle.model.proofs.Found.{is_some as some_below, is_none as none_below, the_some, the_none}
 use Rattle.model.specs.Lists.{among}
 use Rattle.model.specs.Bytes.{le, same, spells, text, place_from}
@@ -40,6 +40,15 @@ module _ (b : List ℕ) (i : ℕ) (h : node_count b ≤ i) where
 -- one that is there: which it is, and that it is a node
 pub there : {n x j : ℕ} → Some j ≡ if_below n x → (j ≡ x) × (j < n)
 there e = let l = the_some (sym e) in (l.0, rw (← l.0) at l.1)
+
+-- its data, or those of a missing one
+pub reads_by : (b : List ℕ) (x : ℕ) (u : List ℕ) {o : Option ℕ} {r : Bool} → o ≡ if_below (node_count b) x
+    → r ≡ reads (tree_of b) (unwrap_or o (node_count b)) u → r ≡ reads (tree_of b) x u
+reads_by b x u {o} e f = by_test o e f
+  where
+    by_test : {r : Bool} (o : Option ℕ) → o ≡ if_below (node_count b) x → r ≡ reads (tree_of b) (unwrap_or o (node_count b)) u → r ≡ reads (tree_of b) x u
+    by_test None e f = f ∙ reads_past b (node_count b) (omega arith) u ∙ sym (reads_past b x (the_none (sym e)) u)
+    by_test (Some j) e f = rw (there e).0 at f
 
 -- is one there?
 some_if : (n x : ℕ) → is_some (if_below n x) ≡ ltb x n
