@@ -108,7 +108,7 @@ module _ (above below : ℕ) {k : ℕ} (e : k ≡ cell_of above below) (h : abov
   pub name_free : k ≤ 1 → true ≡ spells d (fixed_name above below d fixed_names)
   name_free m = let z : k - 1 ≡ 0 = omega arith in spells_self d ∙ ap (spells d) (sym (by_cell ∙ rw z))
 
-  pub name-place : 1 < k → k - 1 - 1 < 10
+  name-place : 1 < k → k - 1 - 1 < 10
   name-place m = let s = cell_small above below h l in omega arith
 
   pub name_fixed : 1 < k → spells d (get_or known_names (k - 1 - 1) []) ≡ spells d (fixed_name above below d fixed_names)

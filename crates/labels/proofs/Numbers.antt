@@ -1,6 +1,6 @@
 -- The numbers of roles and names: below 16 and 10, and each of one role.
 use Prim.Native.Nat.{suc, ◌<◌}
-use mathlib.Core.Path.{◌≡◌, refl, sym, ap, ◌∙◌}
+use mathlib.Core.Path.{◌≡◌, refl, sym, ◌∙◌}
 use mathlib.Core.Bool.{Bool}
 use borrow.Author.Tests.{ne_eqb, lt-ltb}
 use Rattle.std.specs.Option.{option_eq, is_some}
@@ -76,12 +76,6 @@ same_kind e (Some s) r = e s r ∙ same_role s r
 pub some_kind : (o : Option Role) → is_some o ≡ ltb 0 (kind_number o)
 some_kind None = refl
 some_kind (Some r) = sym (lt-ltb 0 (role_number r) (role_few r).0)
-
-pub one_kind : (o p : Option Role) → kind_number o ≡ kind_number p → o ≡ p
-one_kind None None e = refl
-one_kind None (Some s) e = absurd (let f = role_few s in omega arith)
-one_kind (Some r) None e = absurd (let f = role_few r in omega arith)
-one_kind (Some r) (Some s) e = ap Some (one_role r s e)
 
 -- what an Option tells, in other words
 pub turned : {A : Type 0} {P Q : Type 0} {F G : A → Type 0} (o : Option A) → MatchOption o P F → (P → Q) → ((x : A) → F x → G x) → MatchOption o Q G

@@ -12,7 +12,7 @@ ghost use Rattle.parents.specs.Parents.{pair_at, stores_parents, parents_broken,
 
 use super::columns::are_cells;
 use element_types::NGON;
-use labels::roles::ELEMENTS;
+use labels::Role;
 use records::data_types::{I4, I8};
 use rows::Row;
 use section_data::{element_count, range_if};
@@ -61,7 +61,7 @@ fn is_lawful(
     requires cells { Cells (tree_of image.now) firsts.now reach.now cells }
     ensures { result ≡ parents_lawful (tree_of image.now) s }
 {
-    let n = element_count(image, range_of(image, index, s), s);
+    let n = element_count(image, range_of(image, index, s).unwrap(), s);
     if !types::typed_either(image, j, I4, I8) {
         return false;
     }
@@ -77,12 +77,11 @@ fn parents_if(image: &[u8], index: &[u16], i: usize) -> Option<usize>
     requires { Index image.now index.now × (i < node_count image.now) }
     ensures { result ≡ parents_if (tree_of image.now) i }
 {
-    if index::kind_of(image, index, i) != ELEMENTS {
+    if !index::validated_as(image, index, Role::Elements, i) {
         return None;
     }
     range_if(image, index, NGON, i)?;
-    let j = parents_of(image, index, i, NGON);
-    (j < labels::node_count(image)).then_some(j)
+    parents_of(image, index, i, NGON)
 }
 
 // Does node i break rule 39?

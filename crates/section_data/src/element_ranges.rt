@@ -13,7 +13,7 @@ ghost use Rattle.section_data.specs.Given.{Ranged};
 ghost use Rattle.section_data.specs.Ranges.{is_wanted, is_ranged, first_key, last_key, range_if, overlap_at, of_type, TableOf, Faces, Cells};
 
 use element_types::{NFACE, NGON};
-use labels::roles::ELEMENTS;
+use labels::Role;
 use records::data_types::I4;
 use sids::range_of;
 
@@ -50,14 +50,13 @@ pub fn range_if(image: &[u8], index: &[u16], element_type: u64, i: usize) -> Opt
     requires { Index image.now index.now × (i < node_count image.now) }
     ensures { result ≡ range_if (tree_of image.now) element_type i }
 {
-    if index::kind_of(image, index, i) != ELEMENTS {
+    if !index::validated_as(image, index, Role::Elements, i) {
         return None;
     }
     if !is_wanted(image, element_type, i) {
         return None;
     }
-    let range = range_of(image, index, i);
-    (range < labels::node_count(image)).then_some(range)
+    range_of(image, index, i)
 }
 
 // The keys of a section's first and last element.
@@ -213,10 +212,9 @@ fn section_has(image: &[u8], index: &[u16], i: usize, e: u64) -> bool
     if !is_lawful(image, i) {
         return false;
     }
-    let range = range_of(image, index, i);
-    if labels::node_count(image) <= range {
+    let Some(range) = range_of(image, index, i) else {
         return false;
-    }
+    };
     in_range(image, range, i, e)
 }
 
@@ -228,7 +226,7 @@ fn has_element(image: &[u8], index: &[u16], z: usize, e: u64, i: usize) -> bool
     if records::parent_of(image, i) != z {
         return false;
     }
-    if index::kind_of(image, index, i) != ELEMENTS {
+    if !index::validated_as(image, index, Role::Elements, i) {
         return false;
     }
     section_has(image, index, i, e)

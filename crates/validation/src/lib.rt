@@ -17,7 +17,7 @@ ghost use Rattle.parents.specs.Parents.{parents_broken};
 
 mod sizes; // sizes.rt: the DataSize of an array
 
-use labels::roles::{ELEMENTS, ZONE};
+use labels::Role;
 use model::{Rejection, Validation};
 pub use sizes::data_size;
 
@@ -41,7 +41,7 @@ fn section_stage(
     requires faces { Faces (tree_of image.now) firsts.now reach.now faces × (2048 ≤ length levels.old) }
     ensures { stage_tells result ≡ section_check (tree_of image.now) i }
 {
-    if index::role_of(image, index, i) == ELEMENTS {
+    if index::role_of(image, index, i) == Role::Elements {
         return elements::element_stage(
             image, index, i, overlap, parents, firsts, reach, faces, levels,
         );
@@ -159,9 +159,9 @@ fn counted(image: &[u8], index: &[u16]) -> Validation
     let mut sections: u64 = 0;
     for i in 0..n {
         let kind = index::kind_of(image, index, i);
-        validated += u64::from(0 < kind);
-        zones += u64::from(kind == ZONE);
-        sections += u64::from(kind == ELEMENTS);
+        validated += u64::from(kind.is_some());
+        zones += u64::from(kind == Some(Role::Zone));
+        sections += u64::from(kind == Some(Role::Elements));
     }
     Validation {
         validated,

@@ -6,6 +6,9 @@ use lib.Dec.{eqb, ltb}
 use Rattle.model.specs.Image.{tree_of, node_count}
 use Rattle.model.specs.Containment.{validated_as, Zone, Elements}
 use Rattle.index.proofs.Marking.{kind-validated, kind_as}
+use Rattle.labels.specs.Roles.{kind_number}
+use Rattle.labels.specs.declared.roles.Role.TheVariants as v
+use Rattle.labels.proofs.Numbers.{some_kind, same_kind}
 use Rattle.validation.proofs.Laws.{none_counted, more_counted, all_counted, counts_are}
 use Rattle.validation.proofs.counted.Goals as goal
 
@@ -17,13 +20,15 @@ loop-i-preserved c =
     let b = c.args.image.now in
     let i = c.loop-i.i in
     let h : i < node_count b = omega arith in
-    let e = c.kind_of-kind.ensures.0 in
-    let counts : (r : ℕ) → 0 < r → eqb c.kind_of-kind.result r ≡ validated_as (tree_of b) r i = λ r z. ap (λ (x : ℕ). eqb x r) e ∙ kind_as b
+    let o = c.kind_of-kind.result in
+    let e = c.kind_of-kind.ensures in
+    let of : (r : ℕ) → 0 < r → eqb (kind_number o) r ≡ validated_as (tree_of b) r i = λ r z. ap (λ (x : ℕ). eqb x r) e ∙ kind_as b
     c.requires.sound i r h z in (
-      more_counted c.loop-i.invariant.0 _ (omega arith) (ap (ltb 0) e ∙ kind-validated b c.requires.sound i h) c.from-validated.ensures,
+      more_counted c.loop-i.invariant.0 _ (omega arith) (c.is_some.ensures ∙ some_kind o ∙ ap (ltb 0) e ∙ kind-validated b c.requires.sound i h) c.from-validated.ensures,
       (
-        more_counted c.loop-i.invariant.1.0 _ (omega arith) (counts Zone (omega arith)) c.from-zones.ensures,
-        more_counted c.loop-i.invariant.1.1 _ (omega arith) (counts Elements (omega arith)) c.from-sections.ensures,
+        more_counted c.loop-i.invariant.1.0 _ (omega arith) (c.eq.ensures ∙ same_kind (λ r s. refl) o v.Zone ∙ of Zone (omega arith)) c.from-zones.ensures,
+        more_counted c.loop-i.invariant.1.1 _ (omega arith) (c.eq-in-loop-i.ensures ∙ same_kind (λ r s. refl) o v.Elements ∙ of Elements (omega arith))
+            c.from-sections.ensures,
       ),
     )
 
