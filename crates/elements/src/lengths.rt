@@ -118,7 +118,7 @@ fn offset_shape(
         return Err(Rejection::at(29, s as u64));
     }
     let least = least_size(image, s, element_type);
-    offsets_stage(image, s, row_of(image, offsets), length, least)
+    offsets_stage(image, s, row_of(image, offsets.unwrap()), length, least)
 }
 
 // Rules 29 to 33 at section s, with n elements.

@@ -39,7 +39,7 @@ fn array_stage(
     requires faces { Faces (tree_of image.now) firsts.now reach.now faces × (2048 ≤ length levels.old) }
     ensures { stage_tells result ≡ (check s (shape_rules (tree_of image.now) s) then connectivity_check (tree_of image.now) s) }
 {
-    let row = row_of(image, connectivity_of(image, index, s));
+    let row = row_of(image, connectivity_of(image, index, s).unwrap());
     shape_stage(image, index, s, element_type, n, row.n as u64)?;
     reference_stage(
         image,
@@ -83,7 +83,7 @@ pub fn element_stage(
     if overlap == Some(s) {
         return Err(Rejection::at(28, s as u64));
     }
-    let n = element_count(image, range_of(image, index, s), s);
+    let n = element_count(image, range_of(image, index, s).unwrap(), s);
     array_stage(
         image,
         index,

@@ -1,17 +1,24 @@
 -- The parents that a face section of an accepted image stores: rule 39 says that they are two columns of whole numbers, one number a face in each.
 use Prim.Native.Nat.{ℕ, zero, suc, ◌+◌, ◌*◌, ◌≤◌, ◌<◌}
-use mathlib.Core.Path.{◌≡◌, sym, ap, ◌∙◌}
-use mathlib.Core.Bool.{Bool, true, ◌&&◌}
+use mathlib.Core.Path.{◌≡◌, refl, sym, ap, ◌∙◌}
+use mathlib.Core.Bool.{Bool, true, false, cond, ◌&&◌}
 use mathlib.Core.List.{List, [], ◌∷◌}
 use native.Mathlib.Omega.{arith}
 use native.Mathlib.Nat.{suc-mul}
 use lib.Dec.{T, eqb, ltb}
 use lib.ListN.{length, get_or}
 use borrow.Author.Tests.{ltb-true}
+use Rattle.std.proofs.Common.{Option, Some, None}
+use Rattle.std.specs.Option.{unwrap_or}
+use Rattle.model.specs.Bytes.{text}
+use Rattle.model.specs.Found.{if_below}
+use Rattle.model.proofs.Found.{the_none}
+use Rattle.model.proofs.LookedUp.{seek_within}
+use Rattle.types.proofs.Missing.{there}
 use Rattle.model.specs.Image.{tree_of, node_count, word_count, node, dimensions, width, I4, I8}
 use Rattle.model.specs.Given.{Sound, Accepted}
 use Rattle.model.specs.Records.{product}
-use Rattle.model.specs.Containment.{section_of, found}
+use Rattle.model.specs.Containment.{section_of, found, child, is_child, or_missing, DataArray}
 use Rattle.model.specs.Values.{typed, shaped}
 use Rattle.model.specs.Elements.{NGON, element_type_of, element_count, parents_of, parents_lawful, parent_rules}
 use Rattle.model.specs.ParentElements.{has_parents}
@@ -30,6 +37,19 @@ use Rattle.face_parents.specs.Parents.{Columns, ParentRow}
 pub found_by : (b : List ℕ) {j k n : ℕ} → j ≡ k → n ≡ node_count b → ltb j n ≡ found (tree_of b) k
 unfolding found tree_of
 found_by b e f = rw (e, f)
+
+-- what a look-up gave, as the model's number
+pub parents_most : (b : List ℕ) (s : ℕ) → parents_of (tree_of b) s ≤ node_count b
+unfolding parents_of or_missing child tree_of
+parents_most b s = let t = tree_of b in by_test (eqb (element_type_of t s) NGON) (omega (arith, seek_within (is_child t s DataArray (text "ParentElements")) t.count 0))
+  where
+    by_test : {j : ℕ} (c : Bool) → j ≤ node_count b → cond c j (node_count b) ≤ node_count b
+    by_test true h = h
+    by_test false h = omega arith
+
+pub looked_up : (b : List ℕ) (s : ℕ) (o : Option ℕ) → o ≡ if_below (node_count b) (parents_of (tree_of b) s) → unwrap_or o (node_count b) ≡ parents_of (tree_of b) s
+looked_up b s None e = omega (arith, the_none (sym e), parents_most b s)
+looked_up b s (Some j) e = (there e).0
 
 module _ {b : List ℕ} (a : Accepted b) (z s : ℕ) (h : s < node_count b) where
   -- a section of type 22 with the array
@@ -82,3 +102,7 @@ module _ {b : List ℕ} (s : Sound b) {a n : ℕ} (c : Columns b a n) where
         long = λ h. q;
         stored = λ k h. rw (e, f) (stores-number s c.stores k (omega (arith, q)));
       }
+
+-- the row of a missing node
+pub no_row : {b : List ℕ} → Sound b → ParentRow b (node_count b) (get_or (dimensions (tree_of b) (node_count b)) 0 0) (record { at = 0; width = 4; n = 0 })
+no_row s = record { numbers = record { wide = tt; inside = omega arith }; none = λ h. refl; long = λ h. absurd (omega arith); stored = λ k h. absurd (omega arith) }

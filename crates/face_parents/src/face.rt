@@ -57,7 +57,7 @@ fn stored_parents(image: &[u8], index: &[u16], s: usize, a: usize, f: u64) -> Pa
     ensures { parents_tells (Ok result) ≡ answer (stored_parents (tree_of image.now) s f) }
 {
     let span = span_of(image, index, s);
-    let row = parents_row(image, a);
+    let row = parents_row(image, Some(a));
     let k = (f - span.first) as usize;
     let n = (span.last - span.first + 1) as usize;
     let first = number_at(image, row, k);
@@ -82,9 +82,8 @@ pub fn parents_of_face(
     let Some(s) = section_with_face(image, index, z, f) else {
         return Err(Rejection::at(41, 0));
     };
-    let a = sids::parents_of(image, index, s, NGON);
-    if labels::node_count(image) <= a {
+    let Some(a) = sids::parents_of(image, index, s, NGON) else {
         return Err(Rejection::at(54, 0));
-    }
+    };
     Ok(stored_parents(image, index, s, a, f))
 }

@@ -1,5 +1,6 @@
 // The parents that a face section stores, as a row of numbers: the first parents of its faces, then the second ones.
-ghost use Rattle.std.specs.Prelude.{◌≡◌, ◌≤◌, ◌<◌, get_or};
+ghost use Rattle.std.specs.Prelude.{◌≡◌, ◌<◌, ℕ, Some, get_or};
+ghost use Rattle.std.specs.Option.{unwrap_or};
 ghost use Rattle.model.specs.Image.{tree_of, node_count, dimensions};
 ghost use Rattle.model.specs.Given.{Sound, Accepted};
 ghost use Rattle.model.specs.ParentElements.{has_parents};
@@ -10,19 +11,19 @@ use element_types::NGON;
 use face_places::zone_sections::has_type;
 use rows::Row;
 
-// The numbers of node a, which stores two columns; none where there is no such node.
-pub fn parents_row(image: &[u8], a: usize) -> Row
-    requires sound { Sound image.now × (a ≤ node_count image.now) }
-    requires columns { a < node_count image.now → Columns image.now a (get_or (dimensions (tree_of image.now) a) 0 0) }
-    ensures { ParentRow image.now a (get_or (dimensions (tree_of image.now) a) 0 0) result }
+// The numbers of a node that stores two columns; none where there is none.
+pub fn parents_row(image: &[u8], node: Option<usize>) -> Row
+    requires sound { Sound image.now }
+    requires columns { (a : ℕ) → node ≡ Some a → Columns image.now a (get_or (dimensions (tree_of image.now) a) 0 0) }
+    ensures { let a = unwrap_or node (node_count image.now) in ParentRow image.now a (get_or (dimensions (tree_of image.now) a) 0 0) result }
 {
-    if labels::node_count(image) <= a {
+    let Some(a) = node else {
         return Row {
             at: 0,
             width: 4,
             n: 0,
         };
-    }
+    };
     let at = records::data_start(image, a);
     let width = records::width_at(image, a);
     let n = records::dimension(image, a, 0) as usize;
@@ -41,5 +42,5 @@ pub fn has_parents(image: &[u8], index: &[u16], z: usize, s: usize) -> bool
     if !has_type(image, index, z, s, NGON) {
         return false;
     }
-    sids::parents_of(image, index, s, NGON) < labels::node_count(image)
+    sids::parents_of(image, index, s, NGON).is_some()
 }

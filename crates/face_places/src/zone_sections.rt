@@ -30,7 +30,7 @@ pub fn span_of(image: &[u8], index: &[u16], s: usize) -> Span
     requires { Section image.now index.now s }
     ensures { Spans image.now s result }
 {
-    let range = sids::range_of(image, index, s);
+    let range = sids::range_of(image, index, s).unwrap();
     Span {
         first: types::whole(image, range, 0),
         last: types::whole(image, range, 1),

@@ -25,7 +25,7 @@ pub fn references_of(image: &[u8], index: &[u16], z: usize, s: usize) -> Row
             n: 0,
         };
     }
-    row_of(image, sids::connectivity_of(image, index, s))
+    row_of(image, sids::connectivity_of(image, index, s).unwrap())
 }
 
 // The start offsets of cell section s, whose elements are the span.
@@ -33,7 +33,7 @@ pub fn cell_offsets(image: &[u8], index: &[u16], s: usize, span: Span) -> Row
     requires { Cells image.now index.now s × Spans image.now s span }
     ensures { RowOf image.now (offsets_of (tree_of image.now) s) (span.last - span.first + 2) result }
 {
-    let offsets = sids::offsets_of(image, index, s);
+    let offsets = sids::offsets_of(image, index, s).unwrap();
     Row {
         at: records::data_start(image, offsets),
         width: records::width_at(image, offsets),

@@ -10,10 +10,13 @@ use lib.Dec.{eqb, ltb}
 use lib.ListN.{length, get_or, set, length-set}
 use lib.Seq.{get_or-set_same, get_or-set_other}
 use borrow.Author.Tests.{eq-eqb, ne_eqb, eqb-true, lt-ltb, ltb-true}
+use Rattle.std.proofs.Common.{Option, Some, None}
 use Rattle.model.specs.Lists.{seek_from}
 use Rattle.model.specs.Image.{Tree, tree_of, node_count, parent}
 use Rattle.model.specs.Containment.{role, validated, validated_as, is_child, child, UserDefinedData}
 use Rattle.model.specs.Given.{Sound}
+use Rattle.model.specs.Found.{if_below}
+use Rattle.model.proofs.Found.{is_some, is_none}
 use Rattle.model.proofs.Logic.{untrue, and_first}
 use Rattle.model.proofs.Loops.{seek_start, seek_stop, seek_done}
 use Rattle.model.proofs.Children.{no_child}
@@ -153,22 +156,23 @@ kind_parts t j {r} e h = by_test (validated t j) e
 
 -- a slot tells the model's look-up
 module _ {b index : List ℕ} (x : Index b index) (p k : ℕ) (h : p < node_count b) (l : k < 4) where
-  pub slot_found : (slot_at index p k ≡ 0 → ⊥) → (slot_at index p k ≡ slot_child (tree_of b) p k) × (slot_at index p k ≤ node_count b)
+  pub slot_found : (slot_at index p k ≡ 0 → ⊥) → Some (slot_at index p k) ≡ if_below (node_count b) (slot_child (tree_of b) p k)
   unfolding slot_child is_slot_child child tree_of
   slot_found z =
       let f = x.rows.slots p k h l in
       let y : 0 < slot_at index p k = omega (arith, z) in
       let u = f.inside y in
-      (first_found f y, omega arith)
+      rw (← first_found f y) (sym (is_some u))
 
-  pub slot_empty : slot_at index p k ≡ 0 → node_count b ≡ slot_child (tree_of b) p k
+  pub slot_empty : slot_at index p k ≡ 0 → None ≡ if_below (node_count b) (slot_child (tree_of b) p k)
   unfolding slot_child is_slot_child child tree_of
-  slot_empty e = first-none (x.rows.slots p k h l) e
+  slot_empty e = sym (is_none (omega (arith, first-none (x.rows.slots p k h l) e)))
 
 -- which child a slot of a node of a kind is for
-pub slot_child_lem : (t : Tree) (p k : ℕ) {r : ℕ} → kind t p ≡ r → slot_child t p k ≡ child t p (key_role r k) (key_name r k)
+pub slot_for : (t : Tree) (p k n : ℕ) {r : ℕ} {x : Option ℕ} → x ≡ if_below n (slot_child t p k) → kind t p ≡ r
+    → x ≡ if_below n (child t p (key_role r k) (key_name r k))
 unfolding slot_child
-slot_child_lem t p k e = rw e
+slot_for t p k n f e = rw e at f
 
 -- four writes
 pub row_begun : (s : List ℕ) (j v : ℕ) → 4 * j + 4 ≤ length s

@@ -2,6 +2,7 @@
 ghost use Rattle.std.specs.Prelude.{◌≡◌, true, ◌⊎◌, ◌+◌, ◌*◌, ◌≤◌, ◌<◌, length, Option};
 ghost use Rattle.model.specs.Image.{tree_of, node_count};
 ghost use Rattle.model.specs.Given.{Sound};
+ghost use Rattle.model.specs.Found.{if_below};
 ghost use Rattle.model.specs.Bytes.{text};
 ghost use Rattle.model.specs.Containment.{role, validated, validated_as, is_zone, section_of, child};
 ghost use Rattle.model.specs.Containment.{Zone, ZoneType, GridCoordinates, FlowSolution, Elements, IndexRange, Rind, GridLocation, DataArray, IndexArray};
@@ -161,95 +162,95 @@ pub fn section_of(image: &[u8], index: &[u16], z: usize, s: usize) -> bool
     validated_as(image, index, Role::Elements, s)
 }
 
-// The child of node p that its slot k is for; the node count where there is none.
-fn look_up(image: &[u8], index: &[u16], p: usize, k: usize) -> usize
+// The child of node p that its slot k is for.
+fn look_up(image: &[u8], index: &[u16], p: usize, k: usize) -> Option<usize>
     requires { Index image.now index.now × ((p < node_count image.now) × (k < 4)) }
-    ensures { (result ≡ slot_child (tree_of image.now) p k) × (result ≤ node_count image.now) }
+    ensures { result ≡ if_below (node_count image.now) (slot_child (tree_of image.now) p k) }
 {
     let j = index[WIDTH * p + k] % KIND;
     if j == 0 {
-        return labels::node_count(image);
+        return None;
     }
-    j as usize
+    Some(j as usize)
 }
 
 // The ZoneType of a zone.
-pub fn zone_type(image: &[u8], index: &[u16], p: usize) -> usize
+pub fn zone_type(image: &[u8], index: &[u16], p: usize) -> Option<usize>
     requires index { Index image.now index.now × (p < node_count image.now) }
     requires p_value { kind (tree_of image.now) p ≡ Zone }
-    ensures { (result ≡ child (tree_of image.now) p ZoneType (text "ZoneType")) × (result ≤ node_count image.now) }
+    ensures { result ≡ if_below (node_count image.now) (child (tree_of image.now) p ZoneType (text "ZoneType")) }
 {
     look_up(image, index, p, ZONE_TYPE)
 }
 
 // The ElementRange of a section.
-pub fn range(image: &[u8], index: &[u16], p: usize) -> usize
+pub fn range(image: &[u8], index: &[u16], p: usize) -> Option<usize>
     requires index { Index image.now index.now × (p < node_count image.now) }
     requires p_value { kind (tree_of image.now) p ≡ Elements }
-    ensures { (result ≡ child (tree_of image.now) p IndexRange (text "ElementRange")) × (result ≤ node_count image.now) }
+    ensures { result ≡ if_below (node_count image.now) (child (tree_of image.now) p IndexRange (text "ElementRange")) }
 {
     look_up(image, index, p, RANGE)
 }
 
 // The ElementConnectivity of a section.
-pub fn connectivity(image: &[u8], index: &[u16], p: usize) -> usize
+pub fn connectivity(image: &[u8], index: &[u16], p: usize) -> Option<usize>
     requires index { Index image.now index.now × (p < node_count image.now) }
     requires p_value { kind (tree_of image.now) p ≡ Elements }
-    ensures { (result ≡ child (tree_of image.now) p DataArray (text "ElementConnectivity")) × (result ≤ node_count image.now) }
+    ensures { result ≡ if_below (node_count image.now) (child (tree_of image.now) p DataArray (text "ElementConnectivity")) }
 {
     look_up(image, index, p, CONNECTIVITY)
 }
 
 // The ElementStartOffset of a section.
-pub fn offsets(image: &[u8], index: &[u16], p: usize) -> usize
+pub fn offsets(image: &[u8], index: &[u16], p: usize) -> Option<usize>
     requires index { Index image.now index.now × (p < node_count image.now) }
     requires p_value { kind (tree_of image.now) p ≡ Elements }
-    ensures { (result ≡ child (tree_of image.now) p DataArray (text "ElementStartOffset")) × (result ≤ node_count image.now) }
+    ensures { result ≡ if_below (node_count image.now) (child (tree_of image.now) p DataArray (text "ElementStartOffset")) }
 {
     look_up(image, index, p, OFFSETS)
 }
 
 // The ParentElements of a section.
-pub fn parents(image: &[u8], index: &[u16], p: usize) -> usize
+pub fn parents(image: &[u8], index: &[u16], p: usize) -> Option<usize>
     requires index { Index image.now index.now × (p < node_count image.now) }
     requires p_value { kind (tree_of image.now) p ≡ Elements }
-    ensures { (result ≡ child (tree_of image.now) p DataArray (text "ParentElements")) × (result ≤ node_count image.now) }
+    ensures { result ≡ if_below (node_count image.now) (child (tree_of image.now) p DataArray (text "ParentElements")) }
 {
     look_up(image, index, p, PARENTS)
 }
 
 // The GridLocation of a flow solution.
-pub fn location(image: &[u8], index: &[u16], p: usize) -> usize
+pub fn location(image: &[u8], index: &[u16], p: usize) -> Option<usize>
     requires index { Index image.now index.now × (p < node_count image.now) }
     requires p_value { kind (tree_of image.now) p ≡ FlowSolution }
-    ensures { (result ≡ child (tree_of image.now) p GridLocation (text "GridLocation")) × (result ≤ node_count image.now) }
+    ensures { result ≡ if_below (node_count image.now) (child (tree_of image.now) p GridLocation (text "GridLocation")) }
 {
     look_up(image, index, p, LOCATION)
 }
 
 // The PointRange of a flow solution.
-pub fn point_range(image: &[u8], index: &[u16], p: usize) -> usize
+pub fn point_range(image: &[u8], index: &[u16], p: usize) -> Option<usize>
     requires index { Index image.now index.now × (p < node_count image.now) }
     requires p_value { kind (tree_of image.now) p ≡ FlowSolution }
-    ensures { (result ≡ child (tree_of image.now) p IndexRange (text "PointRange")) × (result ≤ node_count image.now) }
+    ensures { result ≡ if_below (node_count image.now) (child (tree_of image.now) p IndexRange (text "PointRange")) }
 {
     look_up(image, index, p, POINT_RANGE)
 }
 
 // Its PointList.
-pub fn point_list(image: &[u8], index: &[u16], p: usize) -> usize
+pub fn point_list(image: &[u8], index: &[u16], p: usize) -> Option<usize>
     requires index { Index image.now index.now × (p < node_count image.now) }
     requires p_value { kind (tree_of image.now) p ≡ FlowSolution }
-    ensures { (result ≡ child (tree_of image.now) p IndexArray (text "PointList")) × (result ≤ node_count image.now) }
+    ensures { result ≡ if_below (node_count image.now) (child (tree_of image.now) p IndexArray (text "PointList")) }
 {
     look_up(image, index, p, POINT_LIST)
 }
 
 // The Rind of coordinates or of a flow solution.
-pub fn rind(image: &[u8], index: &[u16], p: usize) -> usize
+pub fn rind(image: &[u8], index: &[u16], p: usize) -> Option<usize>
     requires index { Index image.now index.now × (p < node_count image.now) }
     requires fact { (kind (tree_of image.now) p ≡ GridCoordinates) ⊎ (kind (tree_of image.now) p ≡ FlowSolution) }
-    ensures { (result ≡ child (tree_of image.now) p Rind (text "Rind")) × (result ≤ node_count image.now) }
+    ensures { result ≡ if_below (node_count image.now) (child (tree_of image.now) p Rind (text "Rind")) }
 {
     look_up(image, index, p, RIND)
 }

@@ -5,10 +5,9 @@ use mathlib.Core.Bool.{Bool, true, false, cond, not, ◌&&◌}
 use mathlib.Core.List.{List, [], ◌∷◌}
 use native.Mathlib.Omega.{arith}
 use native.Mathlib.Decide.{dec_lt}
-use lib.Dec.{eqb, ltb}
+use lib.Dec.{eqb}
 use Rattle.std.proofs.Common.{Option, None, Some, MatchOption, rules}
 use Rattle.std.proofs.lemmas.Option.{cond_some}
-use Rattle.std.specs.Bool.{then_some}
 use Rattle.std.specs.Option.{is_some, option_eq}
 use Rattle.model.specs.Found.{if_below}
 use Rattle.model.proofs.Found.{the_none, seek_found}
@@ -32,7 +31,7 @@ use Rattle.types.proofs.StoredNumbers.{whole_wide, shaped-is}
 use Rattle.section_data.specs.Given.{Stores, SectionContext}
 use Rattle.section_data.specs.Ranges.{is_wanted, is_ranged}
 use Rattle.section_data.proofs.Stored.{stores_by}
-use Rattle.section_data.proofs.RangeLaws.{then_some-is, is-section, range-found, ready_ranged, section-passed, first-is}
+use Rattle.section_data.proofs.RangeLaws.{is-section, range-found, ready_ranged, section-passed, first-is}
 use Rattle.parents.specs.Parents.{is_parent, pair_at, stores_parents, parents_if, parents_broken}
 
 -- a section of faces whose own data and range count
@@ -77,9 +76,9 @@ module _ (b : List ℕ) (s : ℕ) where
   unfolding parents_if stores_parents
   parents_none e = rw e refl
 
-  pub parents_by : {r : ℕ} → is_ranged (tree_of b) NGON s ≡ true → r ≡ parents_of (tree_of b) s → then_some (ltb r (node_count b)) r ≡ parents_if (tree_of b) s
-  unfolding parents_if stores_parents found tree_of
-  parents_by {r} e q = rw (e, ← q) (then_some-is (ltb r (node_count b)) r)
+  pub parents_by : {r : Option ℕ} → is_ranged (tree_of b) NGON s ≡ true → r ≡ if_below (node_count b) (parents_of (tree_of b) s) → r ≡ parents_if (tree_of b) s
+  unfolding parents_if stores_parents found tree_of if_below
+  parents_by e q = rw e q
 
 module _ (t : Tree) (s : ℕ) where
   pub has_parents_lem : {r : ℕ} → Some r ≡ parents_if t s → (stores_parents t s ≡ true) × (parents_of t s ≡ r)

@@ -61,7 +61,7 @@ fn is_lawful(
     requires cells { Cells (tree_of image.now) firsts.now reach.now cells }
     ensures { result ≡ parents_lawful (tree_of image.now) s }
 {
-    let n = element_count(image, range_of(image, index, s), s);
+    let n = element_count(image, range_of(image, index, s).unwrap(), s);
     if !types::typed_either(image, j, I4, I8) {
         return false;
     }
@@ -81,8 +81,7 @@ fn parents_if(image: &[u8], index: &[u16], i: usize) -> Option<usize>
         return None;
     }
     range_if(image, index, NGON, i)?;
-    let j = parents_of(image, index, i, NGON);
-    (j < labels::node_count(image)).then_some(j)
+    parents_of(image, index, i, NGON)
 }
 
 // Does node i break rule 39?

@@ -94,11 +94,10 @@ pub fn not_both(image: &[u8], index: &[u16], p: usize) -> bool
     requires p_value { kind (tree_of image.now) p ≡ FlowSolution }
     ensures { result ≡ not_both (tree_of image.now) p }
 {
-    let count = labels::node_count(image);
-    if index::point_range(image, index, p) == count {
+    if index::point_range(image, index, p).is_none() {
         return true;
     }
-    index::point_list(image, index, p) == count
+    index::point_list(image, index, p).is_none()
 }
 
 // Does a conforming PointRange have so many points? The product of the directions leaves off where it would be above them, so it never wraps.

@@ -91,7 +91,7 @@ pub fn mixed_stage(image: &[u8], index: &[u16], s: usize, row: Row) -> Result<()
     requires s_value { check s (shape_rules (tree_of image.now) s) ≡ passed }
     ensures { stage_tells result ≡ connectivity_check (tree_of image.now) s }
 {
-    let offsets = row_of(image, offsets_of(image, index, s));
+    let offsets = row_of(image, offsets_of(image, index, s).unwrap());
     let vertices = vertex_size(image, s);
     rows_stage(image, s, offsets, row, vertices)
 }

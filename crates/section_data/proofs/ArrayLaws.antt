@@ -5,6 +5,11 @@ use mathlib.Core.Bool.{Bool, true, false}
 use mathlib.Core.List.{List, []}
 use native.Mathlib.Omega.{arith}
 use lib.Dec.{ltb}
+use Rattle.std.proofs.Common.{Option, Some, None}
+use Rattle.std.specs.Option.{unwrap_or}
+use Rattle.model.specs.Found.{if_below}
+use Rattle.model.proofs.Found.{the_none}
+use Rattle.types.proofs.Missing.{there}
 use lib.ListN.{length, get_or, drop}
 use borrow.Author.Tests.{lt-ltb, ltb-true, ltb-false}
 use Rattle.model.specs.Bytes.{le, numbers}
@@ -32,6 +37,12 @@ nodes_past (suc n) s (suc i) h = nodes_past n (drop 84 s) i (omega arith)
 pub no_size : (b : List ℕ) (j : ℕ) → node_count b ≤ j → size (tree_of b) j ≡ 0
 unfolding size dimensions node tree_of node_of le numbers
 no_size b j h = rw (nodes_past (node_count b) (drop 32 b) j h)
+
+-- the size of a node, or of a missing one
+pub size_by : (b : List ℕ) (x : ℕ) (o : Option ℕ) {r : ℕ} → o ≡ if_below (node_count b) x
+    → r ≡ size (tree_of b) (unwrap_or o (node_count b)) → r ≡ size (tree_of b) x
+size_by b x None e f = f ∙ no_size b (node_count b) (omega arith) ∙ sym (no_size b x (the_none (sym e)))
+size_by b x (Some j) e f = rw (there e).0 at f
 
 -- a node with one dimension has its word
 module _ {b : List ℕ} (s : Sound b) {j : ℕ} (a : Indexed b j) where

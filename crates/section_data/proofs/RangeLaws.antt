@@ -5,13 +5,13 @@ use mathlib.Core.Bool.{Bool, true, false, cond, ◌&&◌}
 use mathlib.Core.List.{List, [], ◌∷◌}
 use native.Mathlib.Omega.{arith}
 use native.Mathlib.Decide.{dec_lt}
-use lib.Dec.{eqb, leb, ltb}
+use lib.Dec.{eqb, leb}
 use Rattle.std.proofs.Common.{Option, None, Some, rules}
 use Rattle.std.proofs.lemmas.Option.{cond_some}
-use Rattle.std.specs.Bool.{then_some}
 use Rattle.std.specs.Option.{option_eq}
 use Rattle.model.specs.Found.{if_below}
-use Rattle.model.proofs.Found.{is_some, is_none}
+use Rattle.model.proofs.Found.{is_some, is_none, the_none}
+use Rattle.types.proofs.Missing.{there}
 use borrow.Author.Tests.{eq-eqb, ne_eqb, eqb-true, lt-ltb, le-ltb, not-true}
 use Rattle.model.specs.Lists.{◌⊃◌, row, some_from, count_from, seek_from}
 use Rattle.model.specs.Image.{Tree, tree_of, node_count, parent, I4}
@@ -58,14 +58,14 @@ lawful_has {b} s i h e l =
     has_less b i 1 0 (has_pair b s i h (whole_four t i (and_first (typed t i (I4 ∷ [])) _ own)) (and_second (typed t i (I4 ∷ [])) _ own)) (omega arith)
 
 -- whether its range is there
-module _ (b : List ℕ) (s : ℕ) {r : ℕ} (e : r ≡ range_of (tree_of b) s) where
-  pub found_by : r < node_count b → found (tree_of b) (range_of (tree_of b) s) ≡ true
+module _ (b : List ℕ) (s : ℕ) {r : Option ℕ} (e : r ≡ if_below (node_count b) (range_of (tree_of b) s)) where
+  pub found_by : {j : ℕ} → r ≡ Some j → found (tree_of b) (range_of (tree_of b) s) ≡ true
   unfolding found tree_of
-  found_by h = rw (← e) (lt-ltb r (node_count b) h)
+  found_by q = let l = there (sym q ∙ e) in lt-ltb _ _ (rw (← l.0) l.1)
 
-  pub missing_by : node_count b ≤ r → found (tree_of b) (range_of (tree_of b) s) ≡ false
+  pub missing_by : r ≡ None → found (tree_of b) (range_of (tree_of b) s) ≡ false
   unfolding found tree_of
-  missing_by h = rw (← e) (le-ltb r (node_count b) h)
+  missing_by q = le-ltb _ _ (the_none (sym e ∙ q))
 
 -- a node brings an element to its zone: it is a section there, its own data and range count, and the range holds the element
 module _ (t : Tree) (z e s : ℕ) where
@@ -87,11 +87,6 @@ pub element_by : (b : List ℕ) (z e : ℕ) {n : ℕ} {v : Bool} → n ≡ node_
 unfolding element_of tree_of
 element_by b z e q h = rw q at h
 
--- a number as an Option, by a test
-pub then_some-is : (c : Bool) (x : ℕ) → then_some c x ≡ cond c (Some x) None
-then_some-is true x = refl
-then_some-is false x = refl
-
 -- the node of a section's range
 module _ (b : List ℕ) (s : ℕ) where
   pub range_none : (k : ℕ) → is_ranged (tree_of b) k s ≡ false → None ≡ range_if (tree_of b) k s
@@ -107,10 +102,10 @@ module _ (b : List ℕ) (s : ℕ) where
   unfolding is_ranged
   not_wanted k e = rw (e, and-false (validated_as (tree_of b) Elements s))
 
-  pub range_by : (k : ℕ) {r : ℕ} → validated_as (tree_of b) Elements s ≡ true → is_wanted (tree_of b) k s ≡ true → r ≡ range_of (tree_of b) s
-      → then_some (ltb r (node_count b)) r ≡ range_if (tree_of b) k s
-  unfolding range_if is_ranged found tree_of
-  range_by k {r} e g q = rw (e, g, ← q) (then_some-is (ltb r (node_count b)) r)
+  pub range_by : (k : ℕ) {r : Option ℕ} → validated_as (tree_of b) Elements s ≡ true → is_wanted (tree_of b) k s ≡ true
+      → r ≡ if_below (node_count b) (range_of (tree_of b) s) → r ≡ range_if (tree_of b) k s
+  unfolding range_if is_ranged found tree_of if_below
+  range_by k e g q = rw (e, g) q
 
 module _ (t : Tree) (k s : ℕ) where
   pub has-range : {r : ℕ} → Some r ≡ range_if t k s → (is_ranged t k s ≡ true) × (range_of t s ≡ r)

@@ -56,8 +56,7 @@ pub fn range_if(image: &[u8], index: &[u16], element_type: u64, i: usize) -> Opt
     if !is_wanted(image, element_type, i) {
         return None;
     }
-    let range = range_of(image, index, i);
-    (range < labels::node_count(image)).then_some(range)
+    range_of(image, index, i)
 }
 
 // The keys of a section's first and last element.
@@ -213,10 +212,9 @@ fn section_has(image: &[u8], index: &[u16], i: usize, e: u64) -> bool
     if !is_lawful(image, i) {
         return false;
     }
-    let range = range_of(image, index, i);
-    if labels::node_count(image) <= range {
+    let Some(range) = range_of(image, index, i) else {
         return false;
-    }
+    };
     in_range(image, range, i, e)
 }
 

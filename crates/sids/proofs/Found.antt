@@ -5,9 +5,15 @@ use mathlib.Core.Bool.{Bool, true, not, ◌&&◌, ◌||◌}
 use mathlib.Core.List.{List}
 use lib.Dec.{eqb, ltb}
 use borrow.Author.Tests.{eqb-true, eq-eqb, ltb-true, not-true}
-use Rattle.model.specs.Image.{Tree, tree_of, node_count, parent}
+use Rattle.model.specs.Image.{tree_of, node_count, parent}
 use Rattle.model.specs.Containment.{role, Zone, FlowSolution, Rind, Root, UserDefinedData, child, is_child, or_missing}
 use Rattle.model.specs.Given.{Sound}
+use Rattle.std.proofs.Common.{Option, Some, None}
+use Rattle.std.specs.Option.{unwrap_or}
+use Rattle.model.specs.Found.{if_below}
+use Rattle.model.proofs.Found.{is_none}
+use native.Mathlib.Omega.{arith}
+use Rattle.types.proofs.Missing.{there, none_kept}
 use Rattle.model.specs.Values.{zone_above, type_lawful, value_lawful, conforming}
 use Rattle.model.proofs.Logic.{untrue, and_first, and_second, or_left, or_right}
 use Rattle.model.proofs.Validated.{validated-child}
@@ -64,13 +70,17 @@ module _ (b : List ℕ) (i r : ℕ) (n : List ℕ) (h : child (tree_of b) i r n 
         flow = λ g z. zoned (f (or_right (eqb r Rind) (eqb k FlowSolution) (eq-eqb k FlowSolution (sym p.1 ∙ (rw child-parent at z)))));
       }
 
-pub found_ready : (b : List ℕ) → Sound b → (i r : ℕ) (n : List ℕ) {j k : ℕ} → kind (tree_of b) i ≡ k → asked k r ≡ true
-    → (asks_zone k r ≡ true → ZoneInBase b (parent (tree_of b) i)) → j ≡ child (tree_of b) i r n
-    → j < node_count b → NodeContext b j
-found_ready b s i r n {j} e q f g h = rw g (child_ready b i r n (rw (← g) h) s e q f)
+pub found_ready : (b : List ℕ) → Sound b → (i r : ℕ) (n : List ℕ) {o : Option ℕ} {k : ℕ} → kind (tree_of b) i ≡ k → asked k r ≡ true
+    → (asks_zone k r ≡ true → ZoneInBase b (parent (tree_of b) i)) → o ≡ if_below (node_count b) (child (tree_of b) i r n)
+    → (j : ℕ) → o ≡ Some j → NodeContext b j
+found_ready b s i r n e q f g j h = let l = there (sym h ∙ g) in rw l.0 (child_ready b i r n (rw (← l.0) l.1) s e q f)
 
 -- a looked_up child, or nothing, as rules 24 and 25 have it
-pub conforming_by : (t : Tree) (i r : ℕ) (n : List ℕ) {j x : ℕ} → j ≡ child t i r n → x ≡ or_missing t (type_lawful t j && value_lawful t j) j
-    → x ≡ conforming t i r n
+pub conforming_by : (b : List ℕ) (i r : ℕ) (n : List ℕ) (o : Option ℕ) {x : Option ℕ} → o ≡ if_below (node_count b) (child (tree_of b) i r n)
+    → (let j = unwrap_or o (node_count b) in x ≡ if_below (node_count b) (or_missing (tree_of b) (type_lawful (tree_of b) j && value_lawful (tree_of b) j) j))
+    → x ≡ if_below (node_count b) (conforming (tree_of b) i r n)
 unfolding conforming
-conforming_by t i r n e f = f ∙ rw e
+conforming_by b i r n None e f =
+    let p = λ (j : ℕ). type_lawful (tree_of b) j && value_lawful (tree_of b) j in
+    f ∙ sym (none_kept b p (node_count b) (sym (is_none (omega arith)))) ∙ none_kept b p _ e
+conforming_by b i r n (Some j) e f = rw (there e).0 at f

@@ -3,6 +3,7 @@ ghost use Rattle.std.specs.Prelude.{◌≡◌, true, [], ◌∷◌, ◌+◌, ◌
 ghost use Rattle.model.specs.Bytes.{text};
 ghost use Rattle.model.specs.Image.{tree_of, node_count, parent};
 ghost use Rattle.model.specs.Given.{Sound};
+ghost use Rattle.model.specs.Found.{if_below};
 ghost use Rattle.model.specs.Containment.{Rind, FlowSolution};
 ghost use Rattle.model.specs.Values.{index_dimension, conforming, cell_centred, rind_number, data_size, shaped, value_lawful, points, sizes_by_zone, data_sizes};
 ghost use Rattle.index.specs.Index.{kind, Index};
@@ -47,23 +48,30 @@ fn inner_sizes(image: &[u8], index: &[u16], p: usize, n: usize) -> [u64; 3]
 }
 
 // The two rind numbers of direction d, summed; 0 where no Rind conforms.
-fn rind_sum(image: &[u8], p: usize, rind: usize, d: usize) -> u64
+fn rind_sum(image: &[u8], p: usize, rind: Option<usize>, d: usize) -> u64
     requires sound { Sound image.now × UnderZone image.now p }
-    requires rind_value { (rind ≡ conforming (tree_of image.now) p Rind (text "Rind")) × (d < index_dimension (tree_of image.now) (parent (tree_of image.now) p)) }
-    requires rind_bound { (rind ≤ node_count image.now) × (d < 3) }
+    requires rind_value { (rind ≡ if_below (node_count image.now) (conforming (tree_of image.now) p Rind (text "Rind"))) × (d < index_dimension (tree_of image.now) (parent (tree_of image.now) p)) }
+    requires d_bound { d < 3 }
     ensures { (result ≡ rind_number (tree_of image.now) p (2 * d) + rind_number (tree_of image.now) p (2 * d + 1)) × (result ≤ 4294967294) }
 {
-    if rind == labels::node_count(image) {
+    let Some(rind) = rind else {
         return NO_RIND;
-    }
+    };
     types::whole(image, rind, 2 * d) + types::whole(image, rind, 2 * d + 1)
 }
 
 // The zone's size in direction d of n; 0 where the zone lacks it.
-fn data_size_at(image: &[u8], p: usize, rind: usize, n: usize, inner: [u64; 3], d: usize) -> u64
+fn data_size_at(
+    image: &[u8],
+    p: usize,
+    rind: Option<usize>,
+    n: usize,
+    inner: [u64; 3],
+    d: usize,
+) -> u64
     requires sound { Sound image.now × UnderZone image.now p }
-    requires rind_value { (rind ≡ conforming (tree_of image.now) p Rind (text "Rind")) × (n ≡ index_dimension (tree_of image.now) (parent (tree_of image.now) p)) }
-    requires rind_bound { (rind ≤ node_count image.now) × ((n ≤ 3) × (d < 3)) }
+    requires rind_value { (rind ≡ if_below (node_count image.now) (conforming (tree_of image.now) p Rind (text "Rind"))) × (n ≡ index_dimension (tree_of image.now) (parent (tree_of image.now) p)) }
+    requires n_bound { (n ≤ 3) × (d < 3) }
     requires inner_value { inner ≡ directions (inner_size (tree_of image.now) p) (index_dimension (tree_of image.now) (parent (tree_of image.now) p)) }
     ensures { result ≡ direction (data_size (tree_of image.now) p) n d }
 {
@@ -115,13 +123,10 @@ fn flow_sized(image: &[u8], index: &[u16], p: usize, i: usize) -> bool
     requires p_value { (kind (tree_of image.now) p ≡ FlowSolution) × (i < node_count image.now) }
     ensures { result ≡ shaped (tree_of image.now) i (data_sizes (tree_of image.now) p) }
 {
-    let count = labels::node_count(image);
-    let range = point_range_of(image, index, p);
-    if range < count {
+    if let Some(range) = point_range_of(image, index, p) {
         return range_sized(image, index, range, i);
     }
-    let list = point_list_of(image, index, p);
-    if list < count {
+    if let Some(list) = point_list_of(image, index, p) {
         return types::shaped(image, i, 1, [records::dimension(image, list, 1), 0, 0]);
     }
     zone_sized(image, index, p, i)

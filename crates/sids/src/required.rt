@@ -56,8 +56,7 @@ fn section_complete(image: &[u8], index: &[u16], s: usize) -> bool
     ensures { result ≡ (found (tree_of image.now) (range_of (tree_of image.now) s)
         && found (tree_of image.now) (connectivity_of (tree_of image.now) s)) }
 {
-    let n = labels::node_count(image);
-    range_of(image, index, s) < n && connectivity_of(image, index, s) < n
+    range_of(image, index, s).is_some() && connectivity_of(image, index, s).is_some()
 }
 
 // Rule 23: the required children are there.
@@ -69,7 +68,7 @@ pub fn complete(image: &[u8], index: &[u16], i: usize) -> bool
     let role = index::role_of(image, index, i);
     match role {
         Role::Root => has_base(image),
-        Role::Zone => types::zone_type_of(image, index, i) < labels::node_count(image),
+        Role::Zone => types::zone_type_of(image, index, i).is_some(),
         Role::Elements => section_complete(image, index, i),
         _ => true,
     }
@@ -88,9 +87,9 @@ pub fn is_required(image: &[u8], index: &[u16], i: usize) -> bool
         return false;
     };
     match kind {
-        Role::Zone => index::zone_type(image, index, up) == i,
-        Role::Elements => index::range(image, index, up) == i
-            || index::connectivity(image, index, up) == i,
+        Role::Zone => index::zone_type(image, index, up) == Some(i),
+        Role::Elements => index::range(image, index, up) == Some(i)
+            || index::connectivity(image, index, up) == Some(i),
         _ => false,
     }
 }

@@ -1,5 +1,6 @@
 // Stored texts.
-ghost use Rattle.std.specs.Prelude.{◌≡◌, ◌||◌, ◌≤◌, ◌<◌};
+ghost use Rattle.std.specs.Prelude.{◌≡◌, ◌||◌, ◌<◌, ℕ, Some};
+ghost use Rattle.std.specs.Option.{unwrap_or};
 ghost use Rattle.model.specs.Image.{tree_of, node_count};
 ghost use Rattle.model.specs.Given.{Sound};
 ghost use Rattle.model.specs.Values.{reads, location_value, zone_type_value};
@@ -19,15 +20,15 @@ pub fn reads(image: &[u8], i: usize, text: &[u8]) -> bool
     )
 }
 
-// The same of a child that may be missing: node i, or the node count.
-pub fn reads_if_found(image: &[u8], i: usize, text: &[u8]) -> bool
-    requires { Sound image.now × (i ≤ node_count image.now) }
-    ensures { result ≡ reads (tree_of image.now) i text.now }
+// The same of a child that may be missing.
+pub fn reads_if_found(image: &[u8], i: Option<usize>, text: &[u8]) -> bool
+    requires { Sound image.now × ((j : ℕ) → i ≡ Some j → j < node_count image.now) }
+    ensures { result ≡ reads (tree_of image.now) (unwrap_or i (node_count image.now)) text.now }
 {
-    if i == labels::node_count(image) {
-        return text.len() == 0;
+    match i {
+        Some(j) => reads(image, j, text),
+        None => text.len() == 0,
     }
-    reads(image, i, text)
 }
 
 // They are one of two texts.

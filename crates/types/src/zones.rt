@@ -3,6 +3,7 @@ ghost use Rattle.std.specs.Prelude.{◌≡◌, ◌≤◌, ◌<◌};
 ghost use Rattle.model.specs.Image.{tree_of, node_count, parent};
 ghost use Rattle.model.specs.Containment.{Zone};
 ghost use Rattle.model.specs.Given.{Sound};
+ghost use Rattle.model.specs.Found.{if_below};
 ghost use Rattle.model.specs.Values.{zone_type_of, structured, unstructured, index_dimension, zone_above};
 ghost use Rattle.model.specs.Values.{structured as isStructured};
 ghost use Rattle.index.specs.Index.{kind, Index};
@@ -12,24 +13,17 @@ use super::shapes::text_shape;
 use super::stored_numbers::whole;
 use super::stored_texts::{reads, zone_type_value};
 
-// The zone's conforming ZoneType; the node count where there is none.
-pub fn zone_type_of(image: &[u8], index: &[u16], z: usize) -> usize
+// The zone's conforming ZoneType.
+pub fn zone_type_of(image: &[u8], index: &[u16], z: usize) -> Option<usize>
     requires index { Index image.now index.now × (z < node_count image.now) }
     requires z_value { kind (tree_of image.now) z ≡ Zone }
-    ensures { (result ≡ zone_type_of (tree_of image.now) z) × (result ≤ node_count image.now) }
+    ensures { result ≡ if_below (node_count image.now) (zone_type_of (tree_of image.now) z) }
 {
-    let n = labels::node_count(image);
-    let j = index::zone_type(image, index, z);
-    if j == n {
-        return n;
-    }
+    let j = index::zone_type(image, index, z)?;
     if !text_shape(image, j) {
-        return n;
+        return None;
     }
-    if !zone_type_value(image, j) {
-        return n;
-    }
-    j
+    zone_type_value(image, j).then_some(j)
 }
 
 // The zone's ZoneType has the shape of one and reads this text.
@@ -38,10 +32,9 @@ fn zone_type_reads(image: &[u8], index: &[u16], z: usize, text: &[u8]) -> bool
     requires z_value { kind (tree_of image.now) z ≡ Zone }
     ensures { result ≡ zone_type_reads (tree_of image.now) z text.now }
 {
-    let j = index::zone_type(image, index, z);
-    if j == labels::node_count(image) {
+    let Some(j) = index::zone_type(image, index, z) else {
         return false;
-    }
+    };
     text_shape(image, j) && reads(image, j, text)
 }
 

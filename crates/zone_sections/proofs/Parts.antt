@@ -7,6 +7,12 @@ use native.Mathlib.Omega.{arith}
 use lib.ListN.{length}
 use lib.Dec.{eqb}
 use borrow.Author.Tests.{lt-ltb, le-ltb, eqb-true, eq-eqb}
+use Rattle.std.proofs.Common.{Option, Some, None}
+use Rattle.std.specs.Option.{unwrap_or}
+use Rattle.model.specs.Found.{if_below}
+use Rattle.model.proofs.Found.{the_none}
+use Rattle.model.proofs.Absent.{absent_width}
+use Rattle.types.proofs.Missing.{there}
 use Rattle.model.specs.Lists.{row}
 use Rattle.model.specs.Bytes.{text}
 use Rattle.model.specs.Image.{tree_of, node_count, parent, node, word_count, dimensions, width, number, I4, I8}
@@ -38,6 +44,16 @@ absent_start b j h = rw (le-ltb j (node_count b) h)
 pub present_start : (b : List ℕ) (j : ℕ) → j < node_count b → (tree_of b).area_at + (node (tree_of b) j).data_at ≡ data_start (tree_of b) j
 unfolding data_start found tree_of
 present_start b j h = rw (lt-ltb j (node_count b) h)
+
+-- a child that was looked up, or a missing one
+module _ (b : List ℕ) (x : ℕ) {r : ℕ} where
+  pub start_by : (o : Option ℕ) → o ≡ if_below (node_count b) x → r ≡ data_start (tree_of b) (unwrap_or o (node_count b)) → r ≡ data_start (tree_of b) x
+  start_by None e f = f ∙ sym (absent_start b (node_count b) (omega arith)) ∙ absent_start b x (the_none (sym e))
+  start_by (Some j) e f = rw (there e).0 at f
+
+  pub width_by : (o : Option ℕ) → o ≡ if_below (node_count b) x → r ≡ width (tree_of b) (unwrap_or o (node_count b)) → r ≡ width (tree_of b) x
+  width_by None e f = f ∙ absent_width b (node_count b) (omega arith) ∙ sym (absent_width b x (the_none (sym e)))
+  width_by (Some j) e f = rw (there e).0 at f
 
 -- a node of one dimension: its dimension word
 pub one_word : (b : List ℕ) → Sound b → (j : ℕ) → j < node_count b → flat (tree_of b) j ≡ true

@@ -1,9 +1,11 @@
 -- Each test leaves the rules after it; rules 28 and 39 are broken at one node at most that validation comes to.
 use Prim.Native.Nat.{ℕ}
-use mathlib.Core.Path.{◌≡◌, ap, ◌∙◌}
+use mathlib.Core.Path.{◌≡◌, sym, ap, ◌∙◌}
 use mathlib.Core.Bool.{not}
 use lib.Dec.{eqb}
 use native.Mathlib.Omega.{arith}
+use borrow.Author.Tests.{lt-ltb}
+use Rattle.types.proofs.Missing.{there, is_there}
 use Rattle.std.proofs.Common.{Some}
 use Rattle.std.specs.Option.{option_eq}
 use Rattle.model.specs.Lists.{◌⊃◌}
@@ -51,7 +53,12 @@ range_of-requires c =
 pub element_count-n-requires : goal.element_count-n-requires
 element_count-n-requires c =
     let p = (goal.at.element_count-n-requires c).Start in
-    (p.requires.nodes_to.0.sound, (c.range_of.ensures.0, (ready p).ranged))
+    (p.requires.nodes_to.0.sound, ((there (sym c.unwrap.ensures ∙ c.range_of.ensures)).0, (ready p).ranged))
+
+pub unwrap-requires : goal.unwrap-requires
+unwrap-requires c =
+    let p = (goal.at.unwrap-requires c).Start in
+    is_there _ _ c.range_of.ensures ∙ lt-ltb _ _ (ready p).ranged.range.inside
 
 pub array_stage-requires : goal.array_stage-requires
 array_stage-requires c =

@@ -1,12 +1,19 @@
 -- The face is in the section's range, and the two columns have a number for each face of it.
+use Prim.Native.Nat.{ℕ}
+use mathlib.Core.Path.{◌≡◌, ap}
 use native.Mathlib.Omega.{arith}
+use Rattle.std.proofs.Common.{Option}
+use Rattle.std.specs.Option.{unwrap_or}
 use Rattle.face_parents.proofs.Columns.{columns_long}
 use Rattle.face_parents.proofs.OneFace.{in_span, row-long, stored_pair}
 use Rattle.face_parents.proofs.face.stored_parents.Goals as goal
 
 pub parents_row-row-requires : goal.parents_row-row-requires
 parents_row-row-requires c =
-    record { sound = (c.requires.section.0.accepted.sound, omega (arith, c.requires.a_value.1.stores.inside)); columns = λ l. rw (columns_long c.requires.a_value.1) c.requires.a_value.1 }
+    record {
+      sound = c.requires.section.0.accepted.sound;
+      columns = λ j q. let e : c.args.a ≡ j = ap (λ (o : Option ℕ). unwrap_or o 0) q in rw (← e, columns_long c.requires.a_value.1) c.requires.a_value.1;
+    }
 
 pub overflow_sub-k : goal.overflow_sub-k
 overflow_sub-k c = (in_span c.span_of-span.ensures _ c.requires.section.1).0

@@ -1,10 +1,11 @@
 -- A face section of an accepted image is a section of type 22.
-use mathlib.Core.Path.{sym, ◌∙◌}
+use mathlib.Core.Path.{refl, sym, ◌∙◌}
 use borrow.Author.Tests.{eqb-true}
 use Rattle.model.specs.Image.{tree_of}
 use Rattle.model.specs.Containment.{section_of}
 use Rattle.model.proofs.Logic.{and_first, and_second}
 use Rattle.model.proofs.Joins.{and_on, and_done}
+use Rattle.types.proofs.Missing.{is_there}
 use Rattle.face_places.proofs.Accepted.{section_by, section-kind}
 use Rattle.face_parents.proofs.Columns.{found_by, has_parents_is}
 use Rattle.face_parents.proofs.rows_of.has_parents.Goals as goal
@@ -23,5 +24,5 @@ parents_of-requires c =
 pub returns : goal.returns
 returns c =
     and_on c.has_type.ensures (c.if-not-has_type.false)
-    (found_by c.args.image.now c.parents_of.ensures.0 c.node_count.ensures.0)
+    (c.is_some.ensures ∙ is_there _ _ c.parents_of.ensures ∙ found_by c.args.image.now refl refl)
     ∙ sym (has_parents_is c.requires.0 c.args.z c.args.s c.requires.1.1)

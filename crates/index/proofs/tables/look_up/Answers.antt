@@ -1,5 +1,4 @@
 -- The slot tells the first child; 0 tells that there is none.
-use mathlib.Core.Path.{◌∙◌}
 use Rattle.index.proofs.Marking.{slot_found, slot_empty}
 use native.Mathlib.Omega.{arith}
 use Rattle.index.proofs.tables.look_up.Goals as goal
@@ -7,8 +6,7 @@ use Rattle.index.proofs.tables.look_up.Goals as goal
 pub returns-then-j-eq0 : goal.returns-then-j-eq0
 returns-then-j-eq0 c =
     let p = c.requires in
-    let n = c.node_count.ensures.0 in
-    (n ∙ slot_empty p.0 c.args.p c.args.k p.1.0 p.1.1 c.if-j-eq0.true, omega (arith, n))
+    slot_empty p.0 c.args.p c.args.k p.1.0 p.1.1 c.if-j-eq0.true
 
 pub returns : goal.returns
 returns c =

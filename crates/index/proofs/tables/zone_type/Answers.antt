@@ -1,12 +1,11 @@
 -- A slot of this kind is for this child.
-use mathlib.Core.Path.{◌∙◌}
 use Rattle.model.specs.Lists.{row}
 use Rattle.model.specs.Bytes.{text}
 use Rattle.labels.specs.Padded.{known_names}
 use Rattle.index.specs.Keys.{key_roles, slot_keys, key_at, key_role, key_name}
-use Rattle.index.proofs.Marking.{slot_child_lem}
+use Rattle.index.proofs.Marking.{slot_for}
 use Rattle.index.proofs.tables.zone_type.Goals as goal
 
 pub returns : goal.returns
 unfolding key_role key_name key_at key_roles known_names slot_keys row text
-returns c = let k = c.look_up.ensures in (k.0 ∙ slot_child_lem _ _ _ c.requires.p_value, k.1)
+returns c = slot_for _ _ _ _ c.look_up.ensures c.requires.p_value

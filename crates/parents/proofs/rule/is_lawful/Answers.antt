@@ -1,6 +1,8 @@
 -- Data type, dimensions, then the two columns.
 use mathlib.Core.Path.{sym, ◌∙◌}
 use native.Mathlib.Omega.{arith}
+use borrow.Author.Tests.{lt-ltb}
+use Rattle.types.proofs.Missing.{there, is_there}
 use Rattle.section_data.proofs.RangeLaws.{ranged, zone-inside}
 use Rattle.parents.proofs.ParentLaws.{faces_kind, not-typed, not-shaped, columns_decide, stores_columns}
 use Rattle.parents.proofs.rule.is_lawful.Goals as goal
@@ -8,9 +10,12 @@ use Rattle.parents.proofs.rule.is_lawful.Goals as goal
 pub range_of-requires : goal.range_of-requires
 range_of-requires c = record { index = c.requires.index.0; s_value = faces_kind c.requires.index.0.0.sound _ c.requires.index.1 }
 
+pub unwrap-requires : goal.unwrap-requires
+unwrap-requires c = let g = ranged c.requires.index.0.0.sound _ _ c.requires.index.1 in is_there _ _ c.range_of.ensures ∙ lt-ltb _ _ g.range.inside
+
 pub element_count-n-requires : goal.element_count-n-requires
 element_count-n-requires c =
-    (c.requires.index.0.0.sound, (c.range_of.ensures.0, ranged c.requires.index.0.0.sound _ _ c.requires.index.1))
+    (c.requires.index.0.0.sound, ((there (sym c.unwrap.ensures ∙ c.range_of.ensures)).0, ranged c.requires.index.0.0.sound _ _ c.requires.index.1))
 
 pub returns-then-not-typed_either : goal.returns-then-not-typed_either
 returns-then-not-typed_either c =

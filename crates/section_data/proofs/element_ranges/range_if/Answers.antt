@@ -15,8 +15,8 @@ returns-then-not-is_wanted c =
 
 pub returns : goal.returns
 returns c =
-    c.then_some.ensures ∙ rw c.node_count.ensures.0 (range_by _ _ _ (sym c.validated_as.ensures ∙ c.if-not-validated_as.false) (sym c.is_wanted.ensures ∙ c.if-not-is_wanted.false)
-    c.range_of-range.ensures.0)
+    range_by _ _ _ (sym c.validated_as.ensures ∙ c.if-not-validated_as.false) (sym c.is_wanted.ensures ∙ c.if-not-is_wanted.false)
+    c.range_of.ensures
 
 pub is_wanted-requires : goal.is_wanted-requires
 is_wanted-requires c =
@@ -24,7 +24,7 @@ is_wanted-requires c =
     let k = the_kind _ p.0.sound p.1 (omega arith) (sym c.validated_as.ensures ∙ c.if-not-validated_as.false) in
     ((p.0.sound, p.1), (kind_parts _ _ k (omega arith)).1)
 
-pub range_of-range-requires : goal.range_of-range-requires
-range_of-range-requires c =
+pub range_of-requires : goal.range_of-requires
+range_of-requires c =
     let p = c.requires in
     record { index = p; s_value = the_kind _ p.0.sound p.1 (omega arith) (sym c.validated_as.ensures ∙ c.if-not-validated_as.false) }

@@ -8,9 +8,8 @@ use Rattle.sids.proofs.children.offsets_of.Goals as goal
 
 pub conforming-requires : goal.conforming-requires
 conforming-requires c =
-    let e = c.offsets.ensures in
-    record { index = (c.requires.index.0, e.1); node_context = λ h. found_ready _ c.requires.index.0.sound _ 11 (text "ElementStartOffset") c.requires.s_value refl untrue e.0 h }
+    record { index = c.requires.index.0; node_context = found_ready _ c.requires.index.0.sound _ 11 (text "ElementStartOffset") c.requires.s_value refl untrue c.offsets.ensures }
 
 pub returns : goal.returns
 unfolding offsets_of
-returns c = let k = c.conforming.ensures in (conforming_by _ _ 11 (text "ElementStartOffset") c.offsets.ensures.0 k.0, k.1)
+returns c = conforming_by _ _ 11 (text "ElementStartOffset") _ c.offsets.ensures c.conforming.ensures

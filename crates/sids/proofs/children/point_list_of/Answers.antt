@@ -7,12 +7,11 @@ use Rattle.sids.proofs.children.point_list_of.Goals as goal
 
 pub conforming-requires : goal.conforming-requires
 conforming-requires c =
-    let e = c.point_list.ensures in
-    record { index = (c.requires.index.0, e.1); node_context = λ h. found_ready _ c.requires.index.0.sound _ 14 (text "PointList") c.requires.p_value refl (λ z. c.requires.index.1.zone.based) e.0 h }
+    record { index = c.requires.index.0; node_context = found_ready _ c.requires.index.0.sound _ 14 (text "PointList") c.requires.p_value refl (λ z. c.requires.index.1.zone.based) c.point_list.ensures }
 
 pub returns : goal.returns
 unfolding point_list_of
-returns c = let k = c.conforming.ensures in (conforming_by _ _ 14 (text "PointList") c.point_list.ensures.0 k.0, k.1)
+returns c = conforming_by _ _ 14 (text "PointList") _ c.point_list.ensures c.conforming.ensures
 
 pub point_list-requires : goal.point_list-requires
 point_list-requires c = record { index = (c.requires.index.0, c.requires.index.1.inside); p_value = c.requires.p_value }

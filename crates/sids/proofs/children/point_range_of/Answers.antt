@@ -7,12 +7,11 @@ use Rattle.sids.proofs.children.point_range_of.Goals as goal
 
 pub conforming-requires : goal.conforming-requires
 conforming-requires c =
-    let e = c.point_range.ensures in
-    record { index = (c.requires.index.0, e.1); node_context = λ h. found_ready _ c.requires.index.0.sound _ 8 (text "PointRange") c.requires.p_value refl (λ z. c.requires.index.1.zone.based) e.0 h }
+    record { index = c.requires.index.0; node_context = found_ready _ c.requires.index.0.sound _ 8 (text "PointRange") c.requires.p_value refl (λ z. c.requires.index.1.zone.based) c.point_range.ensures }
 
 pub returns : goal.returns
 unfolding point_range_of
-returns c = let k = c.conforming.ensures in (conforming_by _ _ 8 (text "PointRange") c.point_range.ensures.0 k.0, k.1)
+returns c = conforming_by _ _ 8 (text "PointRange") _ c.point_range.ensures c.conforming.ensures
 
 pub point_range-requires : goal.point_range-requires
 point_range-requires c = record { index = (c.requires.index.0, c.requires.index.1.inside); p_value = c.requires.p_value }

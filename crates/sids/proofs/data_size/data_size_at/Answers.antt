@@ -17,7 +17,7 @@ returns-then-n-d c = rw (le-ltb _ _ c.if-n-d.true)
 
 pub rind_sum-requires : goal.rind_sum-requires
 rind_sum-requires c =
-    record { sound = c.requires.sound; rind_value = (c.requires.rind_value.0, search rules); rind_bound = (search rules, search rules) }
+    record { sound = c.requires.sound; rind_value = (c.requires.rind_value.0, search rules); d_bound = search rules }
 
 pub overflow_add-result : goal.overflow_add-result
 overflow_add-result c =

@@ -10,27 +10,26 @@ use Rattle.sids.proofs.data_size.data_sizes.Goals.{After-conforming-rind}
 pub conforming-rind-requires : goal.conforming-rind-requires
 conforming-rind-requires c =
     let e = c.rind.ensures in record {
-      index = (c.requires.index.0, e.1);
-      node_context = λ h. ⊎_elim (λ q. found_ready _ c.requires.index.0.sound _ 9 (text "Rind") q refl (λ z. c.requires.index.1.held.zone.based) e.0 h)
-          (λ q. found_ready _ c.requires.index.0.sound _ 9 (text "Rind") q refl (λ z. c.requires.index.1.held.zone.based) e.0 h) c.requires.index.1.kind-is;
+      index = c.requires.index.0;
+      node_context = ⊎_elim (λ q. found_ready _ c.requires.index.0.sound _ 9 (text "Rind") q refl (λ z. c.requires.index.1.held.zone.based) e)
+          (λ q. found_ready _ c.requires.index.0.sound _ 9 (text "Rind") q refl (λ z. c.requires.index.1.held.zone.based) e) c.requires.index.1.kind-is;
     }
 
 pub data_size_at-i-requires : goal.data_size_at-i-requires
 unfolding text
 data_size_at-i-requires c =
-    let j = c.conforming-rind.ensures in
-    let e = conforming_by _ _ 9 (text "Rind") c.rind.ensures.0 j.0 in
-    record { sound = (c.requires.index.0.sound, c.requires.index.1.held); rind_value = (e, c.requires.n_value.0); rind_bound = (j.1, (c.requires.n_value.1, search rules)); inner_value = c.inner_sizes-inner.ensures }
+    let e = conforming_by _ _ 9 (text "Rind") _ c.rind.ensures c.conforming-rind.ensures in
+    record { sound = (c.requires.index.0.sound, c.requires.index.1.held); rind_value = (e, c.requires.n_value.0); n_bound = (c.requires.n_value.1, search rules); inner_value = c.inner_sizes-inner.ensures }
 
 pub data_size_at-j-requires : goal.data_size_at-j-requires
 data_size_at-j-requires c =
     let r = data_size_at-i-requires (goal.at.data_size_at-j-requires c).After-conforming-rind in
-    record { sound = r.sound; rind_value = r.rind_value; rind_bound = (r.rind_bound.0, (r.rind_bound.1.0, search rules)); inner_value = r.inner_value }
+    record { sound = r.sound; rind_value = r.rind_value; n_bound = (r.n_bound.0, search rules); inner_value = r.inner_value }
 
 pub data_size_at-k-requires : goal.data_size_at-k-requires
 data_size_at-k-requires c =
     let r = data_size_at-i-requires (goal.at.data_size_at-k-requires c).After-conforming-rind in
-    record { sound = r.sound; rind_value = r.rind_value; rind_bound = (r.rind_bound.0, (r.rind_bound.1.0, search rules)); inner_value = r.inner_value }
+    record { sound = r.sound; rind_value = r.rind_value; n_bound = (r.n_bound.0, search rules); inner_value = r.inner_value }
 
 pub returns : goal.returns
 returns c = rw (c.data_size_at-i.ensures, c.data_size_at-j.ensures, c.data_size_at-k.ensures)

@@ -1,77 +1,80 @@
 -- The PointRange decides, then the PointList, then the zone.
-use Prim.Native.Nat.{ℕ, ◌≤◌, ◌<◌}
+use Prim.Native.Nat.{◌≤◌, ◌<◌}
 use mathlib.Core.Path.{◌≡◌, sym, ap, ◌∙◌}
-use mathlib.Core.List.{List}
 use native.Mathlib.Omega.{arith}
 use Rattle.model.specs.Image.{tree_of, node_count}
 use Rattle.model.specs.Containment.{role, FlowSolution}
 use Rattle.model.specs.Values.{shaped, list_count, point_range_of, point_list_of}
 use Rattle.model.proofs.Bounds.{node-placed}
+use Rattle.model.proofs.Found.{the_none}
 use Rattle.index.proofs.Marking.{kind_parts}
+use Rattle.types.proofs.Missing.{there}
 use Rattle.sids.proofs.DataSizes.{by_range, by_list, by_zone, range-typed, list_rank}
 use Rattle.sids.proofs.data_size.flow_sized.Goals as goal
-use Rattle.sids.proofs.data_size.flow_sized.Goals.{After-point_list_of-list, After-point_range_of-range}
+use Rattle.sids.proofs.data_size.flow_sized.Goals.{Start, In-Some, In-Some-point_list_of, After-point_list_of}
 
--- the PointRange is looked up
-module _ (c : After-point_range_of-range) where
-  abbrev b : List ℕ
-  b = c.args.image.now
+-- the node is a flow solution
+is-flow : (c : Start) → role (tree_of c.args.image.now) c.args.p ≡ FlowSolution
+is-flow c = (kind_parts (tree_of c.args.image.now) c.args.p c.requires.p_value.0 (omega arith)).1
 
-  abbrev p : ℕ
-  p = c.args.p
+-- a PointRange conforms
+module _ (c : In-Some) where
+  range-is : c.in-Some.range ≡ point_range_of (tree_of c.args.image.now) c.args.p
+  range-is = (there c.in-Some.ensures).0
 
-  count : c.node_count-count.result ≡ node_count b
-  count = c.node_count-count.ensures.0
-
-  is-flow : role (tree_of b) p ≡ FlowSolution
-  is-flow = (kind_parts (tree_of b) p c.requires.p_value.0 (omega arith)).1
+  range-inside : point_range_of (tree_of c.args.image.now) c.args.p < node_count c.args.image.now
+  range-inside = rw (← range-is) (there c.in-Some.ensures).1
 
 pub range_sized-requires : goal.range_sized-requires
 range_sized-requires c =
-    let d = (goal.at.range_sized-requires c).After-point_range_of-range in
-    let e = d.point_range_of-range.ensures.0 in
-    let h : point_range_of (tree_of (b d)) (p d) < node_count (b d) = rw (← e, ← count d) c.if-range-count.true in
-    record { index = (d.requires.index.0, rw e (range-typed (b d) (p d) d.requires.index.1.held (is-flow d) h)); i_bound = d.requires.p_value.1 }
+    let d = (goal.at.range_sized-requires c).In-Some in
+    let s = (goal.at.range_sized-requires c).Start in
+    record {
+      index = (c.requires.index.0, rw (range-is d) (range-typed c.args.image.now c.args.p c.requires.index.1.held (is-flow s) (range-inside d)));
+      i_bound = c.requires.p_value.1;
+    }
 
-pub returns-then-range-count : goal.returns-then-range-count
-returns-then-range-count c =
-    let d = (goal.at.returns-then-range-count c).After-point_range_of-range in
-    let e = d.point_range_of-range.ensures.0 in
-    let h : point_range_of (tree_of (b d)) (p d) < node_count (b d) = rw (← e, ← count d) c.if-range-count.true in
-    (rw e at c.range_sized.ensures) ∙ ap (shaped (tree_of (b d)) d.args.i) (sym (by_range (b d) (p d) h))
+pub returns-in-Some : goal.returns-in-Some
+returns-in-Some c =
+    let b = c.args.image.now in
+    let d = (goal.at.returns-in-Some c).In-Some in
+    (rw (range-is d) at c.range_sized.ensures) ∙ ap (shaped (tree_of b) c.args.i) (sym (by_range b c.args.p (range-inside d)))
 
--- no PointRange conforms, and the PointList is looked up
-module _ (c : After-point_list_of-list) where
-  no_range : node_count c.args.image.now ≤ point_range_of (tree_of c.args.image.now) c.args.p
-  no_range = rw (← c.point_range_of-range.ensures.0, ← c.node_count-count.ensures.0) c.if-range-count.false
+-- none conforms, and the PointList is looked up
+no_range : (c : After-point_list_of) → node_count c.args.image.now ≤ point_range_of (tree_of c.args.image.now) c.args.p
+no_range c = the_none (sym c.in_default.ensures)
+
+-- a PointList conforms
+module _ (c : In-Some-point_list_of) where
+  list-is : c.in-Some-point_list_of.list ≡ point_list_of (tree_of c.args.image.now) c.args.p
+  list-is = (there c.in-Some-point_list_of.ensures).0
+
+  list-inside : point_list_of (tree_of c.args.image.now) c.args.p < node_count c.args.image.now
+  list-inside = rw (← list-is) (there c.in-Some-point_list_of.ensures).1
 
 pub dimension-requires : goal.dimension-requires
 dimension-requires c =
-    let d = (goal.at.dimension-requires c).After-point_list_of-list in
-    let r = (goal.at.dimension-requires c).After-point_range_of-range in
-    let e = d.point_list_of-list.ensures.0 in
-    let h : point_list_of (tree_of (b r)) (p r) < node_count (b r) = rw (← e, ← count r) c.if-list-count.true in
-    let q = node-placed (b r) r.requires.index.0.sound.table _ h in
-    rw e (record { laid = (r.requires.index.0.sound.laid, h); k_bound = (rw (list_rank (b r) (p r) h) (omega arith), q.words_in) })
+    let b = c.args.image.now in
+    let d = (goal.at.dimension-requires c).In-Some-point_list_of in
+    let q = node-placed b c.requires.index.0.sound.table _ (list-inside d) in
+    rw (list-is d) (record { laid = (c.requires.index.0.sound.laid, list-inside d); k_bound = (rw (list_rank b c.args.p (list-inside d)) (omega arith), q.words_in) })
 
-pub returns-then-list-count : goal.returns-then-list-count
+pub returns-in-Some-point_list_of : goal.returns-in-Some-point_list_of
 unfolding list_count
-returns-then-list-count c =
-    let d = (goal.at.returns-then-list-count c).After-point_list_of-list in
-    let r = (goal.at.returns-then-list-count c).After-point_range_of-range in
-    let e = d.point_list_of-list.ensures.0 in
-    let h : point_list_of (tree_of (b r)) (p r) < node_count (b r) = rw (← e, ← count r) c.if-list-count.true in
-    (rw (c.dimension.ensures, e) at c.shaped.ensures) ∙ ap (shaped (tree_of (b r)) r.args.i) (sym (by_list (b r) (p r) (no_range d) h))
+returns-in-Some-point_list_of c =
+    let b = c.args.image.now in
+    let d = (goal.at.returns-in-Some-point_list_of c).In-Some-point_list_of in
+    let n = no_range (goal.at.returns-in-Some-point_list_of c).After-point_list_of in
+    (rw (c.dimension.ensures, list-is d) at c.shaped.ensures) ∙ ap (shaped (tree_of b) c.args.i) (sym (by_list b c.args.p n (list-inside d)))
 
 pub returns : goal.returns
 returns c =
-    let d = (goal.at.returns c).After-point_list_of-list in
-    let r = (goal.at.returns c).After-point_range_of-range in
-    let h : node_count (b r) ≤ point_list_of (tree_of (b r)) (p r) = rw (← d.point_list_of-list.ensures.0, ← count r) c.if-list-count.false in
-    c.zone_sized.ensures ∙ ap (shaped (tree_of (b r)) r.args.i) (sym (by_zone (b r) (p r) (no_range d) h))
+    let b = c.args.image.now in
+    let n = no_range (goal.at.returns c).After-point_list_of in
+    c.zone_sized.ensures ∙ ap (shaped (tree_of b) c.args.i) (sym (by_zone b c.args.p n (the_none (sym c.in_default-point_list_of.ensures))))
 
-pub point_range_of-range-requires : goal.point_range_of-range-requires
-point_range_of-range-requires c = record { index = (c.requires.index.0, c.requires.index.1.held); p_value = c.requires.p_value.0 }
+pub point_range_of-requires : goal.point_range_of-requires
+point_range_of-requires c = record { index = (c.requires.index.0, c.requires.index.1.held); p_value = c.requires.p_value.0 }
 
-pub point_list_of-list-requires : goal.point_list_of-list-requires
-point_list_of-list-requires c = record { index = (c.requires.index.0, c.requires.index.1.held); p_value = c.requires.p_value.0 }
+pub point_list_of-requires : goal.point_list_of-requires
+point_list_of-requires c = record { index = (c.requires.index.0, c.requires.index.1.held); p_value = c.requires.p_value.0 }

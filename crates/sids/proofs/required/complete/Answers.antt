@@ -6,6 +6,7 @@ use Rattle.model.specs.Image.{tree_of}
 use Rattle.model.specs.Containment.{found}
 use Rattle.model.specs.Values.{complete}
 use Rattle.index.proofs.Marking.{kind-role}
+use Rattle.types.proofs.Missing.{is_there}
 use Rattle.labels.specs.Roles.{role_number}
 use Rattle.labels.specs.declared.roles.Role.TheVariants as v
 use Rattle.labels.proofs.Numbers.{not_role}
@@ -18,7 +19,7 @@ returns-in-Root c = rw (sym c.role_of-role.ensures ∙ ap role_number c.in-Root.
 pub returns-in-Zone : goal.returns-in-Zone
 unfolding complete row found tree_of
 returns-in-Zone c =
-    rw (sym c.role_of-role.ensures ∙ ap role_number c.in-Zone.is, ← c.zone_type_of.ensures.0, ← c.node_count.ensures.0)
+    rw (sym c.role_of-role.ensures ∙ ap role_number c.in-Zone.is) (c.is_some.ensures ∙ is_there _ _ c.zone_type_of.ensures)
 
 pub returns-in-Elements : goal.returns-in-Elements
 unfolding complete row

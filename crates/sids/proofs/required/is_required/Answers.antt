@@ -6,6 +6,7 @@ use Rattle.model.specs.Lists.{row}
 use Rattle.model.specs.Bytes.{text}
 use Rattle.model.specs.Image.{tree_of}
 use Rattle.labels.proofs.Nodes.{parent-inside}
+use Rattle.types.proofs.Missing.{is_that}
 use Rattle.sids.specs.Groups.{required_under, is_required}
 use Rattle.labels.specs.Roles.{role_number, kind_number}
 use Rattle.labels.specs.declared.roles.Role.TheVariants as v
@@ -32,22 +33,22 @@ pub returns-in-Zone : goal.returns-in-Zone
 unfolding row text
 returns-in-Zone c =
     let k = (goal.at.returns-in-Zone c).After-kind_of in
-    rw (under k (ap kind_number c.in-Some.is ∙ ap role_number c.in-Zone.is), ← k.parent_of-up.ensures.0, ← c.zone_type.ensures.0)
+    rw (under k (ap kind_number c.in-Some.is ∙ ap role_number c.in-Zone.is), ← k.parent_of-up.ensures.0) (c.eq.ensures ∙ is_that _ _ _ c.requires.1 c.zone_type.ensures)
 
-pub returns-then-range-i : goal.returns-then-range-i
+pub returns-then-eq : goal.returns-then-eq
 unfolding row text
-returns-then-range-i c =
-    let r = (goal.at.returns-then-range-i c).After-range in
-    let k = (goal.at.returns-then-range-i c).After-kind_of in
-    rw (under k (ap kind_number r.in-Some.is ∙ ap role_number r.in-Elements.is), ← k.parent_of-up.ensures.0, ← r.range.ensures.0, eq-eqb _ _ c.if-range-i.true)
+returns-then-eq c =
+    let r = (goal.at.returns-then-eq c).After-range in
+    let k = (goal.at.returns-then-eq c).After-kind_of in
+    rw (under k (ap kind_number r.in-Some.is ∙ ap role_number r.in-Elements.is), ← k.parent_of-up.ensures.0, sym (is_that _ _ _ c.requires.1 r.range.ensures) ∙ sym c.eq-in-Elements.ensures ∙ c.if-eq.true) c.if-eq.true
 
-pub returns-else-range-i : goal.returns-else-range-i
+pub returns-else-eq : goal.returns-else-eq
 unfolding row text
-returns-else-range-i c =
-    let r = (goal.at.returns-else-range-i c).After-range in
-    let k = (goal.at.returns-else-range-i c).After-kind_of in
+returns-else-eq c =
+    let r = (goal.at.returns-else-eq c).After-range in
+    let k = (goal.at.returns-else-eq c).After-kind_of in
     let u = k.parent_of-up.ensures.0 in
-    rw (under k (ap kind_number r.in-Some.is ∙ ap role_number r.in-Elements.is), ← u, ← r.range.ensures.0, ne_eqb _ _ c.if-range-i.false, ← c.connectivity.ensures.0)
+    rw (under k (ap kind_number r.in-Some.is ∙ ap role_number r.in-Elements.is), ← u, sym (is_that _ _ _ c.requires.1 r.range.ensures) ∙ sym c.eq-in-Elements.ensures ∙ c.if-eq.false) (c.eq-else-eq.ensures ∙ is_that _ _ _ c.requires.1 c.connectivity.ensures)
 
 pub returns-in_default : goal.returns-in_default
 unfolding row

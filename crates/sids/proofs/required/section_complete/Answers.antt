@@ -1,14 +1,16 @@
 -- Both are found.
-use borrow.Author.Tests.{lt-ltb, le-ltb}
+use mathlib.Core.Path.{◌∙◌}
 use Rattle.model.specs.Image.{tree_of}
 use Rattle.model.specs.Containment.{found}
+use Rattle.model.proofs.Joins.{and_done, and_on}
+use Rattle.types.proofs.Missing.{is_there}
 use Rattle.sids.proofs.required.section_complete.Goals as goal
 
-pub returns-then-range_of-n : goal.returns-then-range_of-n
+pub returns-then-is_some : goal.returns-then-is_some
 unfolding found tree_of
-returns-then-range_of-n c =
-    rw (← c.range_of.ensures.0, ← c.connectivity_of.ensures.0, ← c.node_count-n.ensures.0, lt-ltb _ _ c.if-range_of-n.true)
+returns-then-is_some c =
+    and_on (c.is_some.ensures ∙ is_there _ _ c.range_of.ensures) c.if-is_some.true (c.is_some-then-is_some.ensures ∙ is_there _ _ c.connectivity_of.ensures)
 
-pub returns-else-range_of-n : goal.returns-else-range_of-n
+pub returns-else-is_some : goal.returns-else-is_some
 unfolding found tree_of
-returns-else-range_of-n c = rw (← c.range_of.ensures.0, ← c.node_count-n.ensures.0, le-ltb _ _ c.if-range_of-n.false)
+returns-else-is_some c = c.if-is_some.false ∙ and_done _ (c.is_some.ensures ∙ is_there _ _ c.range_of.ensures) c.if-is_some.false
