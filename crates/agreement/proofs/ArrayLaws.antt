@@ -1,15 +1,20 @@
 -- The arrays beside the entries: one section more; and what stands beside the entry of a face.
 use Prim.Native.Nat.{ℕ, ◌+◌, ◌*◌, ◌≤◌, ◌<◌}
-use mathlib.Core.Path.{◌≡◌, sym, ap, ◌∙◌}
-use mathlib.Core.Bool.{Bool, true, false, ◌&&◌}
+use mathlib.Core.Path.{◌≡◌, refl, sym, ap, ◌∙◌}
+use mathlib.Core.Bool.{Bool, true, false, cond, ◌&&◌}
 use mathlib.Core.List.{List}
 use native.Mathlib.Omega.{arith}
 use native.Mathlib.Decide.{ℕ_discrete}
 use lib.ListN.{length, get_or, set, length-set}
 use lib.Seq.{get_or-set_same, get_or-set_other}
 use borrow.Author.Tests.{lt-ltb, le-ltb}
-use Rattle.std.proofs.Common.{Option}
-use Rattle.std.specs.Option.{is_some}
+use Rattle.std.proofs.Common.{Option, Some, None}
+use Rattle.std.specs.Bool.{then_some}
+use Rattle.std.specs.Option.{is_some, unwrap_or}
+use lib.Dec.{ltb}
+use Rattle.model.specs.Found.{if_below}
+use Rattle.model.proofs.Found.{the_none}
+use Rattle.types.proofs.Missing.{there}
 use Rattle.model.specs.Image.{Tree, tree_of, node_count, dimensions, number}
 use Rattle.model.specs.Given.{Accepted}
 use Rattle.model.specs.Containment.{found}
@@ -24,6 +29,19 @@ use Rattle.rows.specs.declared.Row.{Row}
 use Rattle.face_parents.specs.Parents.{ParentRow}
 use Rattle.face_parents.proofs.Columns.{columns}
 use Rattle.agreement.specs.Arrays.{Arrays, InTables, StoresColumns, ArrayRow}
+
+-- the number of a node, or the node count, as an Option
+pub read_back : (n a : ℕ) → then_some (ltb a n) a ≡ if_below n a
+unfolding if_below
+read_back n a = by_test (ltb a n)
+  where
+    by_test : (c : Bool) → then_some c a ≡ cond c (Some a) None
+    by_test true = refl
+    by_test false = refl
+
+pub read_as : (n a : ℕ) (o : Option ℕ) → a ≤ n → o ≡ if_below n a → unwrap_or o n ≡ a
+read_as n a None h e = omega (arith, the_none (sym e))
+read_as n a (Some j) h e = (there e).0
 
 pub no_arrays : (t : Tree) (z n : ℕ) (firsts arrays : List ℕ) → n ≤ length arrays → Arrays t z 0 n firsts arrays
 no_arrays t z n firsts arrays h = record { room = h; each = λ s j l. absurd (omega arith) }

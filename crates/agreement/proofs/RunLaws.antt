@@ -10,17 +10,16 @@ use lib.Dec.{eqb, ltb}
 use lib.ListN.{get_or}
 use borrow.Author.Tests.{lt-ltb, ltb-true}
 use Rattle.model.specs.Lists.{seek_from}
-use Rattle.model.specs.Bytes.{magnitude, text}
+use Rattle.model.specs.Bytes.{magnitude}
 use Rattle.model.specs.Image.{Tree, tree_of, node_count}
-use Rattle.model.specs.Containment.{section_of, is_child, child, or_missing, DataArray}
+use Rattle.model.specs.Containment.{section_of}
 use Rattle.model.specs.Values.{offsets_of}
-use Rattle.model.specs.Elements.{NFACE, NGON, element_type_of, element_count, start_offset, starts_at_zero, all_rise, ends_at_length, connectivity_length, element_rules, face_number, parents_of}
+use Rattle.model.specs.Elements.{NFACE, element_type_of, element_count, start_offset, starts_at_zero, all_rise, ends_at_length, connectivity_length, element_rules, face_number}
 use Rattle.model.specs.Corner.{number_at}
 use Rattle.model.specs.FaceUsage.{element_holding, uses_in}
 use Rattle.model.specs.ParentElements.{users_in, users_from}
 use Rattle.model.proofs.Logic.{when}
 use Rattle.model.proofs.Walks.{seek_before, seek_holds}
-use Rattle.model.proofs.LookedUp.{seek_within}
 use Rattle.model.proofs.InZone.{section-rule}
 use Rattle.model.proofs.StartOffsets.{offsets-first, offsets-next, offsets-last}
 use Rattle.rows.specs.declared.Row.{Row}
@@ -130,15 +129,6 @@ module _ {b index : List ℕ} {s : ℕ} (c : Cells b index s) {p : Span} (g : Sp
             let q : k ≡ element_count t s = omega (arith, w.long, count) in
             rw q (sym (offset-is _ (omega arith)) ∙ offsets-last t s first-is all_rise_lem last-is ∙ sym e);
       }
-
--- an array's node, or the node count
-pub parents_most : (b : List ℕ) (s : ℕ) → parents_of (tree_of b) s ≤ node_count b
-unfolding parents_of or_missing child tree_of
-parents_most b s = let t = tree_of b in by_test (eqb (element_type_of t s) NGON) (omega (arith, seek_within (is_child t s DataArray (text "ParentElements")) t.count 0))
-  where
-    by_test : (u : Bool) {x : ℕ} → x ≤ node_count b → cond u x (node_count b) ≤ node_count b
-    by_test true h = h
-    by_test false h = omega arith
 
 -- a node that brings entries: those of its connectivity
 pub uses_length : (t : Tree) (z s : ℕ) → (uses_in t z s ≡ 0 → ⊥) → uses_in t z s ≡ connectivity_length t s

@@ -31,7 +31,8 @@ fn put_array(
     }
     let span = span_of(image, index, s);
     let j = ranges::find(firsts, reach, n, n, span.first).unwrap();
-    arrays[j] = sids::parents_of(image, index, s, NGON) as u16;
+    let none = labels::node_count(image);
+    arrays[j] = sids::parents_of(image, index, s, NGON).unwrap_or(none) as u16;
 }
 
 // Gathers the arrays of the zone's face sections.
@@ -62,5 +63,6 @@ pub fn array_at(image: &[u8], arrays: &[u16], j: usize, last: usize, row: Row) -
     if j == last {
         return row;
     }
-    parents_row(image, arrays[j] as usize)
+    let a = arrays[j] as usize;
+    parents_row(image, (a < labels::node_count(image)).then_some(a))
 }

@@ -11,7 +11,7 @@ use element_types::NGON;
 use face_places::zone_sections::has_type;
 use rows::Row;
 
-// The numbers of a node that stores two columns; none where there is none.
+// The numbers of a node that stores two columns; an empty row where there is no such node.
 pub fn parents_row(image: &[u8], node: Option<usize>) -> Row
     requires sound { Sound image.now }
     requires columns { (a : ℕ) → node ≡ Some a → Columns image.now a (get_or (dimensions (tree_of image.now) a) 0 0) }

@@ -8,13 +8,14 @@ use Rattle.std.proofs.Common.{Some}
 use Rattle.ranges.specs.Tables.{holds}
 use Rattle.model.specs.Image.{tree_of}
 use Rattle.model.specs.Containment.{section_of}
-use Rattle.model.specs.Elements.{face_section}
+use Rattle.model.specs.Elements.{face_section, parents_of}
 use Rattle.model.proofs.Logic.{and_first, and_second}
 use Rattle.face_places.proofs.Accepted.{section_by, section-kind, face-section-is}
 use Rattle.face_places.proofs.Gathering.{few-ranges}
+use Rattle.face_parents.proofs.Columns.{parents_most, looked_up}
 use Rattle.agreement.proofs.ArrayLaws.{arrays_same, entry-there, arrays_more}
 use Rattle.agreement.proofs.arrays.put_array.Goals as goal
-use Rattle.agreement.proofs.arrays.put_array.Goals.{After-find}
+use Rattle.agreement.proofs.arrays.put_array.Goals.{After-find, After-unwrap_or}
 
 pub returns-then-not-has_type : goal.returns-then-not-has_type
 returns-then-not-has_type c =
@@ -48,12 +49,17 @@ unwrap-j-requires c =
 found : (f : After-find) → {j : ℕ} → f.find.result ≡ Some j → (j < f.args.n) × (holds f.args.firsts.now f.args.reach.now f.span_of-span.result.first j ≡ true)
 found f e = rw e at f.find.ensures
 
+-- what is put there
+array-is : (c : After-unwrap_or) → c.unwrap_or.result ≡ parents_of (tree_of c.args.image.now) c.args.s
+array-is c = c.unwrap_or.ensures ∙ rw c.node_count-none.ensures.0 (looked_up _ _ _ c.parents_of.ensures)
+
 pub bounds-arrays-j : goal.bounds-arrays-j
 bounds-arrays-j c =
     omega (arith, c.requires.arrays.room, (found (goal.at.bounds-arrays-j c).After-find c.unwrap-j.ensures).0)
 
 pub overflow_cast-arrays : goal.overflow_cast-arrays
-overflow_cast-arrays c = omega (arith, c.parents_of.ensures.1, c.requires.accepted.0.sound.laid.few)
+overflow_cast-arrays c =
+    omega (arith, array-is (goal.at.overflow_cast-arrays c).After-unwrap_or, parents_most c.args.image.now c.args.s, c.requires.accepted.0.sound.laid.few)
 
 pub offset_bounds-arrays-j : goal.offset_bounds-arrays-j
 offset_bounds-arrays-j c =
@@ -62,4 +68,4 @@ offset_bounds-arrays-j c =
 pub returns : goal.returns
 returns c =
     let f = (goal.at.returns c).After-find in
-    arrays_more f.requires.accepted.0 f.requires.in_tables f.requires.arrays f.requires.accepted.1.1 (face-section f) f.span_of-span.ensures.is-first (found f c.unwrap-j.ensures) c.parents_of.ensures.0
+    arrays_more f.requires.accepted.0 f.requires.in_tables f.requires.arrays f.requires.accepted.1.1 (face-section f) f.span_of-span.ensures.is-first (found f c.unwrap-j.ensures) (array-is (goal.at.returns c).After-unwrap_or)

@@ -7,7 +7,8 @@ use Rattle.face_uses.proofs.Runs.{tables_kept, entry-face}
 use Rattle.agreement.proofs.ArrayLaws.{array_is, array_stores, face-row}
 use Rattle.agreement.proofs.CellLaws.{at_next}
 use Rattle.agreement.proofs.EntryLaws.{found_at}
-use Rattle.agreement.proofs.RunLaws.{users-end, parents_most, cells_filled, element-is, start_none, no_uses, one_more}
+use Rattle.face_parents.proofs.Columns.{parents_most}
+use Rattle.agreement.proofs.RunLaws.{users-end, cells_filled, element-is, start_none, no_uses, one_more}
 use Rattle.agreement.proofs.Steps.{matched-then, matched-same, matched_stop}
 use Rattle.agreement.proofs.matching.match_entries.Goals as goal
 
