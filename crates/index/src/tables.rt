@@ -174,6 +174,8 @@ fn look_up(image: &[u8], index: &[u16], p: usize, k: usize) -> Option<usize>
     Some(j as usize)
 }
 
+// The children by name, from here on: each function promises another child, and is one call of `look_up`.
+
 // The ZoneType of a zone.
 pub fn zone_type(image: &[u8], index: &[u16], p: usize) -> Option<usize>
     requires index { Index image.now index.now × (p < node_count image.now) }

@@ -165,7 +165,7 @@ fn gather(
     n
 }
 
-// The ranges of the faces of all zones. It answers how many there are.
+// The ranges of the faces of all zones. It answers how many there are. This and the next promise two tables by one function.
 pub fn gather_faces(image: &[u8], index: &[u16], firsts: &mut [u64], reach: &mut [u64]) -> usize
     requires index { Index image.now index.now }
     requires in_bounds { (2048 ≤ length firsts.old) × (2048 ≤ length reach.old) }

@@ -1,4 +1,4 @@
-// Conforming children: looked up in the index, and lawful by 24 and 25.
+// Conforming children: looked up in the index, and lawful by 24 and 25. Each function promises another child of the model, by one call of `conforming`.
 ghost use Rattle.std.specs.Prelude.{◌≡◌, ◌&&◌, ◌<◌, ℕ, Some};
 ghost use Rattle.std.specs.Option.{unwrap_or};
 ghost use Rattle.model.specs.Image.{tree_of, node_count};

@@ -15,7 +15,7 @@ pub fn typed(image: &[u8], i: usize, a: u64) -> bool
     records::data_type_of(image, i) == a
 }
 
-// It is a or b.
+// It is a or b: the model has lists of types, and each of the two functions promises one length.
 pub fn typed_either(image: &[u8], i: usize, a: u64, b: u64) -> bool
     requires { Laid image.now × (i < node_count image.now) }
     ensures { result ≡ typed (tree_of image.now) i (a ∷ b ∷ []) }

@@ -31,7 +31,7 @@ pub fn reads_if_found(image: &[u8], i: Option<usize>, text: &[u8]) -> bool
     }
 }
 
-// They are one of two texts.
+// They are one of two texts: what the next two ask, each of other texts.
 fn reads_either(image: &[u8], i: usize, one: &[u8], other: &[u8]) -> bool
     requires { Sound image.now × (i < node_count image.now) }
     ensures { result ≡ (reads (tree_of image.now) i one.now || reads (tree_of image.now) i other.now) }

@@ -38,7 +38,7 @@ fn zone_type_reads(image: &[u8], index: &[u16], z: usize, text: &[u8]) -> bool
     text_shape(image, j) && reads(image, j, text)
 }
 
-// The zone is structured.
+// The zone is structured. This and the next promise two definitions of the model by one function.
 pub fn structured(image: &[u8], index: &[u16], z: usize) -> bool
     requires index { Index image.now index.now × (z < node_count image.now) }
     requires z_value { kind (tree_of image.now) z ≡ Zone }

@@ -5,10 +5,9 @@ use mathlib.Core.Bool.{Bool, true, false, ◌&&◌, and_assoc}
 use mathlib.Core.List.{List, [], ◌∷◌}
 use native.Mathlib.Omega.{arith}
 use native.Mathlib.Nat.{add-zero, zero-add, suc-add}
-use native.Mathlib.Numerals.{add-one}
 use lib.Dec.{eqb}
 use lib.ListN.{length, get_or, take, drop, length-drop}
-use lib.Seq.{drop-drop, drop-cons, length-take-le, get_or-drop, take-nil}
+use lib.Seq.{drop-drop, length-take-le, get_or-drop, take-nil}
 use borrow.Author.Tests.{eqb-true, eqb-false, eq-eqb, ne_eqb}
 use Rattle.model.specs.Bytes.{le, same}
 use Rattle.model.proofs.Reading.{le-take}
@@ -81,23 +80,6 @@ module _ {n : ℕ} {a b : List ℕ} {p q d : ℕ} (l : Same n a p b q d) (h : p 
 
     off : test ≡ false → false ≡ same (take n (drop p a)) (take n (drop q b))
     off e = rw e at whole
-
-  -- the next byte
-  module _ (k : d < n) where
-    byte : same (take (1 + (n - (d + 1))) (drop (p + d) a)) (take (1 + (n - (d + 1))) (drop (q + d) b))
-        ≡ (eqb (get_or a (p + d) 0) (get_or b (q + d) 0) && same (take (n - (d + 1)) (drop (p + d + 1) a)) (take (n - (d + 1)) (drop (q + d + 1) b)))
-    unfolding same
-    byte =
-        let x : p + d < length a = omega arith in
-        let y : q + d < length b = omega arith in
-        let e : 1 + (n - (d + 1)) ≡ suc (n - (d + 1)) = omega arith in
-        rw (e, drop-cons a (p + d) 0 x, drop-cons b (q + d) 0 y, add-one (p + d), add-one (q + d))
-
-    pub same_more : get_or a (p + d) 0 ≡ get_or b (q + d) 0 → Same n a p b q (d + 1)
-    same_more e = on 1 (omega arith) _ byte (eq-eqb _ _ e)
-
-    pub same_stop : (get_or a (p + d) 0 ≡ get_or b (q + d) 0 → ⊥) → false ≡ same (take n (drop p a)) (take n (drop q b))
-    same_stop e = off 1 (omega arith) _ byte (ne_eqb _ _ e)
 
   -- the next word of w bytes
   module _ (w : ℕ) (k : d + w ≤ n) (f : Bytes a) (g : Bytes b) where
