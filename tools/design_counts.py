@@ -60,7 +60,7 @@ def parameters():
     return [(n, p) for p, n in pairs.most_common() if n >= 20]
 
 
-print("functions:", len(found(r"\bfn \w+(?:<[^>]*>)?\(")))
+print("functions:", len(found(r"\bfn \w+[<(]")))
 shaped = sorted({(f, m.group(1)) for f, m in enums()})
 print("1 own enums of the shape of an Option or a Result:", len(shaped), ", ".join(n for _, n in shaped))
 print("1 answers taken apart by `let .. else` with a refusal handed on:", len(found(r"let \w+::\w+ = \w+ else")))
@@ -76,5 +76,5 @@ print("3 for loops and chains:", len(found(r"^\s*for .* in ")), len(found(r"\.(?
 print("5 parameters side by side, 20 functions or more:")
 for n, p in parameters():
     print("   ", n, ", ".join(p))
-print("6 arrays of a fixed length:", len(found(r"= \[(?:0|\w+); [\w:]+\]")))
+print("6 arrays of a fixed length:", len(found(r"\[(?!(?:[ui]\d+|usize|bool|T|Section); )[\w()]+; [\w: *]+\]")))
 print("7 closures:", len(found(r"\|\w+(?:, \w+)*\| ")))

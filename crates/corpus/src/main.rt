@@ -6,22 +6,34 @@
 mod lists;
 mod print;
 
-ghost use Rattle.std.specs.Prelude.{◌≤◌};
+ghost use Rattle.std.specs.Prelude.{◌≤◌, length, IfOk};
 
 use entries::ENTRY_LENGTH;
 use model::{Rejection, Section};
 use print::{Counts, Parents, Sizes};
 use std::fmt::Display;
-use std::io::{ErrorKind, Print, Read};
+use std::io::{Print, Read};
 use std::{array, io};
+
+// How many bytes the reader put in front of the buffer: all, or as many as there were up to the input's end.
+fn read_full<R: Read>(input: &mut R, buffer: &mut [u8]) -> io::Result<usize>
+    ensures { IfOk result (λ n. n ≤ length buffer.new) }
+{
+    // `read_exact` tells no count, and goes on where a signal interrupts a read; here that is the input's error.
+    let mut done = 0;
+    while done < buffer.len() {
+        let n = input.read(&mut buffer[done..])?;
+        if n == 0 {
+            break;
+        }
+        done += n;
+    }
+    Ok(done)
+}
 
 // Fills the buffer from the input; says whether there was as much.
 fn fills<R: Read>(input: &mut R, buffer: &mut [u8]) -> io::Result<bool> {
-    match input.read_exact(buffer) {
-        Ok(()) => Ok(true),
-        Err(e) if e.kind() == ErrorKind::UnexpectedEof => Ok(false),
-        Err(e) => Err(e),
-    }
+    Ok(read_full(input, buffer)? == buffer.len())
 }
 
 // The words of a call: its number, then its arguments.

@@ -15,6 +15,7 @@ use face_places::places::gather;
 use face_uses::uses::{Faces, use_nodes};
 use model::Rejection;
 use ranges::search_tree;
+use ranges::search_tree::SearchTree;
 use usage_bytes::clear;
 
 // The image's index, the first faces of ranges and how far they reach, and the levels of a search tree over them.
@@ -57,7 +58,7 @@ impl Workspace {
         Ok(zone as usize)
     }
 
-    // Gathers the faces of zone z, and their places: 44 where there is no room for a byte a face.
+    // Gathers the faces of zone z, and their places: 44 where there is no room for a byte a face. A tree is made where there are two face sections or more.
     pub fn gather_faces(
         &mut self,
         image: &[u8],
@@ -81,6 +82,10 @@ impl Workspace {
         );
         if (room as u64) < places[count] {
             return Err(Rejection::at(44, 0));
+        }
+        if count < 2 {
+            let tree = SearchTree { from: 0, lowest: 0 };
+            return Ok(Faces { zone: z, count, tree });
         }
         let tree = search_tree::build(&self.firsts, count, 0, &mut self.levels);
         Ok(Faces {
