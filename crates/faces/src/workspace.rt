@@ -85,7 +85,11 @@ impl Workspace {
         }
         if count < 2 {
             let tree = SearchTree { from: 0, lowest: 0 };
-            return Ok(Faces { zone: z, count, tree });
+            return Ok(Faces {
+                zone: z,
+                count,
+                tree,
+            });
         }
         let tree = search_tree::build(&self.firsts, count, 0, &mut self.levels);
         Ok(Faces {
