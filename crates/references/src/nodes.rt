@@ -47,7 +47,8 @@ fn past_within(image: &[u8], row: Row, limit: u64, k: usize) -> usize
     k
 }
 
-// The first number of a row that lies outside 1 to limit. Two at a time, and a function of its own: the loop takes as long wherever the linker puts it.
+// The first number of a row that lies outside 1 to limit. Two at a time, and a function of its own, which begins on a cache line in the archive: there the
+// loop takes as long whatever code stands before it.
 #[inline(never)]
 fn first_no_node(image: &[u8], row: Row, limit: u64) -> Option<usize>
     requires { Numbers image.now row.at row.width row.n }
